@@ -1,0 +1,6 @@
+//! Which nodes hold the replicas of a partition, and who takes part in a transaction.
+#![tactic(auto)]
+
+pub mod rows;
+
+pub use rows::{Asked, PartRow, Participants};

@@ -1,0 +1,10 @@
+-- Worked rows.
+
+pub mod Words
+pub mod AScene
+pub mod Rows1
+pub mod Rows2
+pub mod Rows3
+pub mod Rows4
+pub mod Rows5
+pub mod Rows6

@@ -1,0 +1,5 @@
+pub mod Scenes
+pub mod SceneLimits
+pub mod Spelling
+pub mod FirstScenes
+pub mod TextLines

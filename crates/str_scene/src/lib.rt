@@ -1,0 +1,12 @@
+//! A scene: nodes, replicas, scripts and a schedule, with all its limits.
+#![tactic(auto)]
+
+pub mod keys;
+pub mod lines;
+pub mod names;
+pub mod scenes;
+
+pub use keys::{ByteText, KeyTable, Name};
+pub use lines::Line;
+pub use names::{Event, Op, OpList, TxPlace};
+pub use scenes::{Scene, SessionText};
