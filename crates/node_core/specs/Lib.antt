@@ -1,0 +1,6 @@
+
+
+
+pub mod FirstSteps
+pub mod FirstViews
+pub mod NodeStates

@@ -1,0 +1,2 @@
+//! One node of the cluster.
+#![tactic(auto)]
