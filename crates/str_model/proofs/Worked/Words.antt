@@ -19,6 +19,7 @@ use Rattle.str_model.specs.Proposals.{master_turn, prepare_turn, takes}
 use Rattle.str_model.specs.Returns.{ack_rule, read_reply, refuse_rule}
 use Rattle.str_model.specs.Runs.{happens}
 use Rattle.str_scene.specs.Scenes.{Session}
+use Rattle.str_scene.specs.Spelling.{spelling}
 use Rattle.str_model.specs.Scripts.{certify_now, read_now}
 use Rattle.str_model.specs.Steps.{after_rule, rule, step}
 use Rattle.str_model.specs.Turns.{cert_turn, dep_turn, read_turn, reply_turn, serve_turn}
@@ -62,5 +63,5 @@ unfolding node key session c d get put puts add del need
 words = 0
 
 unfoldable pub everything : ℕ
-unfolding read_turn reply_turn serve_turn cert_turn master_turn prepare_turn takes dep_turn gate_turn begun marked aborted committed closed certified asked acked requested accepted taken refused waits replied commit_came abort_came read_now certify_now client_rule read_req prepare_rule replicate_rule read_reply ack_rule refuse_rule half_turn turn rule after_rule step happens left next_message moves next_session next_event cluster_events cluster_run render render_j digits words
+unfolding read_turn reply_turn serve_turn cert_turn master_turn prepare_turn takes dep_turn gate_turn begun marked aborted committed closed certified asked acked requested accepted taken refused waits replied commit_came abort_came read_now certify_now client_rule read_req prepare_rule replicate_rule read_reply ack_rule refuse_rule half_turn turn rule after_rule step happens left next_message moves next_session next_event cluster_events cluster_run render render_j digits spelling words
 everything = 0
