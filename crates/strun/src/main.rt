@@ -1,0 +1,4 @@
+//! The program `strun`.
+#![tactic(auto)]
+
+fn main() {}
