@@ -1,11 +1,15 @@
 -- What a source and a sink that never fail tell.
-use Rattle.std.specs.Prelude.{ℕ, List, drop, Option, Some}
+use Rattle.std.specs.Prelude.{ℕ, ◌-◌, List, drop, length, Option, Some}
 use Rattle.str_outer.specs.declared.sure.SureSource.{SureSource}
 use Rattle.str_outer.specs.declared.sure.SureSink.{SureSink}
 
 -- the bytes still to come
 abbrev pub source_left : SureSource → Option (List ℕ)
 source_left s = Some (drop s.at s.bytes.items)
+
+-- how many bytes are still to come
+abbrev pub source_ahead : SureSource → ℕ
+source_ahead s = length s.bytes.items - s.at
 
 -- the bytes taken so far
 abbrev pub sink_held : SureSink → Option (List ℕ)

@@ -1,5 +1,9 @@
 //! A source and a sink in memory, which fail at given calls.
-ghost use Rattle.std.specs.Prelude.{◌≡◌, ◌+◌, ◌-◌, ◌≤◌, min, drop, length, take, ◌++◌, [], Some};
+ghost use Rattle.std.specs.Prelude.{◌≡◌, ◌+◌, ◌-◌, ◌<◌, ◌≤◌, ◌↔◌, min, drop, length, take, ◌++◌, [], Some, IfOk, OnOk, IsErr, IsTrue};
+ghost use Rattle.std.specs.Io.{ReadsAtMost, WritesAtMost};
+ghost use Rattle.std.specs.Io.KnownBytes.{ReadConsumes, WriteAppends};
+ghost use Rattle.str_outer.specs.Causes.{HasCause, HasCauses};
+ghost use Rattle.str_outer.specs.Plan.{planned, next_call, is_failing};
 
 use crate::outside::{Failed, Sink, Source, Stopped};
 use std::alloc::Global;
@@ -18,7 +22,7 @@ pub struct MemSource {
 }
 
 impl MemSource {
-    ghost use Rattle.str_outer.specs.Memory.{source_left, source_faults};
+    ghost use Rattle.str_outer.specs.Memory.{source_left, source_faults, source_plan, source_calls};
 
     /// A source of these bytes. It gives at most `most` a call, and fails at the calls whose numbers,
     /// from 1, stand in `failing`.
@@ -26,6 +30,8 @@ impl MemSource {
         requires { 1 ≤ most }
         ensures left { source_left result ≡ Some bytes.items }
         ensures faults { source_faults result ≡ 0 }
+        ensures plan { source_plan result ≡ planned failing.items most }
+        ensures calls { source_calls result ≡ 0 }
     {
         MemSource {
             bytes,
@@ -39,13 +45,27 @@ impl MemSource {
 }
 
 impl Source for MemSource {
-    ghost use Rattle.str_outer.specs.Memory.{source_left, source_faults};
+    ghost use Rattle.str_outer.specs.Memory.{source_left, source_ahead, source_faults, source_plan, source_calls};
 
     ghost left = { source_left };
 
     ghost faults = { source_faults };
 
-    fn read(&mut self, buf: &mut [u8]) -> Result<usize, Failed> {
+    fn read(&mut self, buf: &mut [u8]) -> Result<usize, Failed>
+        ensures bound { ReadsAtMost result buf.new }
+        ensures bytes { ReadConsumes (source_left self.old) (source_left self.new) result buf.new }
+        ensures cause { HasCause (source_faults self.old) (source_faults self.new) result }
+
+        ensures quiet { OnOk result (source_faults self.new ≡ source_faults self.old) }
+
+        // It fails at the planned calls, and else gives as many bytes as there can be.
+        ensures fails { IsErr result
+            ↔ IsTrue (is_failing (source_plan self.old) (source_calls self.new)) }
+        ensures count { IfOk result (λ n.
+            n ≡ min (source_plan self.old).most (min (length buf.old) (source_ahead self.old))) }
+        ensures calls { source_calls self.new ≡ next_call (source_calls self.old) }
+        ensures plan { source_plan self.new ≡ source_plan self.old }
+    {
         self.calls = self.calls.saturating_add(1);
         if self.failing.contains(&self.calls) {
             self.faults = self.faults.saturating_add(1);
@@ -82,7 +102,7 @@ pub struct MemSink {
 }
 
 impl MemSink {
-    ghost use Rattle.str_outer.specs.Memory.{sink_held, sink_faults, sink_wants};
+    ghost use Rattle.str_outer.specs.Memory.{sink_held, sink_faults, sink_wants, sink_plan, sink_calls};
 
     /// A sink that holds nothing. It takes at most `most` bytes a call, and fails at the calls whose
     /// numbers, from 1, stand in `failing`.
@@ -91,6 +111,8 @@ impl MemSink {
         ensures held { sink_held result ≡ Some [] }
         ensures faults { sink_faults result ≡ 0 }
         ensures wants { sink_wants result ≡ 0 }
+        ensures plan { sink_plan result ≡ planned failing.items most }
+        ensures calls { sink_calls result ≡ 0 }
     {
         MemSink {
             bytes: Vec::new(alloc),
@@ -111,7 +133,7 @@ impl MemSink {
 }
 
 impl Sink for MemSink {
-    ghost use Rattle.str_outer.specs.Memory.{sink_held, sink_faults, sink_wants};
+    ghost use Rattle.str_outer.specs.Memory.{sink_held, sink_faults, sink_wants, sink_plan, sink_calls};
 
     ghost held = { sink_held };
 
@@ -119,7 +141,23 @@ impl Sink for MemSink {
 
     ghost wants = { sink_wants };
 
-    fn write(&mut self, piece: &[u8]) -> Result<usize, Stopped> {
+    fn write(&mut self, piece: &[u8]) -> Result<usize, Stopped>
+        ensures bound { WritesAtMost result piece.now }
+        ensures some { 0 < length piece.now → IfOk result (λ n. 0 < n) }
+        ensures bytes { WriteAppends (sink_held self.old) (sink_held self.new) result piece.now }
+        ensures cause { HasCauses (sink_faults self.old) (sink_faults self.new)
+            (sink_wants self.old) (sink_wants self.new) result }
+
+        ensures quiet { OnOk result ((sink_faults self.new ≡ sink_faults self.old)
+            × (sink_wants self.new ≡ sink_wants self.old)) }
+
+        // It fails at the planned calls, and else takes as many bytes as it may.
+        ensures fails { (result ≡ Err Stopped.Failed)
+            ↔ IsTrue (is_failing (sink_plan self.old) (sink_calls self.new)) }
+        ensures count { IfOk result (λ n. n ≡ min (sink_plan self.old).most (length piece.now)) }
+        ensures calls { sink_calls self.new ≡ next_call (sink_calls self.old) }
+        ensures plan { sink_plan self.new ≡ sink_plan self.old }
+    {
         self.calls = self.calls.saturating_add(1);
         if self.failing.contains(&self.calls) {
             self.faults = self.faults.saturating_add(1);

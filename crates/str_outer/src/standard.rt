@@ -1,5 +1,8 @@
 //! A source over a reader of the standard library, and a sink over a writer.
-ghost use Rattle.std.specs.Prelude.{◌≡◌};
+ghost use Rattle.std.specs.Prelude.{◌≡◌, ◌<◌, length, IfOk, OnOk};
+ghost use Rattle.std.specs.Io.{ReadsAtMost, WritesAtMost};
+ghost use Rattle.std.specs.Io.KnownBytes.{ReadConsumes, WriteAppends};
+ghost use Rattle.str_outer.specs.Causes.{HasCause, HasCauses};
 
 use crate::outside::{Failed, Sink, Source, Stopped};
 use std::io::{Read, Write};
@@ -30,7 +33,13 @@ impl<R: Read> Source for StdSource<R> {
 
     ghost faults = { source_faults };
 
-    fn read(&mut self, buf: &mut [u8]) -> Result<usize, Failed> {
+    fn read(&mut self, buf: &mut [u8]) -> Result<usize, Failed>
+        ensures bound { ReadsAtMost result buf.new }
+        ensures bytes { ReadConsumes (source_left R.remaining self.old)
+            (source_left R.remaining self.new) result buf.new }
+        ensures cause { HasCause (source_faults self.old) (source_faults self.new) result }
+        ensures quiet { OnOk result (source_faults self.new ≡ source_faults self.old) }
+    {
         match self.reader.read(buf) {
             Ok(count) => Ok(count),
             Err(_) => {
@@ -70,7 +79,14 @@ impl<W: Write> Sink for StdSink<W> {
 
     ghost wants = { λ _. 0 };
 
-    fn write(&mut self, piece: &[u8]) -> Result<usize, Stopped> {
+    fn write(&mut self, piece: &[u8]) -> Result<usize, Stopped>
+        ensures bound { WritesAtMost result piece.now }
+        ensures some { 0 < length piece.now → IfOk result (λ n. 0 < n) }
+        ensures bytes { WriteAppends (sink_held W.contents self.old)
+            (sink_held W.contents self.new) result piece.now }
+        ensures cause { HasCauses (sink_faults self.old) (sink_faults self.new) 0 0 result }
+        ensures quiet { OnOk result (sink_faults self.new ≡ sink_faults self.old) }
+    {
         match self.writer.write(piece) {
             Ok(count) if count > 0 || piece.is_empty() => Ok(count),
             _ => {

@@ -1,5 +1,8 @@
 //! A source and a sink in memory, which never fail.
-ghost use Rattle.std.specs.Prelude.{◌≡◌, ◌≤◌, length, [], Some};
+ghost use Rattle.std.specs.Prelude.{◌≡◌, ◌<◌, ◌≤◌, min, length, [], Some, IfOk, OnOk};
+ghost use Rattle.std.specs.Io.{ReadsAtMost, WritesAtMost};
+ghost use Rattle.std.specs.Io.KnownBytes.{ReadConsumes, WriteAppends};
+ghost use Rattle.str_outer.specs.Causes.{HasCause, HasCauses};
 
 use crate::memory::copy_from;
 use crate::outside::{Failed, Sink, Source, Stopped};
@@ -25,13 +28,18 @@ impl SureSource {
 }
 
 impl Source for SureSource {
-    ghost use Rattle.str_outer.specs.Sure.{source_left};
+    ghost use Rattle.str_outer.specs.Sure.{source_left, source_ahead};
 
     ghost left = { source_left };
 
     ghost faults = { λ _. 0 };
 
-    fn read(&mut self, buf: &mut [u8]) -> Result<usize, Failed> {
+    fn read(&mut self, buf: &mut [u8]) -> Result<usize, Failed>
+        ensures bound { ReadsAtMost result buf.new }
+        ensures bytes { ReadConsumes (source_left self.old) (source_left self.new) result buf.new }
+        ensures cause { HasCause 0 0 result }
+        ensures count { result ≡ Ok (min (length buf.old) (source_ahead self.old)) }
+    {
         let count = copy_from(&self.bytes, self.at, buf.len(), buf);
         self.at += count;
         Ok(count)
@@ -76,7 +84,14 @@ impl Sink for SureSink {
 
     ghost wants = { sink_wants };
 
-    fn write(&mut self, piece: &[u8]) -> Result<usize, Stopped> {
+    fn write(&mut self, piece: &[u8]) -> Result<usize, Stopped>
+        ensures bound { WritesAtMost result piece.now }
+        ensures some { 0 < length piece.now → IfOk result (λ n. 0 < n) }
+        ensures bytes { WriteAppends (sink_held self.old) (sink_held self.new) result piece.now }
+        ensures cause { HasCauses 0 0 (sink_wants self.old) (sink_wants self.new) result }
+        ensures quiet { OnOk result (sink_wants self.new ≡ sink_wants self.old) }
+        ensures count { IfOk result (λ n. n ≡ length piece.now) }
+    {
         match self.bytes.extend_from_slice(piece) {
             Ok(()) => Ok(piece.len()),
             Err(_) => {
