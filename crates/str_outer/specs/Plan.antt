@@ -3,8 +3,8 @@ use Rattle.std.specs.List.{list_any}
 use Rattle.std.specs.Prelude.{Bool, List, min, ℕ, ◌+◌, ◌-◌, ◌^◌, ◌==◌}
 
 pub record Plan : Type 0 where
-  pub failing : List ℕ -- the numbers of the calls that are to fail
-  pub most : ℕ -- the greatest size of a call
+  pub failing : List ℕ  -- the numbers of the calls that are to fail
+  pub most : ℕ  -- the greatest size of a call
 
 -- a plan of these calls and this size
 abbrev pub planned : List ℕ → ℕ → Plan

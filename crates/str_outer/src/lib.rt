@@ -14,3 +14,6 @@ pub use reading::{LIMIT, ReadError, read_all};
 pub use standard::{StdSink, StdSource};
 pub use sure::{SureSink, SureSource};
 pub use writing::write_all;
+
+#[cfg(test)]
+mod tests;
