@@ -1,0 +1,27 @@
+-- What the top call promises.
+use Rattle.std.specs.Io.KnownBytes.{Appends, Consumes, IsAtEnd}
+use Rattle.std.specs.Prelude.{List, Option, [], codes, length, ℕ, ◌∷◌, ◌≡◌, ◌⊎◌}
+use Rattle.str_model.specs.Drains.{cluster_run}
+use Rattle.str_model.specs.Lines.{render}
+use Rattle.str_scene.specs.FirstScenes.{IsFirstText}
+use Rattle.str_scene.specs.Scenes.{Scene}
+
+-- the words ask for a run
+abbrev pub IsRunWords : List (List ℕ) → Type 0
+IsRunWords words = words ≡ codes "run" ∷ []
+
+-- the source was read to its end, its bytes are the text of one first scene, and the rendering of its run was written
+pub record Ran (left left' held held' : Option (List ℕ)) : Type 0 where
+  pub bytes : List ℕ
+  pub scene : Scene
+  pub consumed : Consumes left left' bytes
+  pub ended : IsAtEnd left'
+  pub text : IsFirstText bytes scene
+  pub written : Appends held held' (render scene (cluster_run scene))
+
+-- the source was read to its end or to 1,048,577 bytes, and what was read is the text of no first scene
+pub record IsRefused (left left' : Option (List ℕ)) : Type 0 where
+  pub bytes : List ℕ
+  pub consumed : Consumes left left' bytes
+  pub whole : (length bytes ≡ 1048577) ⊎ IsAtEnd left'
+  pub refused : (scene : Scene) → ¬ IsFirstText bytes scene
