@@ -55,7 +55,6 @@ impl Source for MemSource {
         ensures bound { ReadsAtMost result buf.new }
         ensures bytes { ReadConsumes (source_left self.old) (source_left self.new) result buf.new }
         ensures cause { HasCause (source_faults self.old) (source_faults self.new) result }
-
         ensures quiet { OnOk result (source_faults self.new ≡ source_faults self.old) }
 
         // It fails at the planned calls, and else gives as many bytes as there can be.
@@ -147,9 +146,12 @@ impl Sink for MemSink {
         ensures bytes { WriteAppends (sink_held self.old) (sink_held self.new) result piece.now }
         ensures cause { HasCauses (sink_faults self.old) (sink_faults self.new)
             (sink_wants self.old) (sink_wants self.new) result }
-
         ensures quiet { OnOk result ((sink_faults self.new ≡ sink_faults self.old)
             × (sink_wants self.new ≡ sink_wants self.old)) }
+        ensures failed_alone { result ≡ Err Stopped.Failed
+            → sink_wants self.new ≡ sink_wants self.old }
+        ensures memory_alone { result ≡ Err Stopped.Memory
+            → sink_faults self.new ≡ sink_faults self.old }
 
         // It fails at the planned calls, and else takes as many bytes as it may.
         ensures fails { (result ≡ Err Stopped.Failed)
