@@ -49,8 +49,8 @@ pub fn push_u64(out: &mut Vec<u8>, n: u64) -> Result<(), AllocError>
     ensures ok { OnOk result (out.new.items ≡ out.old.items ++ decimal n) }
     ensures err { OnErr result (out.new.items ≡ out.old.items) }
 {
-    let mut spelling = Buffer::new();
-    out.extend_from_slice(spelling.format(n).as_bytes())
+    let mut digits = Buffer::new();
+    out.extend_from_slice(digits.format(n).as_bytes())
 }
 
 /// Appends the spelling of a number.
