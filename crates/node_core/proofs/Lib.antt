@@ -1,0 +1,4 @@
+pub mod FirstCounts
+pub mod FirstHere
+pub mod FirstOpening
+pub mod Places
