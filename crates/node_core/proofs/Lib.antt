@@ -1,4 +1,6 @@
 pub mod FirstCounts
 pub mod FirstHere
 pub mod FirstOpening
+pub mod Members
+pub mod Ordered
 pub mod Places
