@@ -4,3 +4,4 @@ pub mod FirstOpening
 pub mod Members
 pub mod Ordered
 pub mod Places
+pub mod Settling
