@@ -1,6 +1,7 @@
 pub mod FirstCounts
 pub mod FirstHere
 pub mod FirstOpening
+pub mod FirstScripts
 pub mod Members
 pub mod Ordered
 pub mod Places

@@ -84,3 +84,14 @@ in_insert_old v (w ∷ ws) x h = by_test (in_insert_old v ws x) (is_before v w) 
 pub in_all_old : (ws vs : List Version) (x : Version) → In x vs → In x (insert_all ws vs)
 in_all_old [] vs x h = h
 in_all_old (w ∷ ws) vs x h = in_all_old ws (insert_version w vs) x (in_insert_old w vs x h)
+
+-- a member of the first of two lists
+pub in_left : {A : Type 0} (xs ys : List A) (x : A) → In x xs → In x (xs ++ ys)
+in_left [] ys x h = absurd h
+in_left (z ∷ xs) ys x (inl e) = inl e
+in_left (z ∷ xs) ys x (inr h) = inr (in_left xs ys x h)
+
+-- a member of the second of two lists
+pub in_right : {A : Type 0} (xs ys : List A) (x : A) → In x ys → In x (xs ++ ys)
+in_right [] ys x h = h
+in_right (z ∷ xs) ys x h = inr (in_right xs ys x h)
