@@ -1,3 +1,4 @@
+pub mod FirstActs
 pub mod FirstCounts
 pub mod FirstHere
 pub mod FirstOpening
@@ -6,3 +7,4 @@ pub mod Members
 pub mod Ordered
 pub mod Places
 pub mod Settling
+pub mod Writes
