@@ -1,6 +1,7 @@
 pub mod FirstActs
 pub mod FirstCounts
 pub mod FirstHere
+pub mod FirstKept
 pub mod FirstOpening
 pub mod FirstScripts
 pub mod Members

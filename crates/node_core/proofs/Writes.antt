@@ -38,11 +38,13 @@ or_false : (p q : Bool) → p ≡ false → q ≡ false → (p || q) ≡ false
 or_false true q e f = absurd (cc e)
 or_false false q e f = f
 
-or_neither : (p q : Bool) → (p || q) ≡ false → (p ≡ false) × (q ≡ false)
+-- neither holds
+pub or_neither : (p q : Bool) → (p || q) ≡ false → (p ≡ false) × (q ≡ false)
 or_neither true q e = absurd (cc e)
 or_neither false q e = (refl, e)
 
-not_false : (p : Bool) → not p ≡ true → p ≡ false
+-- a test that fails
+pub not_false : (p : Bool) → not p ≡ true → p ≡ false
 not_false true e = absurd (cc e)
 not_false false e = refl
 
