@@ -1,8 +1,10 @@
 pub mod FirstActs
 pub mod FirstCounts
 pub mod FirstHere
+pub mod FirstIdle
 pub mod FirstKept
 pub mod FirstOpening
+pub mod FirstPass
 pub mod FirstScripts
 pub mod Members
 pub mod Ordered
