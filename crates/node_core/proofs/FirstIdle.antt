@@ -26,7 +26,7 @@ use Rattle.node_core.proofs.Ordered.{and_cases}
 -- ---- tests
 
 -- where the second fails
-and_right_false : (p q : Bool) → q ≡ false → (p && q) ≡ false
+pub and_right_false : (p q : Bool) → q ≡ false → (p && q) ≡ false
 and_right_false true q e = e
 and_right_false false q e = refl
 

@@ -1,10 +1,13 @@
 pub mod FirstActs
+pub mod FirstCommit
 pub mod FirstCounts
 pub mod FirstHere
 pub mod FirstIdle
 pub mod FirstKept
+pub mod FirstNeeds
 pub mod FirstOpening
 pub mod FirstPass
+pub mod FirstRules
 pub mod FirstScripts
 pub mod Members
 pub mod Ordered
