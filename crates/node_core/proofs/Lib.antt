@@ -4,6 +4,7 @@ pub mod FirstCounts
 pub mod FirstHere
 pub mod FirstIdle
 pub mod FirstKept
+pub mod FirstLeft
 pub mod FirstNeeds
 pub mod FirstOpening
 pub mod FirstPass
