@@ -1,7 +1,4 @@
-//! The program `strun`: it runs a scene and writes the released answers.
+//! The program `strun`.
 #![tactic(auto)]
-
-mod cluster;
-mod lines;
 
 fn main() {}
