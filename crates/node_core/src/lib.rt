@@ -1,2 +1,9 @@
 //! One node of the cluster.
 #![tactic(auto)]
+
+pub mod outbox;
+pub mod own;
+pub mod turns;
+pub mod versions;
+
+pub use outbox::Outbox;

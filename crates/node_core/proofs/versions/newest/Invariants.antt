@@ -1,0 +1,10 @@
+use Rattle.std.proofs.Common.{Some, drop, ◌≡◌}
+use Rattle.std.specs.List.{last_or}
+use Rattle.str_base.specs.declared.names.Version.{Version}
+use Rattle.str_base.specs.Versions.{chain, newest, ts_or_zero}
+use Rattle.node_core.proofs.versions.newest.Given as goal
+use Rattle.node_core.proofs.Chains.{last_time}
+
+abbrev pub invariant-loop-version : goal.invariant-loop-version
+invariant-loop-version l =
+    last_time l.last.0 (chain l.key (drop l.version-index l.versions)) ≡ newest l.versions l.key
