@@ -208,19 +208,28 @@ pub record IsWithin (v : View) : Type 0 where
   pub versions : (j : ℕ) (w : Version) → slice_get v.versions j ≡ Some w → w.ts.0 < 2 ^ 63 - 1
 
 -- there is such a transaction, and the test holds of it
-abbrev pub OwnHas : (Own → Type 0) → Option Own → Type 0
-OwnHas P None = ⊥
-OwnHas P (Some x) = P x
+abbrev pub OwnHas : (Own → Type 0) → ℕ → View → Type 0
+OwnHas P i v = (i < length v.own) × ((x : Own) → slice_get v.own i ≡ Some x → P x)
+
+-- a put may be done
+pub record CanPut (x : Own) : Type 0 where
+  pub writes : length x.writes < 16
+  pub next : x.next < 255
+
+-- a get may be done
+pub record CanGet (x : Own) : Type 0 where
+  pub reads : length x.reads < 16
+  pub gets : length x.gets < 16
+  pub next : x.next < 255
 
 -- the step can be done with this room and space
 abbrev pub CanDo : Turn → StateView → ℕ → Type 0
 CanDo Idle s space = ⊤
 CanDo Stay s space = ⊤
 CanDo (Begin place rs) s space = 1 ≤ s.room
-CanDo (Put i k n) s space = OwnHas (λ x. (length x.writes < 16) × (x.next < 255)) (slice_get s.view.own i)
-CanDo (Know i k u) s space = OwnHas (λ x. (length x.gets < 16) × (x.next < 255)) (slice_get s.view.own i)
-CanDo (Read i k found) s space =
-    (k.0 < length s.view.marks) × OwnHas (λ x. (length x.reads < 16) × (length x.gets < 16) × (x.next < 255)) (slice_get s.view.own i)
-CanDo (Close i) s space = (1 ≤ space) × OwnHas (λ x. ⊤) (slice_get s.view.own i)
-CanDo (Refuse i by k) s space = (1 ≤ space) × OwnHas (λ x. ⊤) (slice_get s.view.own i)
-CanDo (Commit i lc) s space = (1 ≤ space) × OwnHas (λ x. length x.writes ≤ s.room) (slice_get s.view.own i)
+CanDo (Put i k n) s space = OwnHas CanPut i s.view
+CanDo (Know i k u) s space = OwnHas CanGet i s.view
+CanDo (Read i k found) s space = (k.0 < length s.view.marks) × OwnHas CanGet i s.view
+CanDo (Close i) s space = (1 ≤ space) × (i < length s.view.own)
+CanDo (Refuse i by k) s space = (1 ≤ space) × (i < length s.view.own)
+CanDo (Commit i lc) s space = (1 ≤ space) × OwnHas (λ x. length x.writes ≤ s.room) i s.view

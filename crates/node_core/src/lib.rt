@@ -3,6 +3,7 @@
 
 pub mod outbox;
 pub mod own;
+pub mod state;
 pub mod turns;
 pub mod versions;
 
