@@ -1,5 +1,5 @@
 -- The last version of a chain, and the first conflict of two chains.
-use Rattle.std.proofs.Common.{List, None, Option, Some, [], refl, ℕ, ◌∷◌, ◌≡◌}
+use Rattle.std.proofs.Common.{List, None, Some, [], refl, ℕ, ◌∷◌, ◌≡◌}
 use Rattle.std.specs.List.{last_or}
 use Rattle.str_base.specs.declared.names.Version.{Version}
 use Rattle.str_base.specs.Versions.{ts_or_zero}

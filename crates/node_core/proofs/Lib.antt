@@ -6,3 +6,4 @@ pub mod Members
 pub mod Ordered
 pub mod Places
 pub mod Settling
+pub mod Bounds

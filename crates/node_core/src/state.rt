@@ -2,7 +2,7 @@
 ghost use Rattle.std.specs.Prelude.{◌≡◌, ◌<◌, ◌≤◌, ◌+◌, ◌++◌, ◌∷◌, [], IfOk, OnOk, length, map, max, replicate, slice_get, ℕ};
 ghost use Rattle.node_core.specs.declared.turns.Turn.TheVariants.{Close, Commit, Refuse};
 ghost use Rattle.node_core.specs.Meaning.{phase_of};
-ghost use Rattle.node_core.specs.NodeTurns.{CanDo, CanGet, CanPut, Does, IsWithin, OwnHas, answer_at, begin_rs, commit_turn, get_turn, one_version, own_turn, read_view, with_own};
+ghost use Rattle.node_core.specs.NodeTurns.{CanDo, CanGet, CanPut, Does, IsWithin, OwnHas, answer_at, begin_rs, changed, commit_turn, get_turn, one_version, own_turn, read_view, with_own};
 ghost use Rattle.str_base.specs.declared.names.Value.TheVariants.{Num};
 ghost use Rattle.str_base.specs.declared.names.Write.{Write};
 ghost use Rattle.str_base.specs.Versions.{insert_all, insert_version};
@@ -96,14 +96,16 @@ impl State {
     }
 
     /// What a new version of these keys has to pass.
-    fn passed(&self, writes: &Writes) -> Ts
+    fn passed(&self, writes: &Writes) -> u64
         requires keys { (j : ℕ) (w : Write) → slice_get writes.now j ≡ Some w → w.key.0 < length self.now.view.marks }
-        ensures { result.0 ≡ passed self.now.view writes.now }
+        ensures { result ≡ passed self.now.view writes.now }
     {
-        let mut passed = Ts(0);
+        let marks = self.marks.as_slice();
+        let versions = self.versions.as_slice();
+        let mut passed = 0;
         for write in writes.as_slice() {
-            let mark = Ts(self.marks[write.key.0 as usize]);
-            passed = passed.max(mark).max(newest(self.versions.as_slice(), write.key));
+            let mark = marks[write.key.0 as usize];
+            passed = passed.max(mark.max(newest(versions, write.key).0));
         }
         passed
     }
@@ -126,10 +128,10 @@ impl State {
                 key: version.key,
             };
         }
-        let passed = own.rs().max(self.passed(writes));
+        let passed = own.rs().0.max(self.passed(writes));
         Turn::Commit {
             own: i,
-            lc: Ts(1 + passed.0),
+            lc: Ts(1 + passed),
         }
     }
 
@@ -176,7 +178,7 @@ impl State {
     /// A put is done.
     fn put(&mut self, i: usize, key: KeyId, value: i64)
         requires { OwnHas CanPut i self.old.view }
-        ensures view { (x : Own) → slice_get self.old.view.own i ≡ Some x → self.new.view ≡ with_own i (wrote key (Num value) x) self.old.view }
+        ensures view { self.new.view ≡ changed i (wrote key (Num value)) (slice_get self.old.view.own i) self.old.view }
         ensures room { self.new.room ≡ self.old.room }
     {
         let own = &mut self.own[i];
@@ -186,7 +188,7 @@ impl State {
     /// A get of a key that the transaction knows is done.
     fn know(&mut self, i: usize, key: KeyId, value: Value)
         requires { OwnHas CanGet i self.old.view }
-        ensures view { (x : Own) → slice_get self.old.view.own i ≡ Some x → self.new.view ≡ with_own i (finish (Get key) value x) self.old.view }
+        ensures view { self.new.view ≡ changed i (finish (Get key) value) (slice_get self.old.view.own i) self.old.view }
         ensures room { self.new.room ≡ self.old.room }
     {
         let own = &mut self.own[i];
@@ -197,7 +199,7 @@ impl State {
     fn read(&mut self, i: usize, key: KeyId, found: Option<Version>)
         requires key { key.0 < length self.old.view.marks }
         requires own { OwnHas CanGet i self.old.view }
-        ensures view { (x : Own) → slice_get self.old.view.own i ≡ Some x → self.new.view ≡ read_view i key found (Some x) self.old.view }
+        ensures view { self.new.view ≡ read_view i key found (slice_get self.old.view.own i) self.old.view }
         ensures room { self.new.room ≡ self.old.room }
     {
         let own = &mut self.own[i];

@@ -1,4 +1,3 @@
-use Rattle.std.proofs.Common.{sym}
 use Rattle.str_base.specs.Versions.{chain}
 use Rattle.node_core.proofs.Chains.{last_time-none}
 use Rattle.node_core.proofs.versions.newest.Goals as goal

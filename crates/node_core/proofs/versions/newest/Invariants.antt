@@ -1,7 +1,5 @@
-use Rattle.std.proofs.Common.{Some, drop, ◌≡◌}
-use Rattle.std.specs.List.{last_or}
-use Rattle.str_base.specs.declared.names.Version.{Version}
-use Rattle.str_base.specs.Versions.{chain, newest, ts_or_zero}
+use Rattle.std.proofs.Common.{drop, ◌≡◌}
+use Rattle.str_base.specs.Versions.{chain, newest}
 use Rattle.node_core.proofs.versions.newest.Given as goal
 use Rattle.node_core.proofs.Chains.{last_time}
 

@@ -1,4 +1,4 @@
-use Rattle.std.proofs.Common.{drop, length, map, ◌+◌, ◌≡◌, ◌≤◌}
+use Rattle.std.proofs.Common.{drop, map, ◌+◌, ◌≡◌, ◌≤◌}
 use Rattle.str_base.specs.Versions.{insert_all}
 use Rattle.node_core.specs.NodeTurns.{one_version}
 use Rattle.node_core.proofs.state.State.insert_all.Given as goal

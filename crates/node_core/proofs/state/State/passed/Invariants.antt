@@ -5,4 +5,4 @@ use Rattle.node_core.proofs.state.State.passed.Given as goal
 
 abbrev pub invariant-loop-write : goal.invariant-loop-write
 invariant-loop-write l =
-    max l.passed.0 (greatest (map (λ w. max (mark_of l.self.view.marks w.key) (newest l.self.view.versions w.key)) (drop l.write-index l.writes))) ≡ greatest (map (λ w. max (mark_of l.self.view.marks w.key) (newest l.self.view.versions w.key)) l.writes)
+    max l.passed (greatest (map (λ w. max (mark_of l.marks w.key) (newest l.versions w.key)) (drop l.write-index l.writes))) ≡ greatest (map (λ w. max (mark_of l.marks w.key) (newest l.versions w.key)) l.writes)
