@@ -1,5 +1,6 @@
 -- What is in a list that was made by the operations of the definitions.
-use Rattle.std.proofs.Common.{Bool, List, Some, [], ap, false, filter, if◌then◌else◌, inl, inr, map, refl, slice_get, suc, sym, true, zero, ℕ, ◌++◌, ◌∙◌, ◌∷◌, ◌≡◌, ◌⊎◌}
+use Rattle.std.proofs.Common.{Bool, List, None, Option, Some, [], ap, false, filter, flat_map, if◌then◌else◌, inl, inr, map, refl, slice_get, suc, sym, true, zero, ℕ, ◌++◌, ◌∙◌, ◌∷◌, ◌≡◌, ◌⊎◌}
+use Rattle.std.specs.List.{last_or}
 use Rattle.str_base.specs.declared.names.Version.{Version}
 use Rattle.str_base.specs.Versions.{insert_all, insert_version, is_before}
 
@@ -84,3 +85,28 @@ in_insert_old v (w ∷ ws) x h = by_test (in_insert_old v ws x) (is_before v w) 
 pub in_all_old : (ws vs : List Version) (x : Version) → In x vs → In x (insert_all ws vs)
 in_all_old [] vs x h = h
 in_all_old (w ∷ ws) vs x h = in_all_old ws (insert_version w vs) x (in_insert_old w vs x h)
+
+-- a member of the first of two lists
+pub in_left : {A : Type 0} (xs ys : List A) (x : A) → In x xs → In x (xs ++ ys)
+in_left [] ys x h = absurd h
+in_left (z ∷ xs) ys x (inl e) = inl e
+in_left (z ∷ xs) ys x (inr h) = inr (in_left xs ys x h)
+
+-- a member of the second of two lists
+pub in_right : {A : Type 0} (xs ys : List A) (x : A) → In x ys → In x (xs ++ ys)
+in_right [] ys x h = h
+in_right (z ∷ xs) ys x h = inr (in_right xs ys x h)
+
+-- the last of a list, or what stands for it
+in_last_or : {A : Type 0} (o : Option A) (xs : List A) (x : A) → last_or o xs ≡ Some x → (o ≡ Some x) ⊎ In x xs
+in_last_or o [] x e = inl e
+in_last_or o (y ∷ xs) x e = elim (in_last_or (Some y) xs x e) [ inl q ↦ inr (inl (cc q)) | inr h ↦ inr (inr h) ]
+
+-- the last of those that a test lets through
+pub in_last : {A : Type 0} (test : A → Bool) (xs : List A) (x : A) → last_or None (filter test xs) ≡ Some x → In x xs
+in_last test xs x e = elim (in_last_or None (filter test xs) x e) [ inl q ↦ absurd (cc q) | inr h ↦ (in_filter test xs x h).0 ]
+
+-- a member of one of the lists
+pub in_flat_map : {A B : Type 0} (f : A → List B) (xs : List A) (y : B) → In y (flat_map f xs) → (x : A) × (In x xs) × (In y (f x))
+in_flat_map f [] y h = absurd h
+in_flat_map f (z ∷ xs) y h = elim (in_append (f z) (flat_map f xs) y h) [ inl k ↦ (z, inl refl, k) | inr k ↦ (let r = in_flat_map f xs y k in (r.0, inr r.1, r.2)) ]
