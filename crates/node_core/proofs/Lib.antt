@@ -17,3 +17,6 @@ pub mod Ordered
 pub mod Places
 pub mod Settling
 pub mod Writes
+pub mod Turning
+pub mod Readying
+pub mod NodeLaws

@@ -3,6 +3,7 @@ use Rattle.std.specs.Prelude.{Bool, List, None, Option, Some, [], false, find, i
 use Rattle.node_core.specs.declared.turns.Turn.{Turn}
 use Rattle.node_core.specs.declared.turns.Turn.TheVariants.{Begin, Close, Commit, Idle, Know, Put, Read, Refuse, Stay}
 use Rattle.node_core.specs.FirstSteps.{first_read}
+use Rattle.node_core.specs.FirstViews.{is_settled}
 use Rattle.node_core.specs.NodeStates.{OutState}
 use Rattle.str_base.specs.declared.names.Cause.TheVariants.{Conflict as ByConflict}
 use Rattle.str_base.specs.declared.names.KeyId.{KeyId}
@@ -203,6 +204,7 @@ pub record IsWithin (v : View) : Type 0 where
   pub own : length v.own ≤ 1024
   pub rs : (i : ℕ) (x : Own) → slice_get v.own i ≡ Some x → x.snap.rs < 2 ^ 63 - 1
   pub index : (i : ℕ) (x : Own) → slice_get v.own i ≡ Some x → x.place.index ≤ 1024
+  pub settled_ : (i : ℕ) (x : Own) → slice_get v.own i ≡ Some x → is_settled x.phase ≡ true
   pub keys : (i : ℕ) (x : Own) → slice_get v.own i ≡ Some x → (j : ℕ) (w : Write) → slice_get x.writes j ≡ Some w → w.key.0 < length v.marks
   pub marks : (j : ℕ) (t : ℕ) → slice_get v.marks j ≡ Some t → t < 2 ^ 63 - 1
   pub versions : (j : ℕ) (w : Version) → slice_get v.versions j ≡ Some w → w.ts.0 < 2 ^ 63 - 1

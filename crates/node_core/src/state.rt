@@ -1,5 +1,5 @@
 //! What a node changes: versions, marks, the floor and own transactions.
-ghost use Rattle.std.specs.Prelude.{◌≡◌, ◌<◌, ◌≤◌, ◌+◌, ◌++◌, ◌∷◌, [], IfOk, OnOk, length, map, max, replicate, slice_get, ℕ};
+ghost use Rattle.std.specs.Prelude.{◌≡◌, ◌<◌, ◌≤◌, ◌+◌, ◌++◌, ◌∷◌, [], IfOk, OnOk, IfSome, length, map, max, replicate, slice_get, ℕ};
 ghost use Rattle.node_core.specs.declared.turns.Turn.TheVariants.{Close, Commit, Refuse};
 ghost use Rattle.node_core.specs.Meaning.{phase_of};
 ghost use Rattle.node_core.specs.NodeTurns.{CanDo, CanGet, CanPut, Does, IsWithin, OwnHas, answer_at, begin_rs, changed, commit_turn, get_turn, one_version, own_turn, read_view, with_own};
@@ -75,7 +75,8 @@ impl State {
 
     /// The last transaction of a session.
     pub fn last_of(&self, session: SessionId) -> Option<usize>
-        ensures { result ≡ last_index (of_session session) self.now.view.own }
+        ensures value { result ≡ last_index (of_session session) self.now.view.own }
+        ensures limit { IfSome result (λ i. i < length self.now.view.own) }
     {
         let mut i = self.own.len();
         while i > 0 {

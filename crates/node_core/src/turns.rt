@@ -1,4 +1,6 @@
 //! What a step comes to, decided before anything changes.
+ghost use Rattle.std.specs.Prelude.{◌≡◌};
+ghost use Rattle.node_core.specs.NodeTurns.{is_idle};
 
 use str_base::{KeyId, Ts, TxId, Value, Version};
 use str_scene::TxPlace;
@@ -48,4 +50,16 @@ pub enum Turn {
         own: usize,
         lc: Ts,
     },
+}
+
+impl Turn {
+    /// Whether the step is idle.
+    pub fn is_idle(self) -> bool
+        ensures { result ≡ is_idle self }
+    {
+        match self {
+            Turn::Idle => true,
+            _ => false,
+        }
+    }
 }
