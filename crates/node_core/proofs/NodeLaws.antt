@@ -1,5 +1,5 @@
 -- The steps of a node, from what a step comes to.
-use Rattle.std.proofs.Common.{MatchOption, None, Option, Some, ap, arith, false, is_some, length, not, refl, subst, sym, true, ℕ, ◌∙◌, ◌≡◌, ◌≤◌}
+use Rattle.std.proofs.Common.{MatchOption, None, Some, ap, arith, false, is_some, not, refl, subst, sym, true, ℕ, ◌∙◌, ◌≡◌, ◌≤◌}
 use Rattle.std.proofs.lemmas.List.{append-nil}
 use Rattle.str_base.specs.declared.names.NodeId.{NodeId}
 use Rattle.str_base.specs.declared.names.SessionId.{SessionId}

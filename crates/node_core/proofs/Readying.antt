@@ -1,34 +1,33 @@
 -- A step of a first scene can be done with the room that it needs, and what a view between two steps is within.
-use Rattle.std.proofs.Common.{Bool, List, None, Option, Some, [], ap, arith, false, find, if◌then◌else◌, length, max, refl, slice_get, subst, suc, sym, take, true, zero, ℕ, ◌+◌, ◌-◌, ◌<◌, ◌^◌, ◌∙◌, ◌∷◌, ◌≡◌, ◌≤◌}
+use Rattle.std.proofs.Common.{List, None, Option, Some, [], arith, false, find, if◌then◌else◌, length, refl, slice_get, subst, take, true, ℕ, ◌+◌, ◌<◌, ◌∙◌, ◌∷◌, ◌≡◌, ◌≤◌}
 use Rattle.std.proofs.lemmas.List.{length-take}
 use Rattle.std.proofs.lemmas.List.Sums.{count_by-le-length}
-use Rattle.std.specs.List.{count_by}
 use Rattle.str_base.specs.declared.names.KeyId.{KeyId}
 use Rattle.str_base.specs.declared.names.SessionId.{SessionId}
 use Rattle.str_base.specs.declared.names.Value.{Value}
 use Rattle.str_base.specs.declared.names.Version.{Version}
 use Rattle.str_base.specs.declared.names.Write.{Write}
-use Rattle.str_base.specs.Versions.{same_node, visible}
+use Rattle.str_base.specs.Versions.{same_node}
 use Rattle.str_model.specs.declared.messages.Input.{Input}
 use Rattle.str_model.specs.declared.messages.Input.TheVariants.{Client, Deliver}
 use Rattle.str_model.specs.Clients.{last_index, of_session}
 use Rattle.str_model.specs.Scripts.{known, own_op}
 use Rattle.str_model.specs.Steps.{count_of, need, step}
 use Rattle.str_model.specs.Turns.{conflicts, met}
-use Rattle.str_model.specs.Views.{Aborted, Active, CertWait, Closing, Committed, Doing, Global, Local, Own, Phase, ReadWait, Remote, Reply, View}
+use Rattle.str_model.specs.Views.{Aborted, Active, CertWait, Closing, Committed, Global, Local, Own, Phase, ReadWait, Remote, Reply, View}
 use Rattle.str_scene.specs.declared.names.Op.{Op}
 use Rattle.str_scene.specs.declared.names.Op.TheVariants.{Abort as Stop, Add, Del, Get as GetOp, Need, Put as PutOp, Puts}
 use Rattle.str_scene.specs.FirstScenes.{IsFirst}
 use Rattle.str_scene.specs.SceneLimits.{IsScene}
-use Rattle.str_scene.specs.Scenes.{Here, Scene, Session, nth, script_at}
+use Rattle.str_scene.specs.Scenes.{Scene, Session, nth, script_at}
 use Rattle.node_core.specs.declared.turns.Turn.{Turn}
-use Rattle.node_core.specs.declared.turns.Turn.TheVariants.{Begin, Close, Commit, Idle, Know, Put, Read, Refuse, Stay}
-use Rattle.node_core.specs.FirstViews.{IsFirstOwn, IsFirstView, times_limit}
-use Rattle.node_core.specs.NodeTurns.{CanDo, CanGet, CanPut, IsWithin, OwnHas, StateView, at_turn, begin_rs, begin_turn, certify_turn, commit_turn, get_turn, last_turn, op_turn, own_turn, phase_turn, session_turn, turn_of, turn_step}
+use Rattle.node_core.specs.declared.turns.Turn.TheVariants.{Idle}
+use Rattle.node_core.specs.FirstViews.{IsFirstView}
+use Rattle.node_core.specs.NodeTurns.{CanDo, CanGet, CanPut, IsWithin, OwnHas, at_turn, begin_rs, begin_turn, certify_turn, commit_turn, get_turn, last_turn, own_turn, phase_turn, session_turn, turn_of, turn_step}
 use Rattle.node_core.proofs.FirstCounts.{own_few, times_fit}
 use Rattle.node_core.proofs.FirstHere.{first_here}
 use Rattle.node_core.proofs.FirstRules.{step_first}
-use Rattle.node_core.proofs.FirstScripts.{IsFirstOp, script_few, script_op}
+use Rattle.node_core.proofs.FirstScripts.{script_few, script_op}
 use Rattle.node_core.proofs.Places.{got_below}
 use Rattle.node_core.proofs.Turning.{step_is}
 
@@ -144,8 +143,8 @@ module _ (scene : Scene) (v : View) (room space : ℕ) (is : IsScene scene) (f :
   session_can s r None = λ a b. tt
   session_can s r (Some text) =
       elim (same_node text.node (record { 0 = 1 })) as (λ b. Can (if b then last_turn (first_here scene) s r text (last_index (of_session s) v.own) v else Idle)) [
-        true ↦ last_can s r text (last_index (of_session s) v.own)
-      | false ↦ (λ a b. tt)
+        | true ↦ last_can s r text (last_index (of_session s) v.own)
+        | false ↦ (λ a b. tt)
       ]
 
   turn_can : (input : Input) → Can (turn_of (first_here scene) input v)

@@ -1,30 +1,28 @@
 -- What a step comes to, and what it then does, is the step of a first scene.
-use Rattle.std.proofs.Common.{Bool, List, None, Option, Some, [], ap, arith, cond, false, find, if◌then◌else◌, is_some, length, map, max, min, not, refl, slice_get, subst, suc, sym, true, zero, zero-add, ℕ, ◌+◌, ◌-◌, ◌<◌, ◌^◌, ◌∙◌, ◌∷◌, ◌≡◌, ◌≤◌}
-use Rattle.str_base.specs.declared.names.Cause.{Cause}
+use Rattle.std.proofs.Common.{List, None, Option, Some, [], ap, arith, false, find, if◌then◌else◌, length, map, max, refl, slice_get, suc, true, zero-add, ℕ, ◌+◌, ◌<◌, ◌∙◌, ◌∷◌, ◌≡◌}
 use Rattle.str_base.specs.declared.names.KeyId.{KeyId}
 use Rattle.str_base.specs.declared.names.PartId.{PartId}
 use Rattle.str_base.specs.declared.names.SessionId.{SessionId}
 use Rattle.str_base.specs.declared.names.Value.{Value}
 use Rattle.str_base.specs.declared.names.Version.{Version}
 use Rattle.str_base.specs.declared.names.Write.{Write}
-use Rattle.str_base.specs.Versions.{same_node, visible}
+use Rattle.str_base.specs.Versions.{same_node}
 use Rattle.str_model.specs.declared.messages.Input.{Input}
 use Rattle.str_model.specs.declared.messages.Input.TheVariants.{Client, Deliver}
 use Rattle.str_model.specs.Acts.{begun, closed, marked}
 use Rattle.str_model.specs.Clients.{begin, last_index, of_session, place_in}
 use Rattle.str_model.specs.Scripts.{known, own_op}
 use Rattle.str_model.specs.Turns.{conflicts, met, passed}
-use Rattle.str_model.specs.Views.{Aborted, Active, CertWait, Closing, Committed, Doing, Global, Local, Own, Phase, ReadWait, Remote, Reply, View, is_decided, starts}
+use Rattle.str_model.specs.Views.{Aborted, Active, CertWait, Closing, Committed, Global, Local, Own, Phase, ReadWait, Remote, Reply, View, is_decided, starts}
 use Rattle.str_scene.specs.declared.names.Op.{Op}
 use Rattle.str_scene.specs.declared.names.Op.TheVariants.{Abort as Stop, Add, Del, Get as GetOp, Need, Put as PutOp, Puts}
 use Rattle.str_scene.specs.FirstScenes.{IsFirst}
 use Rattle.str_scene.specs.SceneLimits.{IsScene}
-use Rattle.str_scene.specs.Scenes.{Here, Scene, Session, named_part, nth, part_of, script_at}
-use Rattle.node_core.specs.declared.turns.Turn.{Turn}
-use Rattle.node_core.specs.declared.turns.Turn.TheVariants.{Begin, Close, Commit, Idle, Know, Put, Read, Refuse, Stay}
-use Rattle.node_core.specs.FirstSteps.{final_version, first_certified, first_commit, first_get, first_go_on, first_go_on_at, first_go_on_last, first_in_session, first_op, first_own, first_step}
+use Rattle.str_scene.specs.Scenes.{Here, Scene, Session, named_part, nth, part_of}
+use Rattle.node_core.specs.declared.turns.Turn.TheVariants.{Idle}
+use Rattle.node_core.specs.FirstSteps.{final_version, first_certified, first_commit, first_get, first_go_on, first_go_on_at, first_go_on_last, first_in_session, first_own, first_step}
 use Rattle.node_core.specs.FirstViews.{IsFirstView, is_settled}
-use Rattle.node_core.specs.NodeTurns.{at_turn, begin_rs, begin_turn, certify_turn, client_turn, commit_turn, get_turn, is_idle, last_turn, one_version, op_turn, own_turn, phase_turn, session_turn, turn_of, turn_step}
+use Rattle.node_core.specs.NodeTurns.{at_turn, begin_rs, begin_turn, certify_turn, client_turn, commit_turn, get_turn, is_idle, last_turn, one_version, own_turn, phase_turn, session_turn, turn_of, turn_step}
 use Rattle.node_core.proofs.Bounds.{one_there}
 use Rattle.node_core.proofs.FirstHere.{first_here}
 
@@ -107,8 +105,8 @@ module _ (scene : Scene) (v : View) (is : IsScene scene) (f : IsFirst scene) (fv
   session_is s t None = refl
   session_is s t (Some text) =
       elim (same_node text.node (record { 0 = 1 })) as (λ b. (if b then first_go_on_last (first_here scene) s t text (last_index (of_session s) v.own) (starts v) else None) ≡ turn_step (record { 0 = 1 }) (if b then last_turn (first_here scene) s (begin_rs t v) text (last_index (of_session s) v.own) v else Idle) v) [
-        true ↦ last_is s t text (last_index (of_session s) v.own)
-      | false ↦ refl
+        | true ↦ last_is s t text (last_index (of_session s) v.own)
+        | false ↦ refl
       ]
 
   -- what a step comes to is the step
@@ -147,8 +145,8 @@ session_idle : (here : Here) (s : SessionId) (r r' : ℕ) (o : Option Session) (
 session_idle here s r r' None v = refl
 session_idle here s r r' (Some text) v =
     elim (same_node text.node here.node) as (λ b. is_idle (if b then last_turn here s r text (last_index (of_session s) v.own) v else Idle) ≡ is_idle (if b then last_turn here s r' text (last_index (of_session s) v.own) v else Idle)) [
-      true ↦ last_idle here s r r' text (last_index (of_session s) v.own) v
-    | false ↦ refl
+      | true ↦ last_idle here s r r' text (last_index (of_session s) v.own) v
+      | false ↦ refl
     ]
 
 -- whether a client step is idle is the same at each reading

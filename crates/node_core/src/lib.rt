@@ -3,8 +3,8 @@
 
 pub mod nodes;
 pub mod outbox;
-pub mod scripts;
 pub mod own;
+pub mod scripts;
 pub mod state;
 pub mod turns;
 pub mod versions;

@@ -1,4 +1,3 @@
-use Rattle.std.proofs.Common.{◌∙◌}
 use Rattle.node_core.specs.NodeStates.{NodeState}
 use Rattle.node_core.proofs.NodeLaws.{node_idle}
 use Rattle.node_core.proofs.Readying.{within_first}
