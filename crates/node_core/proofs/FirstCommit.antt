@@ -127,6 +127,7 @@ module _ (scene : Scene) (v : View) (is : IsScene scene) (f : IsFirst scene) (h 
         added = 0 + length x.writes;
       }
 
+  -- it is the certification
   certified_is : (i lc : ℕ) (x : Own) (g : Goes v i x) → certified (first_here scene) i lc x.snap x (starts v) ≡ certified_as i lc x g
   unfolding certified certified_as
   certified_is i lc x g = ap (λ ps. made ps) (participants_none scene x.writes f ∙ sym (h.own i x g.at_).parts)

@@ -46,6 +46,7 @@ IsNoneOrSettled : Option Own → Type 0
 IsNoneOrSettled None = Unit {0}
 IsNoneOrSettled (Some x) = is_settled x.phase ≡ true
 
+-- the transaction that a message names is settled
 named_settled : (scene : Scene) (v : View) (here : Here) (tx : TxId) → IsFirstView scene v → IsNoneOrSettled (own_named here tx (starts v))
 unfolding IsNoneOrSettled
 named_settled scene v here tx h = by_node (same_node tx.node here.node)
@@ -62,6 +63,7 @@ named_settled scene v here tx h = by_node (same_node tx.node here.node)
     by_node true = by_seq tx.seq
     by_node false = tt
 
+-- a reply that no transaction waits for
 reply_idle : (i : ℕ) (x : Own) (k : KeyId) (val : Value) (by : Option TxId) (fc : ℕ) (p : Phase) (d : Doing) → is_settled p ≡ true → reply_phase i x k val by fc p d ≡ None
 reply_idle i x k val by fc Active d e = refl
 reply_idle i x k val by fc (ReadWait l) d e = refl
@@ -74,6 +76,7 @@ reply_idle i x k val by fc (Global lc) d e = refl
 reply_idle i x k val by fc (Committed lc f) d e = refl
 reply_idle i x k val by fc (Aborted lc c) d e = refl
 
+-- an answer that no transaction has asked for
 ack_idle : (i : ℕ) (x : Own) (from : NodeId) (part : PartId) (ts : ℕ) (p : Phase) (d : Doing) → is_settled p ≡ true → ack_phase i x from part ts p d ≡ None
 ack_idle i x from part ts Active d e = refl
 ack_idle i x from part ts (ReadWait l) d e = refl
@@ -86,6 +89,7 @@ ack_idle i x from part ts (Global lc) d e = absurd (cc e)
 ack_idle i x from part ts (Committed lc f) d e = refl
 ack_idle i x from part ts (Aborted lc c) d e = refl
 
+-- a refusal to a transaction that has not asked
 refuse_idle : (here : Here) (i : ℕ) (x : Own) (from : NodeId) (part : PartId) (by : TxId) (k : KeyId) (p : Phase) (d : Doing) → is_settled p ≡ true
     → refuse_phase here i x from part by k p d ≡ None
 refuse_idle here i x from part by k Active d e = refl
@@ -111,6 +115,7 @@ module _ (scene : Scene) (v : View) (f : IsFirst scene) (h : IsFirstView scene v
       let c = f.nodes in
       eq-eqb n.0 1 (omega arith)
 
+  -- a reply is idle
   named_read_reply : (tx : TxId) (k : KeyId) (val : Value) (by : Option TxId) (fc : ℕ) → read_reply (first_here scene) tx k val by fc (starts v) ≡ None
   unfolding read_reply IsNoneOrSettled
   named_read_reply tx k val by fc = by_own (own_named (first_here scene) tx (starts v)) (named_settled scene v (first_here scene) tx h)
@@ -119,6 +124,7 @@ module _ (scene : Scene) (v : View) (f : IsFirst scene) (h : IsFirstView scene v
       by_own None s = refl
       by_own (Some x) s = reply_idle (tx.seq - 1) x k val by fc x.phase (starts v) s
 
+  -- an answer is idle
   named_ack : (from : NodeId) (tx : TxId) (p : PartId) (ts : ℕ) → ack_rule (first_here scene) from tx p ts (starts v) ≡ None
   unfolding ack_rule IsNoneOrSettled
   named_ack from tx p ts = by_own (own_named (first_here scene) tx (starts v)) (named_settled scene v (first_here scene) tx h)
@@ -127,6 +133,7 @@ module _ (scene : Scene) (v : View) (f : IsFirst scene) (h : IsFirstView scene v
       by_own None s = refl
       by_own (Some x) s = ack_idle (tx.seq - 1) x from p ts x.phase (starts v) s
 
+  -- a refusal is idle
   named_refuse : (from : NodeId) (tx : TxId) (p : PartId) (by : TxId) (k : KeyId) → refuse_rule (first_here scene) from tx p by k (starts v) ≡ None
   unfolding refuse_rule IsNoneOrSettled
   named_refuse from tx p by k = by_own (own_named (first_here scene) tx (starts v)) (named_settled scene v (first_here scene) tx h)

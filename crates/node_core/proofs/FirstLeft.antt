@@ -50,10 +50,12 @@ drop_place (y ∷ xs) (suc c) x e = drop_place xs c x e
 begun_at : View → ℕ → ℕ
 begun_at v s = count_by (λ (x : Own). x.place.session.0 == s) v.own
 
+-- the count over the only node
 begun_one : (v : View) (s : ℕ) → begun_in (v ∷ []) s ≡ begun_at v s
 unfolding begun_at
 begun_one v s = omega arith
 
+-- where as many have begun
 unbegun_same : (scene : Scene) (v u : View) (n : ℕ) (rest : List Session) → ((s : ℕ) → n ≤ s → begun_at u s ≡ begun_at v s) → unbegun_left scene (u ∷ []) n rest ≡ unbegun_left scene (v ∷ []) n rest
 unbegun_same scene v u n [] h = refl
 unbegun_same scene v u n (text ∷ rest) h =
@@ -62,6 +64,7 @@ unbegun_same scene v u n (text ∷ rest) h =
     let b = unbegun_same scene v u (n + 1) rest (λ s l. h s (omega arith)) in
     omega arith
 
+-- where one more has begun
 unbegun_less : (scene : Scene) (v u : View) (n j : ℕ) (rest : List Session) (text : Session) (ops : List Op) → slice_get rest j ≡ Some text → slice_get text.txs (begun_at v (n + j)) ≡ Some ops
     → begun_at u (n + j) ≡ begun_at v (n + j) + 1 → ((s : ℕ) → s ≢ n + j → begun_at u s ≡ begun_at v s)
     → unbegun_left scene (u ∷ []) n rest + share scene text.node ops ≡ unbegun_left scene (v ∷ []) n rest
@@ -92,6 +95,7 @@ unbegun_less scene v u n (suc j) (first ∷ rest) text ops e q a h =
 
 -- ---- own transactions
 
+-- the only node
 one_node : NodeId
 one_node = record { 0 = 1 }
 
@@ -99,12 +103,14 @@ one_node = record { 0 = 1 }
 active_left : Scene → TxPlace → ℕ → ℕ
 active_left scene place next = 3 * (length (script_at scene place) - next) + (0 + (1 + 3 * length (script_participants scene one_node (script_at scene place))))
 
+-- an active transaction
 own_active : (scene : Scene) (x : Own) → x.phase ≡ Active → own_left scene one_node x ≡ active_left scene x.place x.next
 unfolding active_left
 own_active scene x e =
     ap (λ p. if is_decided p then 0 else 3 * ops_left p (length (script_at scene x.place) - x.next)
     + (wait_left p + (close_left p + (if is_certified p then sum_by part_left x.parts else 3 * length (script_participants scene one_node (script_at scene x.place)))))) e
 
+-- a decided transaction
 own_decided : (scene : Scene) (x : Own) → is_decided x.phase ≡ true → own_left scene one_node x ≡ 0
 own_decided scene x e =
     ap (λ b. if b then 0 else 3 * ops_left x.phase (length (script_at scene x.place) - x.next) + (wait_left x.phase + (close_left x.phase + parts_left scene one_node x))) e
@@ -115,6 +121,7 @@ own_decided scene x e =
 node_left : Scene → View → ℕ
 node_left scene v = unbegun_left scene (v ∷ []) 1 scene.sessions + (views_left scene 1 (v ∷ []) + 0)
 
+-- the measure at the only node
 left_is : (scene : Scene) (v : View) (w : World) → w.nodes ≡ v ∷ [] → w.sent ≡ [] → w.given ≡ [] → left scene w ≡ node_left scene v
 unfolding left node_left
 left_is scene v w n a g =

@@ -20,6 +20,7 @@ pub record IsSmall (d : Doing) : Type 0 where
   pub released : length d.released ≤ 1
   pub added : d.added ≤ 16
 
+-- each action adds little
 does_small : (scene : Scene) (v : View) (d : Doing) → IsScene scene → IsFirstView scene v → Does scene v d → IsSmall d
 unfolding begun closed
 does_small scene v d is h (begins place t ops s n) = record { sent = refl; released = omega arith; added = omega arith }

@@ -35,6 +35,7 @@ waits_again _ = false
 put_same : (i : ℕ) (x : Own) (d : Doing) → slice_get d.view.own i ≡ Some x → put i x d ≡ d
 put_same i x d e = ap (λ (xs : List Own). let r : Doing = record d { view = record (d.view) { own = xs } } in r) (set_got d.view.own i x e)
 
+-- there is no dependency to look at
 resolve_same : (here : Here) (i : ℕ) (x : Own) (d : Doing) → slice_get d.view.own i ≡ Some x → x.snap.deps ≡ [] → resolve_own here i x d ≡ d
 unfolding dep_turn
 resolve_same here i x d e n =
@@ -46,12 +47,15 @@ unless_same : (b : Bool) (f : Doing → Doing) (d : Doing) → (b ≡ false → 
 unless_same true f d h = refl
 unless_same false f d h = h refl
 
+-- nothing is done with the transaction at this place
 at_same : (i : ℕ) (f : Own → Doing → Doing) (x : Own) (d : Doing) → slice_get d.view.own i ≡ Some x → (is_decided x.phase ≡ false → f x d ≡ d) → at_own i f d ≡ d
 at_same i f x d e h = ap (λ o. of_own f o d) e ∙ unless_same (is_decided x.phase) (f x) d h
 
+-- no transaction stands at this place
 at_none : (i : ℕ) (f : Own → Doing → Doing) (d : Doing) → slice_get d.view.own i ≡ None → at_own i f d ≡ d
 at_none i f d e = ap (λ o. of_own f o d) e
 
+-- nothing is tried again
 again_same : (here : Here) (i : ℕ) (p : Phase) (x : Own) (d : Doing) → waits_again p ≡ false → again_own here i p x d ≡ d
 again_same here i Active x d e = refl
 again_same here i (ReadWait k) x d e = absurd (cc e)
@@ -71,6 +75,7 @@ half_same here i x d e n w =
     ap (λ (r : Doing). at_own i (λ y. again_own here i y.phase y) r) (at_same i (resolve_own here i) x d e (λ q. resolve_same here i x d e n))
     ∙ at_same i (λ y. again_own here i y.phase y) x d e (λ q. again_same here i x.phase x d w)
 
+-- a settled transaction waits for nothing
 settled_waits : (p : Phase) → is_settled p ≡ true → waits_again p ≡ false
 settled_waits Active e = refl
 settled_waits (ReadWait k) e = absurd (cc e)
@@ -83,6 +88,7 @@ settled_waits (Global lc) e = absurd (cc e)
 settled_waits (Committed lc fc) e = refl
 settled_waits (Aborted lc c) e = refl
 
+-- a settled transaction that is not decided is active
 settled_active : (p : Phase) → is_settled p ≡ true → is_decided p ≡ false → p ≡ Active
 settled_active Active e f = refl
 settled_active (ReadWait k) e f = absurd (cc e)

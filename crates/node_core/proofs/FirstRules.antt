@@ -39,6 +39,7 @@ use Rattle.node_core.proofs.Settling.{filter_none}
 
 -- ---- Final versions
 
+-- a version that is decided is Final
 final_is : (k : Kind) → not (is_undecided k) ≡ true → k ≡ Final
 final_is Pre e = absurd (cc e)
 final_is LocalKind e = absurd (cc e)
@@ -61,6 +62,7 @@ module _ (scene : Scene) (v : View) (is : IsScene scene) (f : IsFirst scene) (h 
   joined_same [] snap m = refl
   joined_same (w ∷ ws) snap m = ap (λ k. joined v.own ws (joined_one v.own w k snap)) (m w (inl refl)) ∙ joined_same ws snap (λ x k. m x (inr k))
 
+  -- each version of written keys is Final
   met_final : (ws : List Write) (w : Version) → In w (met ws v.versions) → w.kind ≡ Final
   met_final ws w m =
       let r = in_flat_map (λ u. chain u.key v.versions) ws w m in
@@ -68,6 +70,7 @@ module _ (scene : Scene) (v : View) (is : IsScene scene) (f : IsFirst scene) (h 
 
   -- ---- operations
 
+  -- a read
   read_is : (i : ℕ) (x : Own) (k : KeyId) → Goes v i x → own_op (first_here scene) x ≡ Some (Get k)
       → read_now (first_here scene) i k x (starts v) ≡ put i (first_read k x (visible v.versions k x.snap.rs)) (marked k x.snap.rs (starts v))
   unfolding read_now read_turn
@@ -99,6 +102,7 @@ module _ (scene : Scene) (v : View) (is : IsScene scene) (f : IsFirst scene) (h 
           (open_gate (accept_final x.snap u.ts.0) (Plain u.value (Some u.tx) u.ts.0 (accept_final x.snap u.ts.0)) deps)
           ∙ ap (λ o. put i (finish_next o u.value (noted k u.value (Some u.tx) (accept_final x.snap u.ts.0) x)) d) e)
 
+  -- an operation
   op_is : (i : ℕ) (x : Own) (op : Op) → Goes v i x → own_op (first_here scene) x ≡ Some op → do_op (first_here scene) i x op (starts v) ≡ first_op (first_here scene) i x op (starts v)
   op_is i x (Get k) g e = by_known (known x k)
     where
@@ -114,6 +118,7 @@ module _ (scene : Scene) (v : View) (is : IsScene scene) (f : IsFirst scene) (h 
 
   -- ---- the request to commit
 
+  -- a certification
   certify_is : (i : ℕ) (x : Own) → Goes v i x → (o : Option Version) → IsFirstView scene (first_certified (first_here scene) i x o (starts v)).view
       → after_rule (first_here scene) (cert_done (first_here scene) i x (cert_after (first_here scene) v x.snap x.writes o) (starts v)) ≡ first_certified (first_here scene) i x o (starts v)
   certify_is i x g (Some u) k =
@@ -127,12 +132,14 @@ module _ (scene : Scene) (v : View) (is : IsScene scene) (f : IsFirst scene) (h 
       (h.own i x g.at_).deps
       ∙ after_commits scene v is f h i (1 + max x.snap.rs (passed v x.writes)) x g k)
 
+  -- the request to commit
   commit_is : (i : ℕ) (x : Own) → Goes v i x → (ws : List Write) → x.writes ≡ ws → IsFirstView scene (first_commit (first_here scene) i x ws (starts v)).view
       → after_rule (first_here scene) (ask_commit (first_here scene) i x ws (starts v)) ≡ first_commit (first_here scene) i x ws (starts v)
   unfolding certify_now cert_turn
   commit_is i x g [] e k = after_closes scene v is f h i x g k
   commit_is i x g (w ∷ ws) e k = certify_is i x g (find (conflicts x.snap.rs) (met x.writes v.versions)) k
 
+  -- the next operation, or the request to commit
   own_is : (i : ℕ) (x : Own) → Goes v i x → (o : Option Op) → own_op (first_here scene) x ≡ o → IsFirstView scene (first_own (first_here scene) i x o (starts v)).view
       → after_rule (first_here scene) (op_or_commit (first_here scene) i x o (starts v)) ≡ first_own (first_here scene) i x o (starts v)
   own_is i x g (Some op) e k =
@@ -141,12 +148,14 @@ module _ (scene : Scene) (v : View) (is : IsScene scene) (f : IsFirst scene) (h 
 
   -- ---- sessions
 
+  -- the next transaction begins, where there is one
   begin_is : (place : TxPlace) (t : ℕ) (o : Option (List Op)) → ((d : Doing) → begin (first_here scene) place t o (starts v) ≡ Some d → IsFirstView scene d.view)
       → option_map (after_rule (first_here scene)) (begin (first_here scene) place t o (starts v)) ≡ begin (first_here scene) place t o (starts v)
   begin_is place t None k = refl
   begin_is place t (Some ops) k =
       ap (λ (z : Doing). Some z) (after_quiet scene v is f h (begun place (max (min t reading_limit) v.floor) (starts v)) (k (begun place (max (min t reading_limit) v.floor) (starts v)) refl))
 
+  -- the session's last transaction goes on, or the next one begins
   go_on_is : (s : SessionId) (t : ℕ) (text : Session) (i : ℕ) (x : Own) (p : Phase) → slice_get v.own i ≡ Some x → x.phase ≡ p
       → ((d : Doing) → first_go_on (first_here scene) s t text i x p (starts v) ≡ Some d → IsFirstView scene d.view)
       → option_map (after_rule (first_here scene)) (go_on (first_here scene) s t text i x p (starts v)) ≡ first_go_on (first_here scene) s t text i x p (starts v)
@@ -163,18 +172,21 @@ module _ (scene : Scene) (v : View) (is : IsScene scene) (f : IsFirst scene) (h 
   go_on_is s t text i x (Local lc) e a k = refl
   go_on_is s t text i x (Global lc) e a k = refl
 
+  -- the same of the transaction at a place
   go_on_at_is : (s : SessionId) (t : ℕ) (text : Session) (i : ℕ) (o : Option Own) → slice_get v.own i ≡ o
       → ((d : Doing) → first_go_on_at (first_here scene) s t text i o (starts v) ≡ Some d → IsFirstView scene d.view)
       → option_map (after_rule (first_here scene)) (go_on_at (first_here scene) s t text i o (starts v)) ≡ first_go_on_at (first_here scene) s t text i o (starts v)
   go_on_at_is s t text i None e k = refl
   go_on_at_is s t text i (Some x) e k = go_on_is s t text i x x.phase e refl k
 
+  -- the same of the session's last transaction
   last_is : (s : SessionId) (t : ℕ) (text : Session) (o : Option ℕ)
       → ((d : Doing) → first_go_on_last (first_here scene) s t text o (starts v) ≡ Some d → IsFirstView scene d.view)
       → option_map (after_rule (first_here scene)) (go_on_last (first_here scene) s t text o (starts v)) ≡ first_go_on_last (first_here scene) s t text o (starts v)
   last_is s t text None k = begin_is (place_in s 1) t (nth text.txs 1) k
   last_is s t text (Some i) k = go_on_at_is s t text i (slice_get v.own i) refl k
 
+  -- the same, where the session is one of this node
   node_is : (s : SessionId) (t : ℕ) (text : Session) (b : Bool)
       → ((d : Doing) → (if b then first_go_on_last (first_here scene) s t text (last_index (of_session s) v.own) (starts v) else None) ≡ Some d → IsFirstView scene d.view)
       → option_map (after_rule (first_here scene)) (if b then go_on_last (first_here scene) s t text (last_index (of_session s) v.own) (starts v) else None)
@@ -182,6 +194,7 @@ module _ (scene : Scene) (v : View) (is : IsScene scene) (f : IsFirst scene) (h 
   node_is s t text true k = last_is s t text (last_index (of_session s) v.own) k
   node_is s t text false k = refl
 
+  -- the same, where there is such a session
   session_is : (s : SessionId) (t : ℕ) (o : Option Session)
       → ((d : Doing) → first_in_session (first_here scene) s t o (starts v) ≡ Some d → IsFirstView scene d.view)
       → option_map (after_rule (first_here scene)) (in_session (first_here scene) s t o (starts v)) ≡ first_in_session (first_here scene) s t o (starts v)
