@@ -1,3 +1,5 @@
+pub mod Bounds
+pub mod Chains
 pub mod FirstActs
 pub mod FirstCommit
 pub mod FirstCounts
@@ -15,3 +17,6 @@ pub mod Ordered
 pub mod Places
 pub mod Settling
 pub mod Writes
+pub mod Turning
+pub mod Readying
+pub mod NodeLaws

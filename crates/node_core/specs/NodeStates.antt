@@ -4,7 +4,10 @@ use Rattle.str_base.specs.declared.names.NodeId.{NodeId}
 use Rattle.str_model.specs.declared.messages.Answer.{Answer}
 use Rattle.str_model.specs.declared.messages.Message.{Message}
 use Rattle.str_model.specs.Views.{Doing, View}
+use Rattle.str_scene.specs.FirstScenes.{IsFirst}
+use Rattle.str_scene.specs.SceneLimits.{IsScene}
 use Rattle.str_scene.specs.Scenes.{Here, Scene}
+use Rattle.node_core.specs.FirstViews.{IsFirstView}
 
 -- a node: its scene, its number, its plain view, and room for so many versions and list items
 pub record NodeState : Type 0 where
@@ -18,6 +21,13 @@ pub record OutState : Type 0 where
   pub messages : List Message
   pub answers : List Answer
   pub space : ℕ
+
+-- what the type of a node keeps
+pub record IsNode (scene : Scene) (id : NodeId) (v : View) : Type 0 where
+  pub scene_ : IsScene scene
+  pub first : IsFirst scene
+  pub one : id.0 ≡ 1
+  pub view : IsFirstView scene v
 
 -- the place at which a node steps
 abbrev pub here_of : NodeState → Here

@@ -3,3 +3,5 @@ pub mod SceneLimits
 pub mod Spelling
 pub mod FirstScenes
 pub mod TextLines
+pub mod Keys
+pub mod Building

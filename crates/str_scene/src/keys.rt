@@ -1,10 +1,15 @@
 //! The keys of a scene by number, and its byte strings.
-ghost use Rattle.std.specs.Prelude.{◌≡◌, [], length, OnOk, IfOk};
-ghost use Rattle.str_scene.specs.Scenes.{KeyTable as Table};
+ghost use Rattle.std.specs.Prelude.{◌≡◌, ◌≤◌, ◌<◌, [], length, OnOk, OnErr, OnSome, IfOk, IfNone, slice_get};
+ghost use Rattle.str_scene.specs.Keys.{number_of, place_of, same_pair, with_pair};
+ghost use Rattle.str_scene.specs.Scenes.{KeyTable as Table, named_part};
+ghost use Rattle.str_scene.specs.Spelling.{key_spelled};
 
 use std::alloc::{AllocError, Global};
 use std::marker::Model;
-use str_base::{PartId, ShortList};
+use str_base::{KeyId, PartId, ShortList};
+
+/// The most keys of a scene.
+const MOST_KEYS: usize = 16_384;
 
 /// The name of a key: 1 to 16 bytes.
 pub type Name = ShortList<u8, 16>;
@@ -42,6 +47,10 @@ impl Model for KeyTable {
     ghost Value = { Table };
 
     ghost view = { λ t. record { names = t.names.items; texts = t.texts.items } };
+
+    ghost use Rattle.std.specs.Prelude.{length, ◌≤◌};
+
+    ghost invariant = { λ t. length t.names.items ≤ 16384 };
 }
 
 impl NamedKey {
@@ -53,6 +62,13 @@ impl NamedKey {
             name: self.name.copy(),
             part: self.part,
         }
+    }
+
+    /// Whether this is the name and the partition.
+    fn is(&self, name: &Name, part: PartId) -> bool
+        ensures { result ≡ same_pair (name.now, part) self.now }
+    {
+        self.name.as_slice() == name.as_slice() && self.part == part
     }
 }
 
@@ -81,5 +97,55 @@ impl KeyTable {
             texts.push(text.copy())?;
         }
         Ok(KeyTable { names, texts })
+    }
+
+    /// The number of keys.
+    pub fn len(&self) -> u32
+        ensures value { result ≡ length self.now.names }
+        ensures limit { result ≤ 16384 }
+    {
+        self.names.len() as u32
+    }
+
+    /// The partition of a key.
+    pub fn part(&self, key: KeyId) -> PartId
+        requires { key.0 < length self.now.names }
+        ensures { result ≡ named_part (slice_get self.now.names key.0) }
+    {
+        let named = &self.names[key.0 as usize];
+        named.part
+    }
+
+    /// The place of a key, which is the number of keys where it is not there.
+    fn place(&self, name: &Name, part: PartId) -> usize
+        ensures { result ≡ place_of (name.now, part) self.now.names }
+    {
+        let mut place = 0;
+        for key in self.names.as_slice() {
+            if key.is(name, part) {
+                return place;
+            }
+            place += 1;
+        }
+        place
+    }
+
+    /// The number of a key, which is added at the end where it is not there. None where the table would then
+    /// have more than 16,384 keys; the table then stays as it was, as it does after an `Err`.
+    pub(crate) fn intern(&mut self, name: Name, part: PartId) -> Result<Option<KeyId>, AllocError>
+        ensures number { IfOk result (λ o. o ≡ number_of (name, part) self.old.names) }
+        ensures added { IfOk result (λ o. OnSome o (self.new ≡ record self.old { names = with_pair (name, part) self.old.names })) }
+        ensures none { IfOk result (λ o. IfNone o (self.new ≡ self.old)) }
+        ensures err { OnErr result (self.new ≡ self.old) }
+    {
+        let place = self.place(&name, part);
+        if place < self.names.len() {
+            return Ok(Some(KeyId(place as u32)));
+        }
+        if place >= MOST_KEYS {
+            return Ok(None);
+        }
+        self.names.push(NamedKey { name, part })?;
+        Ok(Some(KeyId(place as u32)))
     }
 }

@@ -1,11 +1,14 @@
 //! A scene: nodes, replicas, scripts and a schedule, with all its limits.
 #![tactic(auto)]
 
+mod build;
+pub mod first;
 pub mod keys;
 pub mod lines;
 pub mod names;
 pub mod scenes;
 
+pub use first::FirstFault;
 pub use keys::{ByteText, KeyTable, Name};
 pub use lines::Line;
 pub use names::{Event, Op, OpList, TxPlace};

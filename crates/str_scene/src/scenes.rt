@@ -48,6 +48,13 @@ impl Model for Scene {
 }
 
 impl SessionText {
+    /// A session with these scripts.
+    pub(crate) fn new(node: NodeId, txs: Vec<OpList>) -> SessionText
+        ensures { result ≡ record { node = node; txs = txs.items } }
+    {
+        SessionText { node, txs }
+    }
+
     /// The session's node.
     pub fn node(&self) -> NodeId
         ensures { result ≡ self.now.node }

@@ -1,0 +1,116 @@
+//! A node.
+ghost use Rattle.std.specs.List.{count_by};
+ghost use Rattle.std.specs.Prelude.{◌≡◌, ◌≤◌, IfOk, MatchOption, OnOk, false, is_some, length, not, true, ℕ};
+ghost use Rattle.node_core.specs.NodeStates.{SameLists, SameNode, Steps, here_of};
+ghost use Rattle.str_model.specs.declared.messages.Input.TheVariants.{Client};
+ghost use Rattle.str_model.specs.Runs.{opening_view};
+ghost use Rattle.str_model.specs.Steps.{need, step};
+ghost use Rattle.str_model.specs.Views.{is_decided};
+ghost use Rattle.str_scene.specs.FirstScenes.{IsFirst};
+
+use crate::outbox::Outbox;
+use crate::scripts::{client_turn, turn_for};
+use crate::state::State;
+use std::alloc::{AllocError, Global};
+use std::marker::{Model, Send, Sync};
+use str_base::{NodeId, SessionId};
+use str_model::Input;
+use str_scene::Scene;
+
+/// How many versions, list items, messages and answers a step adds at most.
+const MOST: usize = 17;
+
+/// The node of a first scene. It is seen as its scene, its number, its view and the room for more items.
+#[derive(Drop)]
+pub struct Node {
+    id: NodeId,
+    scene: Scene,
+    state: State,
+}
+
+impl Model for Node {
+    ghost use Rattle.node_core.specs.NodeStates.{IsNode, NodeState};
+
+    ghost Value = { NodeState };
+
+    ghost view = { λ n. record { scene = n.scene; id = n.id; view = n.state.view; room = n.state.room } };
+
+    ghost invariant = { λ n. IsNode n.scene n.id n.state.view };
+}
+
+impl Node {
+    /// Makes room for the next step on this input in the node and in the outbox, and gives a number that is as
+    /// great as the need at least. The view and the lists stay, also after an error.
+    pub fn ready(&mut self, input: &Input, out: &mut Outbox) -> Result<usize, AllocError>
+        ensures need { IfOk result (λ n. need (here_of self.old) input.now self.old.view ≤ n) }
+        ensures room_made { IfOk result (λ n. n ≤ self.new.room) }
+        ensures space_made { IfOk result (λ n. n ≤ out.new.space) }
+        ensures node { SameNode self.old self.new }
+        ensures lists { SameLists out.old out.new }
+        ensures room { self.old.room ≤ self.new.room }
+        ensures space { out.old.space ≤ out.new.space }
+    {
+        let _ = &self.id;
+        self.state.reserve(MOST)?;
+        out.reserve(MOST)?;
+        Ok(MOST)
+    }
+
+    /// Does the step on this input, and appends what it sends and releases. It answers false exactly where the
+    /// input is idle, and then nothing changes.
+    pub fn step(&mut self, input: &Input, out: &mut Outbox) -> bool
+        requires room { need (here_of self.old) input.now self.old.view ≤ self.old.room }
+        requires space { need (here_of self.old) input.now self.old.view ≤ out.old.space }
+        ensures { MatchOption (step (here_of self.old) input.now self.old.view) ((result ≡ false) × (self.new ≡ self.old) × (out.new ≡ out.old)) (λ d. (result ≡ true) × Steps self.old self.new out.old out.new d) }
+    {
+        let turn = turn_for(&self.scene, self.id, &self.state, input);
+        if turn.is_idle() {
+            return false;
+        }
+        self.state.apply(self.id, turn, out);
+        true
+    }
+
+    /// Whether a client step of this session is idle.
+    pub fn client_idle(&self, session: SessionId) -> bool
+        ensures { (t : ℕ) → result ≡ not (is_some (step (here_of self.now) (Client session t) self.now.view)) }
+    {
+        client_turn(&self.scene, self.id, &self.state, session, 0).is_idle()
+    }
+
+    /// The number of transactions that have begun.
+    pub fn begun(&self) -> u32
+        ensures { result ≡ length self.now.view.own }
+    {
+        let _ = &self.id;
+        self.state.own().len() as u32
+    }
+
+    /// The number of transactions that have begun and are undecided.
+    pub fn held(&self) -> u32
+        ensures { result ≡ count_by (λ x. not (is_decided x.phase)) self.now.view.own }
+    {
+        let _ = &self.id;
+        let own = self.state.own();
+        let mut held = 0;
+        for x in own {
+            if !x.is_decided() {
+                held += 1;
+            }
+        }
+        held
+    }
+
+    /// The scene.
+    pub fn scene(&self) -> &Scene
+        ensures { result.now ≡ self.now.scene }
+    {
+        &self.scene
+    }
+}
+
+fn sendable<T: Send + Sync>(_: &T) {}
+
+fn all_sendable(node: &Node) {
+    sendable(node);
+}

@@ -1,0 +1,3 @@
+mod Counts
+mod Each
+mod Pairs
