@@ -3,3 +3,4 @@ pub mod SceneLimits
 pub mod Spelling
 pub mod FirstScenes
 pub mod TextLines
+pub mod Keeping
