@@ -1,2 +1,3 @@
 pub mod FirstRuns
 pub mod FirstDrains
+pub mod Failing

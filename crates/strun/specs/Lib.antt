@@ -1,1 +1,2 @@
 pub mod ClusterStates
+pub mod Printing
