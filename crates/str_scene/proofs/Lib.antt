@@ -1,3 +1,4 @@
 mod Counts
 mod Each
 mod Pairs
+pub mod KeepingLemmas

@@ -5,3 +5,4 @@ pub mod FirstScenes
 pub mod TextLines
 pub mod Keys
 pub mod Building
+pub mod Keeping

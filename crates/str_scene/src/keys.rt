@@ -1,12 +1,13 @@
 //! The keys of a scene by number, and its byte strings.
-ghost use Rattle.std.specs.Prelude.{◌≡◌, ◌≤◌, ◌<◌, [], length, OnOk, OnErr, OnSome, IfOk, IfNone, slice_get};
+ghost use Rattle.std.specs.Prelude.{◌≡◌, ◌≤◌, ◌<◌, ◌++◌, [], Some, flat_map, length, OnOk, OnErr, OnSome, IfOk, IfNone, slice_get};
+ghost use Rattle.str_scene.specs.Keeping.{Keeps};
 ghost use Rattle.str_scene.specs.Keys.{number_of, place_of, same_pair, with_pair};
 ghost use Rattle.str_scene.specs.Scenes.{KeyTable as Table, named_part};
-ghost use Rattle.str_scene.specs.Spelling.{key_spelled};
+ghost use Rattle.str_scene.specs.Spelling.{hex_byte, hex_digit, key_spelled, name_spelled, text_spelled};
 
 use std::alloc::{AllocError, Global};
 use std::marker::Model;
-use str_base::{KeyId, PartId, ShortList};
+use str_base::{KeyId, PartId, ShortList, TextId, push_u64};
 
 /// The most keys of a scene.
 const MOST_KEYS: usize = 16_384;
@@ -147,5 +148,107 @@ impl KeyTable {
         }
         self.names.push(NamedKey { name, part })?;
         Ok(Some(KeyId(place as u32)))
+    }
+
+    /// Appends a key as text: its name, `@` and its partition. A number that is no key's appends nothing.
+    /// It fails where memory runs out, and then the bytes stay as they were.
+    pub fn push_key(&self, key: KeyId, out: &mut Vec<u8>) -> Result<(), AllocError>
+        ensures ok { OnOk result (out.new.items ≡ out.old.items ++ key_spelled self.now key) }
+        ensures err { OnErr result (out.new.items ≡ out.old.items) }
+    {
+        let Some(named) = self.names.get(key.0 as usize) else {
+            return Ok(());
+        };
+        let start = out.len();
+        match push_named(named, out) {
+            Ok(()) => Ok(()),
+            Err(error) => {
+                out.truncate(start);
+                Err(error)
+            }
+        }
+    }
+
+    /// Appends a byte string as text: `x`, then two digits for each byte. A number that is no byte string's
+    /// appends nothing. It fails where memory runs out, and then the bytes stay as they were.
+    pub fn push_text(&self, text: TextId, out: &mut Vec<u8>) -> Result<(), AllocError>
+        ensures ok { OnOk result (out.new.items ≡ out.old.items ++ text_spelled (slice_get self.now.texts text.0)) }
+        ensures err { OnErr result (out.new.items ≡ out.old.items) }
+    {
+        let Some(bytes) = self.texts.get(text.0 as usize) else {
+            return Ok(());
+        };
+        let start = out.len();
+        match push_bytes(bytes.as_slice(), out) {
+            Ok(()) => Ok(()),
+            Err(error) => {
+                out.truncate(start);
+                Err(error)
+            }
+        }
+    }
+}
+
+/// Appends a key as text. What was there stays, also where it fails.
+#[tactic(auto, using(crate::proofs::KeepingLemmas::keeping))]
+fn push_named(key: &NamedKey, out: &mut Vec<u8>) -> Result<(), AllocError>
+    ensures ok { OnOk result (out.new.items ≡ out.old.items ++ name_spelled (Some key.now)) }
+    ensures err { OnErr result (Keeps out.old.items out.new.items) }
+{
+    out.extend_from_slice(key.name.as_slice())?;
+    out.extend_from_slice(b"@")?;
+    push_u64(out, u64::from(key.part.0))
+}
+
+/// Appends a byte string as text. What was there stays, also where it fails.
+#[tactic(auto, using(crate::proofs::KeepingLemmas::keeping))]
+fn push_bytes(bytes: &[u8], out: &mut Vec<u8>) -> Result<(), AllocError>
+    ensures ok { OnOk result (out.new.items ≡ out.old.items ++ text_spelled (Some bytes.now)) }
+    ensures err { OnErr result (Keeps out.old.items out.new.items) }
+{
+    out.extend_from_slice(b"x")?;
+    for byte in bytes {
+        let digits = [hex_digit(*byte / 16), hex_digit(*byte % 16)];
+        out.extend_from_slice(&digits)?;
+    }
+    Ok(())
+}
+
+/// The digit of a number from 0 to 15.
+fn hex_digit(n: u8) -> u8
+    requires { n < 16 }
+    ensures { result ≡ hex_digit n }
+{
+    if n < 10 { b'0' + n } else { b'a' - 10 + n }
+}
+
+#[cfg(test)]
+mod tests {
+    use super::*;
+    use std::test::Fail;
+
+    #[test]
+    fn writes_keys_and_texts(rt: HostRuntime) -> Result<(), Fail> {
+        let mut name = Name::new();
+        name.push(b'a');
+        let mut bytes = ByteText::new();
+        bytes.push(0);
+        bytes.push(0xb9);
+        let part = PartId(12);
+        let names = Vec::from_array(rt.alloc(), [NamedKey { name, part }])?;
+        let texts = Vec::from_array(rt.alloc(), [ByteText::new(), bytes])?;
+        let table = KeyTable { names, texts };
+        let mut out = Vec::new(rt.alloc());
+        for number in 0..2 {
+            table.push_key(KeyId(number), &mut out)?;
+            out.push(b' ')?;
+        }
+        for number in 0..3 {
+            table.push_text(TextId(number), &mut out)?;
+            out.push(b' ')?;
+        }
+        let want: &[u8] = b"a@12  x x00b9  ";
+        assert_eq!(rt; out.as_slice(), want);
+        Ok(())
     }
 }

@@ -1,3 +1,4 @@
 pub mod FirstRuns
 pub mod FirstDrains
 pub mod FirstDrained
+pub mod Failing

@@ -1,2 +1,3 @@
 pub mod ClusterStates
 pub mod Tops
+pub mod Printing

@@ -1,4 +1,6 @@
 //! The program `strun`.
 #![tactic(auto)]
 
+mod lines;
+
 fn main() {}
