@@ -92,7 +92,6 @@ fn push_tx(tx: TxId, out: &mut Vec<u8>) -> Result<(), AllocError>
 }
 
 /// Appends a value.
-#[tactic(auto, using(str_scene::proofs::KeepingLemmas::keeping))]
 fn push_value(value: Value, keys: &KeyTable, out: &mut Vec<u8>) -> Result<(), AllocError>
     ensures ok { OnOk result (out.new.items ≡ out.old.items ++ value_spelled keys.now value) }
     ensures err { OnErr result (out.new.items ≡ out.old.items) }
@@ -129,7 +128,6 @@ fn push_gets(gets: &[Got], keys: &KeyTable, out: &mut Vec<u8>) -> Result<(), All
 }
 
 /// Appends a final timestamp, a minus where there is none.
-#[tactic(auto, using(str_scene::proofs::KeepingLemmas::keeping))]
 fn push_fc(fc: Option<Ts>, out: &mut Vec<u8>) -> Result<(), AllocError>
     ensures ok { OnOk result (out.new.items ≡ out.old.items ++ fc_spelled fc) }
     ensures err { OnErr result (out.new.items ≡ out.old.items) }
@@ -163,7 +161,8 @@ fn push_conflict(
 /// Appends that a dependency committed too late.
 #[tactic(auto, using(str_scene::proofs::KeepingLemmas::keeping))]
 fn push_late(by: TxId, fc: Ts, out: &mut Vec<u8>) -> Result<(), AllocError>
-    ensures ok { OnOk result (out.new.items ≡ out.old.items ++ (codes "late " ++ tx_spelled by ++ codes " fc=" ++ decimal fc.0)) }
+    ensures ok { OnOk result (out.new.items ≡ out.old.items
+        ++ (codes "late " ++ tx_spelled by ++ codes " fc=" ++ decimal fc.0)) }
     ensures err { OnErr result (Keeps out.old.items out.new.items) }
 {
     out.extend_from_slice(b"late ")?;
@@ -252,7 +251,10 @@ fn push_answer(answer: &Answer, keys: &KeyTable, out: &mut Vec<u8>) -> Result<()
 /// Appends the first three numbers of the last line.
 #[tactic(auto, using(str_scene::proofs::KeepingLemmas::keeping))]
 fn push_ended(counts: &Counts, out: &mut Vec<u8>) -> Result<(), AllocError>
-    ensures ok { OnOk result (out.new.items ≡ out.old.items ++ (codes "end commits=" ++ decimal counts.now.commits ++ codes " aborts=" ++ decimal counts.now.aborts ++ codes " held=" ++ decimal counts.now.held)) }
+    ensures ok { OnOk result (out.new.items ≡ out.old.items
+        ++ (codes "end commits=" ++ decimal counts.now.commits
+        ++ codes " aborts=" ++ decimal counts.now.aborts
+        ++ codes " held=" ++ decimal counts.now.held)) }
     ensures err { OnErr result (Keeps out.old.items out.new.items) }
 {
     push_field(b"end commits=", counts.commits, out)?;
