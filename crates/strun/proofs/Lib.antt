@@ -2,3 +2,4 @@ pub mod FirstRuns
 pub mod FirstDrains
 pub mod FirstDrained
 pub mod Failing
+pub mod FirstEvents
