@@ -1,3 +1,5 @@
+mod Built
 mod Counts
 mod Each
 mod Pairs
+mod Steps
