@@ -2,4 +2,5 @@ mod Built
 mod Counts
 mod Each
 mod Pairs
+mod Sound
 mod Steps
