@@ -1,7 +1,7 @@
 //! The lines of the text of a first scene.
 ghost use Rattle.std.specs.Fmt.{signed_decimal};
 ghost use Rattle.std.specs.List.{list_all};
-ghost use Rattle.std.specs.Prelude.{◌≡◌, ◌<◌, ◌≤◌, ◌+◌, ◌^◌, ◌++◌, ◌∷◌, [], ◌==◌, ℕ, ℤ, List, true, false, not, IfSome, IsNone, codes, decimal, drop, length, slice_get, slice_range};
+ghost use Rattle.std.specs.Prelude.{◌≡◌, ◌<◌, ◌≤◌, ◌+◌, ◌^◌, ◌++◌, ◌∷◌, [], ◌==◌, ℕ, ℤ, List, true, false, not, IfSome, IsNone, codes, decimal, drop, length, slice_get, slice_range, take};
 ghost use Rattle.str_scene.specs.SceneLimits.{IsNumber, in_name, is_name};
 ghost use Rattle.str_scene.specs.TextLines.{IsLine, is_without, is_word_line, line_spelled};
 ghost use Rattle.str_scene.specs.declared.lines.Line.{Line};
@@ -58,7 +58,10 @@ pub fn next_feed(text: &[u8], start: usize) -> Option<usize>
     ensures after { IfSome result (λ i. start ≤ i) }
     ensures feed { IfSome result (λ i. slice_get text.now i ≡ Some 10) }
     ensures line { IfSome result (λ i. is_without 10 (slice_range text.now start i) ≡ true) }
-    ensures parts { IfSome result (λ i. drop start text.now ≡ slice_range text.now start i ++ 10 ∷ drop (i + 1) text.now) }
+    ensures parts { IfSome result
+        (λ i. drop start text.now ≡ slice_range text.now start i ++ 10 ∷ drop (i + 1) text.now) }
+    ensures passed { IfSome result
+        (λ i. take (i + 1) text.now ≡ take start text.now ++ (slice_range text.now start i ++ 10 ∷ [])) }
     ensures none { IsNone result → is_without 10 (drop start text.now) ≡ true }
 {
     place_of(text, b'\n', start)
@@ -138,7 +141,8 @@ fn rest_after<'a>(bytes: &'a [u8], prefix: &[u8]) -> Option<&'a [u8]>
 /// The line without an argument that the bytes spell, and `None` where they spell none.
 fn word_line(line: &[u8]) -> Option<Line>
     ensures line { IfSome result (λ l. IsLine l × (line.now ≡ line_spelled l)) }
-    ensures none { IsNone result → (l : Line) → is_word_line l ≡ true → ¬ (line.now ≡ line_spelled l) }
+    ensures none { IsNone result → (l : Line) → is_word_line l ≡ true
+        → ¬ (line.now ≡ line_spelled l) }
 {
     if line == b"str 1".as_slice() {
         return Some(Line::Version);
@@ -172,7 +176,8 @@ fn word_line(line: &[u8]) -> Option<Line>
 fn key_parts<'a>(line: &'a [u8], word: &[u8]) -> Option<(&'a [u8], &'a [u8])>
     ensures parts { IfSome result (λ p. line.now ≡ word.now ++ (p.0.now ++ 64 ∷ 49 ∷ p.1.now)) }
     ensures first { IfSome result (λ p. is_without 64 p.0.now ≡ true) }
-    ensures none { IsNone result → (name rest : List ℕ) → is_without 64 name ≡ true → ¬ (line.now ≡ word.now ++ (name ++ 64 ∷ 49 ∷ rest)) }
+    ensures none { IsNone result → (name rest : List ℕ) → is_without 64 name ≡ true
+        → ¬ (line.now ≡ word.now ++ (name ++ 64 ∷ 49 ∷ rest)) }
 {
     let (name, part) = split_at_byte(rest_after(line, word)?, b'@')?;
     Some((name, rest_after(part, b"1")?))
@@ -181,7 +186,8 @@ fn key_parts<'a>(line: &'a [u8], word: &[u8]) -> Option<(&'a [u8], &'a [u8])>
 /// The name of the key in the line `get K`, and `None` where the line is no such line.
 fn get_line(line: &[u8]) -> Option<Name>
     ensures line { IfSome result (λ name. IsLine (LGet name) × (line.now ≡ line_spelled (LGet name))) }
-    ensures none { IsNone result → (name : List ℕ) → IsLine (LGet name) → ¬ (line.now ≡ line_spelled (LGet name)) }
+    ensures none { IsNone result → (name : List ℕ) → IsLine (LGet name)
+        → ¬ (line.now ≡ line_spelled (LGet name)) }
 {
     let (name, rest) = key_parts(line, b"get ")?;
     if rest.is_empty() {
@@ -194,7 +200,8 @@ fn get_line(line: &[u8]) -> Option<Name>
 /// The name of the key and the number in the line `put K V`, and `None` where the line is no such line.
 fn put_line(line: &[u8]) -> Option<(Name, i64)>
     ensures line { IfSome result (λ p. IsLine (LPut p.0 p.1) × (line.now ≡ line_spelled (LPut p.0 p.1))) }
-    ensures none { IsNone result → (name : List ℕ) (n : ℤ) → IsLine (LPut name n) → ¬ (line.now ≡ line_spelled (LPut name n)) }
+    ensures none { IsNone result → (name : List ℕ) (n : ℤ) → IsLine (LPut name n)
+        → ¬ (line.now ≡ line_spelled (LPut name n)) }
 {
     let (name, rest) = key_parts(line, b"put ")?;
     let number = read_i64(rest_after(rest, b" ")?)?;
@@ -204,7 +211,8 @@ fn put_line(line: &[u8]) -> Option<(Name, i64)>
 /// The session and the reading in the line `c S T`, and `None` where the line is no such line.
 fn client_line(line: &[u8]) -> Option<(SessionId, u64)>
     ensures line { IfSome result (λ p. IsLine (LClient p.0 p.1) × (line.now ≡ line_spelled (LClient p.0 p.1))) }
-    ensures none { IsNone result → (s : Session) (t : ℕ) → IsLine (LClient s t) → ¬ (line.now ≡ line_spelled (LClient s t)) }
+    ensures none { IsNone result → (s : Session) (t : ℕ) → IsLine (LClient s t)
+        → ¬ (line.now ≡ line_spelled (LClient s t)) }
 {
     let (session, reading) = split_at_byte(rest_after(line, b"c ")?, b' ')?;
     let session = u8::try_from(read_u64(session)?).ok()?;
@@ -226,4 +234,73 @@ pub fn read_line(line: &[u8]) -> Option<Line>
         return Some(Line::Client(session, reading));
     }
     word_line(line)
+}
+
+#[cfg(test)]
+mod tests {
+    use super::*;
+    use std::test::Fail;
+
+    fn is_line(line: &[u8]) -> bool {
+        read_line(line).is_some()
+    }
+
+    #[test]
+    fn lines_good_and_bad(rt: HostRuntime) {
+        let good: [&[u8]; 12] = [
+            b"str 1",
+            b"nodes 1",
+            b"part 1 1",
+            b"session 1",
+            b"tx",
+            b"get a@1",
+            b"get a_1234567890_bc@1",
+            b"put a@1 -9223372036854775808",
+            b"schedule",
+            b"c 255 18446744073709551615",
+            b"drain",
+            b"end",
+        ];
+        for line in good {
+            assert!(rt; is_line(line));
+        }
+        let bad: [&[u8]; 20] = [
+            b"",
+            b"str 2",
+            b" tx",
+            b"tx ",
+            b"Tx",
+            b"get A@1",
+            b"get 1a@1",
+            b"get a@2",
+            b"get a@1 ",
+            b"get @1",
+            b"get  a@1",
+            b"get abcdefghijklmnopq@1",
+            b"put a@1",
+            b"put a@1 +5",
+            b"put a@1 007",
+            b"put a@1 -0",
+            b"put a@1 9223372036854775808",
+            b"c 1 18446744073709551616",
+            b"c 256 0",
+            b"c 1  0",
+        ];
+        for line in bad {
+            assert!(rt; !is_line(line));
+        }
+    }
+
+    #[test]
+    fn arguments(rt: HostRuntime) -> Result<(), Fail> {
+        let (name, number) = put_line(b"put b_2@1 -70").ok_or("no put")?;
+        assert_eq!(rt; name.as_slice(), b"b_2".as_slice());
+        assert_eq!(rt; number, -70);
+        let (session, reading) = client_line(b"c 3 12").ok_or("no client step")?;
+        assert_eq!(rt; session, SessionId(3));
+        assert_eq!(rt; reading, 12);
+        assert_eq!(rt; next_feed(b"tx\nend\n", 3), Some(6));
+        assert_eq!(rt; next_feed(b"tx\nend", 3), None);
+        Ok(())
+    }
 }
