@@ -1,6 +1,10 @@
+mod Bridge
 mod Built
+mod Complete
 mod Counts
 mod Each
 mod Pairs
+mod Reading
 mod Sound
 mod Steps
+pub mod TextLines
