@@ -3,8 +3,7 @@ use Rattle.std.proofs.Common.{Bool, List, None, Option, Some, [], false, length,
 use Rattle.std.specs.Prelude.{flat_map, ⊤}
 use Rattle.std.specs.List.{sum_by}
 use Rattle.str_base.specs.declared.names.PartId.{PartId}
-use Rattle.str_scene.proofs.Each.{Each}
-use Rattle.str_scene.specs.Building.{Build}
+use Rattle.str_scene.specs.Building.{Each, Build}
 use Rattle.str_scene.specs.SceneLimits.{IsNumber, counted, is_name, key_of}
 use Rattle.str_scene.specs.Scenes.{KeyTable, Session}
 use Rattle.str_scene.specs.TextLines.{drain_line, event_lines, one_session_lines, script_lines}

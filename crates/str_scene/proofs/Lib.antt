@@ -3,6 +3,7 @@ mod Built
 mod Complete
 mod Counts
 mod Each
+mod GoodScenes
 mod Pairs
 mod Reading
 mod Sound

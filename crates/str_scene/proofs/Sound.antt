@@ -8,9 +8,9 @@ use Rattle.std.proofs.lemmas.Grind.{flat_map-append}
 use Rattle.str_base.specs.declared.names.NodeId.{NodeId}
 use Rattle.str_base.specs.declared.names.PartId.{PartId}
 use Rattle.str_scene.proofs.Built.{Fine, GoodEvent, GoodName, GoodOp, GoodScript, GoodSession, IsBuilt, Next, built_ops, mk, script_ops, session_ops}
-use Rattle.str_scene.proofs.Each.{Each, each_append, each_at, each_weaker}
+use Rattle.str_scene.proofs.Each.{each_append, each_at, each_weaker}
 use Rattle.str_scene.proofs.Steps.{next_run}
-use Rattle.str_scene.specs.Building.{Build, empty_build, run, scene_of}
+use Rattle.str_scene.specs.Building.{Each, Build, empty_build, run, scene_of}
 use Rattle.str_scene.specs.FirstScenes.{IsFirst, is_client, is_get_or_put}
 use Rattle.str_scene.specs.SceneLimits.{Exists, IsEvent, IsKey, IsOp, IsRow, IsScene, IsScript, IsSession, IsTable, counted, key_of, text_of}
 use Rattle.str_scene.specs.Scenes.{KeyTable, Scene, Session}

@@ -11,8 +11,8 @@ use Rattle.str_base.specs.declared.names.SessionId.{SessionId}
 use Rattle.str_scene.proofs.Built.{Adds, Distinct, Extends, Fine, GoodEvent, GoodName, GoodOp, GoodScript, GoodSession, IsBuilt, Next, Room, body_lines, built_ops, lines_at, mk, script_ops, session_ops, sessions_open, tx_count, txs_open}
 use Rattle.str_scene.proofs.Counts.{counted-append, counted_next, counted_old}
 use Rattle.str_scene.proofs.Pairs.{Interned, interned}
-use Rattle.str_scene.proofs.Each.{Each, each_push, each_weaker, get_left, get_middle, get_push}
-use Rattle.str_scene.specs.Building.{Build, begun_schedule, begun_session, begun_tx, closed_script, closed_session, closed_tx, ended_session, in_first, run, take_client, take_drain, take_end, take_line, take_nodes, take_op, take_part, take_version, with_op}
+use Rattle.str_scene.proofs.Each.{each_push, each_weaker, get_left, get_middle, get_push}
+use Rattle.str_scene.specs.Building.{Each, Build, begun_schedule, begun_session, begun_tx, closed_script, closed_session, closed_tx, ended_session, in_first, run, take_client, take_drain, take_end, take_line, take_nodes, take_op, take_part, take_version, with_op}
 use Rattle.str_scene.specs.Keys.{number_of, place_of, with_pair}
 use Rattle.str_scene.specs.SceneLimits.{IsNumber, counted, is_name, key_of}
 use Rattle.str_scene.specs.Scenes.{KeyTable, Session}
