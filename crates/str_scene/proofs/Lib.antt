@@ -6,6 +6,7 @@ mod Each
 mod GoodScenes
 mod Pairs
 mod Reading
+mod Runs
 mod Sound
 mod Steps
 pub mod TextLines

@@ -5,6 +5,7 @@ use Rattle.std.specs.Prelude.{option_and_then}
 use Rattle.str_scene.proofs.Bridge.{bridge}
 use Rattle.str_scene.proofs.Complete.{complete}
 use Rattle.str_scene.proofs.Each.{each_push}
+use Rattle.str_scene.proofs.Runs.{run-append}
 use Rattle.str_scene.proofs.Sound.{Sound, sound}
 use Rattle.str_scene.proofs.TextLines.{line_refused, line_taken, lines_text-nonempty, lines_text-push, no_feed_text}
 use Rattle.str_scene.specs.Building.{Build, Each, GoesOn, IsRead, LeadsNowhere, Left, empty_build, run, scene_of, take_line}
@@ -51,16 +52,6 @@ out_of_place text start line rest m b goes l whole parts is spelled none =
     (λ k ks i j e.
         let same : k ≡ m = (line_taken k m ks (drop start text) line rest i is whole parts spelled e).0 in
         ap (λ x. option_and_then (run ks) (take_line b x)) same ∙ ap (option_and_then (run ks)) none)
-
-run_more : (ls ms : List Line) → ((c : Build) → run (ls ++ ms) c ≡ option_and_then (run ms) (run ls c)) → (o : Option Build) →
-    option_and_then (run (ls ++ ms)) o ≡ option_and_then (run ms) (option_and_then (run ls) o)
-run_more ls ms f None = refl
-run_more ls ms f (Some c) = f c
-
--- lines one after the other
-run-append : (ls ms : List Line) (b : Build) → run (ls ++ ms) b ≡ option_and_then (run ms) (run ls b)
-run-append [] ms b = refl
-run-append (l ∷ ls) ms b = run_more ls ms (λ c. run-append ls ms c) (take_line b l)
 
 -- a line more is read
 pub read_more : (text : List ℕ) (start feed : ℕ) (line : List ℕ) (m : Line) (b b' : Build) → IsRead (take start text) b →
