@@ -56,7 +56,7 @@ op_text table (Get k) good h =
 op_text table (Put k n) good h =
     let name = name_of_key table k in
     ap (λ xs. (codes "put " ++ (xs ++ signed_decimal n)) ∷ [])
-        (sym (append_assoc name (codes "@1") (codes " ")) ∙ ap (λ xs. xs ++ codes " ") (sym (named table k good h.0).spelled))
+    (sym (append_assoc name (codes "@1") (codes " ")) ∙ ap (λ xs. xs ++ codes " ") (sym (named table k good h.0).spelled))
 op_text table _ good h = absurd h
 
 op_line : (table : KeyTable) (o : Op) → Each GoodName table.names → GoodOp (length table.names) o → Each IsLine (op_lines table o)
@@ -120,9 +120,9 @@ all_text : (s : Scene) → IsFirst s → GoodScene s → map line_spelled (first
 all_text s first good =
     let last = LSchedule ∷ (flat_map event_lines s.schedule ++ (drain_line s.drain ++ LEnd ∷ [])) in
     ap (λ xs. codes "str 1" ∷ codes "nodes 1" ∷ codes "part 1 1" ∷ xs)
-        (map-append line_spelled (flat_map (one_session_lines s.keys) s.sessions) last
-        ∙ (ap (λ xs. xs ++ map line_spelled last) (sessions_text s.keys s.sessions good.names good.sessions)
-        ∙ ap (λ xs. flat_map (session_lines s.keys) s.sessions ++ xs) (tail_text (length s.sessions) s good.events)))
+    (map-append line_spelled (flat_map (one_session_lines s.keys) s.sessions) last
+    ∙ (ap (λ xs. xs ++ map line_spelled last) (sessions_text s.keys s.sessions good.names good.sessions)
+    ∙ ap (λ xs. flat_map (session_lines s.keys) s.sessions ++ xs) (tail_text (length s.sessions) s good.events)))
     ∙ ap (λ xs. xs ++ (flat_map (session_lines s.keys) s.sessions ++ tail_lines s)) (head_text s first)
 
 text_lines : (ls : List Line) → lines_text ls ≡ flat_map ended (map line_spelled ls)
@@ -158,9 +158,19 @@ bridge s scene first =
     let good = good_scene s scene first in
     record {
       text = sym (text_lines (first_lines s) ∙ ap (flat_map ended) (all_text s first good));
-      are_lines = (tt, (tt, (tt,
-          each_append IsLine (flat_map (one_session_lines s.keys) s.sessions) (LSchedule ∷ (flat_map event_lines s.schedule ++ (drain_line s.drain ++ LEnd ∷ [])))
-              (sessions_lines s.keys s.sessions good.names good.sessions)
-              (tt, each_append IsLine (flat_map event_lines s.schedule) (drain_line s.drain ++ LEnd ∷ [])
-                  (events_lines (length s.sessions) (omega (arith, scene.few_sessions)) s.schedule good.events) (drain_is_line s.drain)))));
+      are_lines = (
+        tt,
+        (
+          tt,
+          (
+            tt,
+            each_append IsLine (flat_map (one_session_lines s.keys) s.sessions) (LSchedule ∷ (flat_map event_lines s.schedule ++ (drain_line s.drain ++ LEnd ∷ [])))
+                (sessions_lines s.keys s.sessions good.names good.sessions) (
+                  tt,
+                  each_append IsLine (flat_map event_lines s.schedule) (drain_line s.drain ++ LEnd ∷ [])
+                      (events_lines (length s.sessions) (omega (arith, scene.few_sessions)) s.schedule good.events) (drain_is_line s.drain),
+                ),
+          ),
+        ),
+      );
     }

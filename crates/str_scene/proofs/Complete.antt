@@ -122,10 +122,13 @@ in_order table k m ms end o l e =
     let at = key_at table k o.good l in
     let i = interned key (take m table.names) in
     elim (counted_cases m k.0 end ms e) [
-      inl h ↦ record { next = m; found = found_old table.names key m k.0 o.distinct at h.0 i; rest = h.1 }
-      | inr h ↦ record { next = m + 1;
-                         found = subst (λ j. Found table.names key m j (m + 1)) (sym h.0) (found_new table.names key m o.distinct (subst (λ j. slice_get table.names j ≡ Some key) h.0 at) i);
-                         rest = h.1 } ]
+      | inl h ↦ record { next = m; found = found_old table.names key m k.0 o.distinct at h.0 i; rest = h.1 }
+      | inr h ↦ record {
+        next = m + 1;
+        found = subst (λ j. Found table.names key m j (m + 1)) (sym h.0) (found_new table.names key m o.distinct (subst (λ j. slice_get table.names j ≡ Some key) h.0 at) i);
+        rest = h.1;
+      }
+    ]
 
 -- the operations of a transaction are taken
 ops_run : (table : KeyTable) (ops : List Op) (m end n : ℕ) (ss : List Session) (txs : List (List Op)) (done : List Op) →
@@ -232,7 +235,7 @@ sessions_run table (s ∷ ss) m end n done b o h few most e at =
     let b2 : Build = txs.build in
     let same : ◌≡◌ {A = Session} (record { node = record { 0 = 1 }; txs = s.txs }) s = ap (λ k. record { node = k; txs = s.txs }) (sym h.0.0) in
     let closed : closed_session b2.stage b2 ≡ Some (mk Sessions (upto table p.middle) (done ++ s ∷ []) [] [] [] (n + length s.txs)) =
-        then_ended b2.stage b2 _ txs.closed ∙ ap (λ x. Some (mk Sessions (upto table p.middle) (done ++ x ∷ []) [] [] [] (n + length s.txs))) same in
+    then_ended b2.stage b2 _ txs.closed ∙ ap (λ x. Some (mk Sessions (upto table p.middle) (done ++ x ∷ []) [] [] [] (n + length s.txs))) same in
     let rest = sessions_run table ss p.middle end (n + length s.txs) (done ++ s ∷ []) b2 o h.1 (omega (arith, few, length-append done (s ∷ []))) (omega (arith, more)) p.second closed in
     record {
       build = rest.build;
@@ -310,7 +313,7 @@ complete s scene first =
     let ss = s.sessions in
     let n = length table.names in
     let few_keys : length table.names ≤ 16384 =
-        omega (arith, counted_le 0 n (flat_map key_of (session_ops ss)) scene.table.key_order, keys_le n (session_ops ss) (session_good n ss good.sessions), session_le n ss good.sessions, scene.few_transactions) in
+    omega (arith, counted_le 0 n (flat_map key_of (session_ops ss)) scene.table.key_order, keys_le n (session_ops ss) (session_good n ss good.sessions), session_le n ss good.sessions, scene.few_transactions) in
     let ordered : Ordered table = record { good = good.names; distinct = scene.table.distinct_keys; few = few_keys } in
     let few : length ss ≤ 16 = omega (arith, all_at_one n ss good.sessions, scene.at_one_node (record { 0 = 1 })) in
     let b0 : Build = mk Sessions (upto table 0) [] [] [] [] 0 in

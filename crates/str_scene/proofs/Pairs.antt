@@ -56,6 +56,7 @@ same_pair_true a b e =
     and_true true true e = (refl, refl)
     and_true true false e = absurd cc
     and_true false y e = absurd cc
+
     pair_same : (n m : List ℕ) (p q : ℕ) → n ≡ m → p ≡ q → ◌≡◌ {A = List ℕ × PartId} (n, record { 0 = p }) (m, record { 0 = q })
     pair_same n m p q e f = rw (e, f) refl
 

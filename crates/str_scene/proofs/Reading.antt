@@ -50,8 +50,8 @@ pub out_of_place : (text : List ℕ) (start : ℕ) (line rest : List ℕ) (m : L
 out_of_place text start line rest m b goes l whole parts is spelled none =
     goes_nowhere text (drop start text) b goes (rest_some text start l)
     (λ k ks i j e.
-        let same : k ≡ m = (line_taken k m ks (drop start text) line rest i is whole parts spelled e).0 in
-        ap (λ x. option_and_then (run ks) (take_line b x)) same ∙ ap (option_and_then (run ks)) none)
+    let same : k ≡ m = (line_taken k m ks (drop start text) line rest i is whole parts spelled e).0 in
+    ap (λ x. option_and_then (run ks) (take_line b x)) same ∙ ap (option_and_then (run ks)) none)
 
 -- a line more is read
 pub read_more : (text : List ℕ) (start feed : ℕ) (line : List ℕ) (m : Line) (b b' : Build) → IsRead (take start text) b →

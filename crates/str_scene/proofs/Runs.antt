@@ -13,4 +13,3 @@ run_more ls ms f (Some c) = f c
 pub run-append : (ls ms : List Line) (b : Build) → run (ls ++ ms) b ≡ option_and_then (run ms) (run ls b)
 run-append [] ms b = refl
 run-append (l ∷ ls) ms b = run_more ls ms (λ c. run-append ls ms c) (take_line b l)
-

@@ -27,8 +27,17 @@ use Rattle.str_scene.specs.declared.names.Op.TheVariants.{Get, Put}
 pub empty_fine : Fine empty_build
 empty_fine = record {
   built = record {
-    texts = refl; names = tt; distinct = λ i j k e f. absurd (cc); order = refl; in_sessions = tt; in_txs = tt; in_ops = tt;
-    few_ops = omega arith; events = tt; few_events = omega arith };
+    texts = refl;
+    names = tt;
+    distinct = λ i j k e f. absurd (cc);
+    order = refl;
+    in_sessions = tt;
+    in_txs = tt;
+    in_ops = tt;
+    few_ops = omega arith;
+    events = tt;
+    few_events = omega arith;
+  };
   room = record { few_sessions = omega arith; total = refl; few = omega arith; no_ops = λ _. refl; no_txs = λ _. refl };
   none_yet = (refl, refl);
 }

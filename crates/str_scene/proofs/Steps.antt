@@ -64,8 +64,10 @@ next_part : (stage : Stage) (keys : KeyTable) (ss : List Session) (txs : List (L
     Next (mk stage keys ss txs ops events n) (LPart ∷ []) b'
 next_part AfterNodes keys ss txs ops events n b' f e =
     subst (λ b. Next (mk AfterNodes keys ss txs ops events n) (LPart ∷ []) b) (same_Some _ _ e)
-    (record { fine = record { built = f.built; room = f.room; none_yet = f.none_yet.1 };
-              adds = λ table h. (h, ap (λ xs. body_lines table xs) f.none_yet.0) })
+    (record {
+      fine = record { built = f.built; room = f.room; none_yet = f.none_yet.1 };
+      adds = λ table h. (h, ap (λ xs. body_lines table xs) f.none_yet.0);
+    })
 next_part _ keys ss txs ops events n b' f e = absurd (none-some _ e)
 
 -- one thing more at the end of a list of lists
@@ -94,25 +96,31 @@ next_script : (ops : List Op) (keys : KeyTable) (ss : List Session) (txs : List 
 next_script [] keys ss txs events n b' f e = absurd (none-some _ e)
 next_script (op ∷ ops) keys ss txs events n b' f e =
     subst (λ b. Next (mk InTransaction keys ss txs (op ∷ ops) events n) [] b) (same_Some _ _ e)
-    (record { fine = record { built = record {
-                                texts = f.built.texts;
-                                names = f.built.names;
-                                distinct = f.built.distinct;
-                                in_sessions = f.built.in_sessions;
-                                events = f.built.events;
-                                few_events = f.built.few_events;
-                                order = ap (λ xs. counted 0 (flat_map key_of xs)) (closed_ops ss txs (op ∷ ops)) ∙ f.built.order;
-                                in_txs = each_push (GoodScript (length keys.names)) txs (op ∷ ops) f.built.in_txs (omega arith, f.built.few_ops, f.built.in_ops);
-                                in_ops = tt;
-                                few_ops = omega arith };
-                              room = record {
-                                few_sessions = f.room.few_sessions;
-                                total = omega (arith, f.room.total, length-append txs ((op ∷ ops) ∷ []));
-                                few = f.room.few;
-                                no_ops = λ _. refl;
-                                no_txs = λ x. absurd (omega arith) };
-                              none_yet = f.none_yet };
-              adds = λ table h. (h, ap (λ xs. body_lines table ss ++ (LSession ∷ xs)) (script_more table txs (op ∷ ops)) ∙ sym (append-nil _)) })
+    (record {
+      fine = record {
+        built = record {
+          texts = f.built.texts;
+          names = f.built.names;
+          distinct = f.built.distinct;
+          in_sessions = f.built.in_sessions;
+          events = f.built.events;
+          few_events = f.built.few_events;
+          order = ap (λ xs. counted 0 (flat_map key_of xs)) (closed_ops ss txs (op ∷ ops)) ∙ f.built.order;
+          in_txs = each_push (GoodScript (length keys.names)) txs (op ∷ ops) f.built.in_txs (omega arith, f.built.few_ops, f.built.in_ops);
+          in_ops = tt;
+          few_ops = omega arith;
+        };
+        room = record {
+          few_sessions = f.room.few_sessions;
+          total = omega (arith, f.room.total, length-append txs ((op ∷ ops) ∷ []));
+          few = f.room.few;
+          no_ops = λ _. refl;
+          no_txs = λ x. absurd (omega arith);
+        };
+        none_yet = f.none_yet;
+      };
+      adds = λ table h. (h, ap (λ xs. body_lines table ss ++ (LSession ∷ xs)) (script_more table txs (op ∷ ops)) ∙ sym (append-nil _));
+    })
 
 -- the open session closes
 next_ended : (stage : Stage) (keys : KeyTable) (ss : List Session) (txs : List (List Op)) (ops : List Op) (events : List Event) (n : ℕ) (b' : Build) →
@@ -120,29 +128,37 @@ next_ended : (stage : Stage) (keys : KeyTable) (ss : List Session) (txs : List (
     Next (mk stage keys ss txs ops events n) [] b' × (b'.stage ≡ Sessions)
 next_ended InSession keys ss txs ops events n b' at f e =
     let s : Session = record { node = record { 0 = 1 }; txs = txs } in
-    subst (λ b. Next (mk InSession keys ss txs ops events n) [] b × (b.stage ≡ Sessions)) (same_Some _ _ e)
-    (record { fine = record { built = record {
-                                texts = f.built.texts;
-                                names = f.built.names;
-                                distinct = f.built.distinct;
-                                order =
-                                    ap (λ xs. counted 0 (flat_map key_of (built_ops (ss ++ s ∷ []) [] xs))) (f.room.no_ops refl)
-                                    ∙ (ap (λ xs. counted 0 (flat_map key_of xs)) (ended_ops ss s)
-                                    ∙ (ap (λ xs. counted 0 (flat_map key_of (built_ops ss txs xs))) (sym (f.room.no_ops refl)) ∙ f.built.order));
-                                in_sessions = each_push (GoodSession (length keys.names)) ss s f.built.in_sessions (refl, f.built.in_txs);
-                                in_txs = tt;
-                                in_ops = f.built.in_ops;
-                                few_ops = f.built.few_ops;
-                                events = rw f.none_yet tt;
-                                few_events = f.built.few_events };
-                              room = record {
-                                few_sessions = omega (arith, f.room.few_sessions, length-append ss (s ∷ []));
-                                total = omega (arith, f.room.total, sum_by-append (λ x. length x.txs) ss (s ∷ []));
-                                few = f.room.few;
-                                no_ops = f.room.no_ops;
-                                no_txs = λ _. refl };
-                              none_yet = f.none_yet };
-              adds = λ table h. (h, ap (λ xs. LVersion ∷ LNodes ∷ LPart ∷ xs) (session_more table ss s) ∙ sym (append-nil _)) }, refl)
+    subst (λ b. Next (mk InSession keys ss txs ops events n) [] b × (b.stage ≡ Sessions)) (same_Some _ _ e) (
+      record {
+        fine = record {
+          built = record {
+            texts = f.built.texts;
+            names = f.built.names;
+            distinct = f.built.distinct;
+            order =
+                ap (λ xs. counted 0 (flat_map key_of (built_ops (ss ++ s ∷ []) [] xs))) (f.room.no_ops refl)
+                ∙ (ap (λ xs. counted 0 (flat_map key_of xs)) (ended_ops ss s)
+                ∙ (ap (λ xs. counted 0 (flat_map key_of (built_ops ss txs xs))) (sym (f.room.no_ops refl)) ∙ f.built.order));
+            in_sessions = each_push (GoodSession (length keys.names)) ss s f.built.in_sessions (refl, f.built.in_txs);
+            in_txs = tt;
+            in_ops = f.built.in_ops;
+            few_ops = f.built.few_ops;
+            events = rw f.none_yet tt;
+            few_events = f.built.few_events;
+          };
+          room = record {
+            few_sessions = omega (arith, f.room.few_sessions, length-append ss (s ∷ []));
+            total = omega (arith, f.room.total, sum_by-append (λ x. length x.txs) ss (s ∷ []));
+            few = f.room.few;
+            no_ops = f.room.no_ops;
+            no_txs = λ _. refl;
+          };
+          none_yet = f.none_yet;
+        };
+        adds = λ table h. (h, ap (λ xs. LVersion ∷ LNodes ∷ LPart ∷ xs) (session_more table ss s) ∙ sym (append-nil _));
+      },
+      refl,
+    )
 next_ended _ keys ss txs ops events n b' at f e = absurd cc
 
 -- no transaction is open afterwards, and a session is
@@ -190,15 +206,20 @@ next_session : (stage : Stage) (keys : KeyTable) (ss : List Session) (txs : List
 next_session Sessions keys ss txs ops events n b' at f e =
     let c = cond_some (nat_lt (length ss) 16) _ b' e in
     subst (λ b. Next (mk Sessions keys ss txs ops events n) (LSession ∷ []) b) c.1
-    (record { fine = record { built = f.built;
-                              room = record {
-                                few_sessions = grind (arith, nat_tests, c.0);
-                                total = f.room.total;
-                                few = f.room.few;
-                                no_ops = f.room.no_ops;
-                                no_txs = λ x. absurd (omega arith) };
-                              none_yet = f.none_yet };
-              adds = λ table h. (h, ap (λ xs. body_lines table ss ++ LSession ∷ flat_map (script_lines table) xs) (f.room.no_txs refl)) })
+    (record {
+      fine = record {
+        built = f.built;
+        room = record {
+          few_sessions = grind (arith, nat_tests, c.0);
+          total = f.room.total;
+          few = f.room.few;
+          no_ops = f.room.no_ops;
+          no_txs = λ x. absurd (omega arith);
+        };
+        none_yet = f.none_yet;
+      };
+      adds = λ table h. (h, ap (λ xs. body_lines table ss ++ LSession ∷ flat_map (script_lines table) xs) (f.room.no_txs refl));
+    })
 next_session _ keys ss txs ops events n b' at f e = absurd cc
 
 -- a transaction begins
@@ -208,17 +229,24 @@ next_tx : (stage : Stage) (keys : KeyTable) (ss : List Session) (txs : List (Lis
 next_tx InSession keys ss txs ops events n b' at f e =
     let c = cond_some (nat_lt n 1024) _ b' e in
     subst (λ b. Next (mk InSession keys ss txs ops events n) (LTx ∷ []) b) c.1
-    (record { fine = record { built = f.built;
-                              room = record {
-                                few_sessions = f.room.few_sessions;
-                                total = omega (arith, f.room.total);
-                                few = grind (arith, nat_tests, c.0);
-                                no_ops = λ x. absurd (omega arith);
-                                no_txs = f.room.no_txs };
-                              none_yet = f.none_yet };
-              adds = λ table h. (h,
-                  ap (λ xs. body_lines table ss ++ (LSession ∷ (flat_map (script_lines table) txs ++ script_lines table xs))) (f.room.no_ops refl)
-                  ∙ sym (append_assoc (body_lines table ss) (LSession ∷ flat_map (script_lines table) txs) (LTx ∷ []))) })
+    (record {
+      fine = record {
+        built = f.built;
+        room = record {
+          few_sessions = f.room.few_sessions;
+          total = omega (arith, f.room.total);
+          few = grind (arith, nat_tests, c.0);
+          no_ops = λ x. absurd (omega arith);
+          no_txs = f.room.no_txs;
+        };
+        none_yet = f.none_yet;
+      };
+      adds = λ table h. (
+        h,
+        ap (λ xs. body_lines table ss ++ (LSession ∷ (flat_map (script_lines table) txs ++ script_lines table xs))) (f.room.no_ops refl)
+            ∙ sym (append_assoc (body_lines table ss) (LSession ∷ flat_map (script_lines table) txs) (LTx ∷ [])),
+      );
+    })
 next_tx _ keys ss txs ops events n b' at f e = absurd cc
 
 -- the schedule begins
@@ -227,8 +255,10 @@ next_schedule : (stage : Stage) (keys : KeyTable) (ss : List Session) (txs : Lis
     Next (mk stage keys ss txs ops events n) (LSchedule ∷ []) b'
 next_schedule Sessions keys ss txs ops events n b' at f e =
     subst (λ b. Next (mk Sessions keys ss txs ops events n) (LSchedule ∷ []) b) (same_Some _ _ e)
-    (record { fine = record { built = f.built; room = f.room; none_yet = tt };
-              adds = λ table h. (h, ap (λ xs. body_lines table ss ++ LSchedule ∷ flat_map event_lines xs) f.none_yet) })
+    (record {
+      fine = record { built = f.built; room = f.room; none_yet = tt };
+      adds = λ table h. (h, ap (λ xs. body_lines table ss ++ LSchedule ∷ flat_map event_lines xs) f.none_yet);
+    })
 next_schedule _ keys ss txs ops events n b' at f e = absurd cc
 
 -- the drain
@@ -237,8 +267,10 @@ next_drain : (stage : Stage) (keys : KeyTable) (ss : List Session) (txs : List (
     Next (mk stage keys ss txs ops events n) (LDrain ∷ []) b'
 next_drain InSchedule keys ss txs ops events n b' f e =
     subst (λ b. Next (mk InSchedule keys ss txs ops events n) (LDrain ∷ []) b) (same_Some _ _ e)
-    (record { fine = record { built = f.built; room = f.room; none_yet = tt };
-              adds = λ table h. (h, sym (append_assoc (body_lines table ss) (LSchedule ∷ flat_map event_lines events) (LDrain ∷ []))) })
+    (record {
+      fine = record { built = f.built; room = f.room; none_yet = tt };
+      adds = λ table h. (h, sym (append_assoc (body_lines table ss) (LSchedule ∷ flat_map event_lines events) (LDrain ∷ [])));
+    })
 next_drain _ keys ss txs ops events n b' f e = absurd (none-some _ e)
 
 -- the end
@@ -247,14 +279,20 @@ next_end : (stage : Stage) (keys : KeyTable) (ss : List Session) (txs : List (Li
     Next (mk stage keys ss txs ops events n) (LEnd ∷ []) b'
 next_end InSchedule keys ss txs ops events n b' f e =
     subst (λ b. Next (mk InSchedule keys ss txs ops events n) (LEnd ∷ []) b) (same_Some _ _ e)
-    (record { fine = record { built = f.built; room = f.room; none_yet = tt };
-              adds = λ table h. (h, sym (append_assoc (body_lines table ss) (LSchedule ∷ flat_map event_lines events) (LEnd ∷ []))) })
+    (record {
+      fine = record { built = f.built; room = f.room; none_yet = tt };
+      adds = λ table h. (h, sym (append_assoc (body_lines table ss) (LSchedule ∷ flat_map event_lines events) (LEnd ∷ [])));
+    })
 next_end AfterDrain keys ss txs ops events n b' f e =
     subst (λ b. Next (mk AfterDrain keys ss txs ops events n) (LEnd ∷ []) b) (same_Some _ _ e)
-    (record { fine = record { built = f.built; room = f.room; none_yet = tt };
-              adds = λ table h. (h,
-                  sym (append_assoc (body_lines table ss) (LSchedule ∷ (flat_map event_lines events ++ LDrain ∷ [])) (LEnd ∷ [])
-                  ∙ ap (λ xs. body_lines table ss ++ LSchedule ∷ xs) (append_assoc (flat_map event_lines events) (LDrain ∷ []) (LEnd ∷ [])))) })
+    (record {
+      fine = record { built = f.built; room = f.room; none_yet = tt };
+      adds = λ table h. (
+        h,
+        sym (append_assoc (body_lines table ss) (LSchedule ∷ (flat_map event_lines events ++ LDrain ∷ [])) (LEnd ∷ [])
+            ∙ ap (λ xs. body_lines table ss ++ LSchedule ∷ xs) (append_assoc (flat_map event_lines events) (LDrain ∷ []) (LEnd ∷ []))),
+      );
+    })
 next_end _ keys ss txs ops events n b' f e = absurd (none-some _ e)
 
 -- a client step
@@ -265,21 +303,29 @@ next_client s t InSchedule keys ss txs ops events n b' small f e =
     let c = cond_some (nat_lt (length events) 65536 && (nat_le 1 s.0 && nat_le s.0 (length ss))) _ b' e in
     let test = client_test (length events) s.0 (length ss) c.0 in
     subst (λ b. Next (mk InSchedule keys ss txs ops events n) (LClient s t ∷ []) b) c.1
-    (record { fine = record { built = record {
-                                texts = f.built.texts;
-                                names = f.built.names;
-                                distinct = f.built.distinct;
-                                order = f.built.order;
-                                in_sessions = f.built.in_sessions;
-                                in_txs = f.built.in_txs;
-                                in_ops = f.built.in_ops;
-                                few_ops = f.built.few_ops;
-                                events = each_push (GoodEvent (length ss)) events (Client s t) f.built.events (test.1, test.2, small);
-                                few_events = omega (arith, test.0, length-append events (Client s t ∷ [])) };
-                              room = f.room; none_yet = tt };
-              adds = λ table h. (h,
-                  ap (λ xs. body_lines table ss ++ LSchedule ∷ xs) (flat_map-append event_lines events (Client s t ∷ []))
-                  ∙ sym (append_assoc (body_lines table ss) (LSchedule ∷ flat_map event_lines events) (LClient s t ∷ []))) })
+    (record {
+      fine = record {
+        built = record {
+          texts = f.built.texts;
+          names = f.built.names;
+          distinct = f.built.distinct;
+          order = f.built.order;
+          in_sessions = f.built.in_sessions;
+          in_txs = f.built.in_txs;
+          in_ops = f.built.in_ops;
+          few_ops = f.built.few_ops;
+          events = each_push (GoodEvent (length ss)) events (Client s t) f.built.events (test.1, test.2, small);
+          few_events = omega (arith, test.0, length-append events (Client s t ∷ []));
+        };
+        room = f.room;
+        none_yet = tt;
+      };
+      adds = λ table h. (
+        h,
+        ap (λ xs. body_lines table ss ++ LSchedule ∷ xs) (flat_map-append event_lines events (Client s t ∷ []))
+            ∙ sym (append_assoc (body_lines table ss) (LSchedule ∷ flat_map event_lines events) (LClient s t ∷ [])),
+      );
+    })
   where
     client_test : (m k n : ℕ) → (nat_lt m 65536 && (nat_le 1 k && nat_le k n)) ≡ true → (m < 65536) × (1 ≤ k) × (k ≤ n)
     client_test m k n e = (grind (arith, nat_tests), grind (arith, nat_tests), grind (arith, nat_tests))
@@ -299,27 +345,36 @@ distinct_push : (names : List (List ℕ × PartId)) (key : List ℕ × PartId) �
     Distinct (names ++ key ∷ [])
 distinct_push names key d new i j k p q =
     elim (get_push names key i k p) [
-      inl u ↦ elim (get_push names key j k q) [ inl v ↦ d i j k u v | inr v ↦ absurd (new i (u ∙ ap Some v.1)) ]
-      | inr u ↦ elim (get_push names key j k q) [ inl v ↦ absurd (new j (v ∙ ap Some u.1)) | inr v ↦ u.0 ∙ sym v.0 ] ]
+      | inl u ↦ elim (get_push names key j k q) [ inl v ↦ d i j k u v | inr v ↦ absurd (new i (u ∙ ap Some v.1)) ]
+      | inr u ↦ elim (get_push names key j k q) [ inl v ↦ absurd (new j (v ∙ ap Some u.1)) | inr v ↦ u.0 ∙ sym v.0 ]
+    ]
 
 grown_by : (names : List (List ℕ × PartId)) (key : List ℕ × PartId) → Each GoodName names → Distinct names → GoodName key →
     Interned key names → Grown names key (place_of key names) (with_pair key names)
 grown_by names key g d k (inl h) =
     let within : place_of key names < length names = slice_get_within names (place_of key names) key h.0 in
     subst (λ ms. Grown names key (place_of key names) ms) (sym h.1)
-    (record { longer = omega arith; good = g; distinct = d;
-              order = counted_old (length names) (place_of key names) [] within;
-              within = within; there = h.0; kept = λ i x e. e })
+    (record {
+      longer = omega arith;
+      good = g;
+      distinct = d;
+      order = counted_old (length names) (place_of key names) [] within;
+      within = within;
+      there = h.0;
+      kept = λ i x e. e;
+    })
 grown_by names key g d k (inr h) =
     let more = length-append names (key ∷ []) in
     subst (λ ms. Grown names key (place_of key names) ms) (sym h.1)
-    (record { longer = omega (arith, more);
-              good = each_push GoodName names key g k;
-              distinct = distinct_push names key d h.2;
-              order = counted_next (length names) (place_of key names) [] h.0 ∙ ap Some (sym more);
-              within = omega (arith, more, h.0);
-              there = rw h.0 (get_middle names [] key);
-              kept = λ i x e. get_left names (key ∷ []) i x e })
+    (record {
+      longer = omega (arith, more);
+      good = each_push GoodName names key g k;
+      distinct = distinct_push names key d h.2;
+      order = counted_next (length names) (place_of key names) [] h.0 ∙ ap Some (sym more);
+      within = omega (arith, more, h.0);
+      there = rw h.0 (get_middle names [] key);
+      kept = λ i x e. get_left names (key ∷ []) i x e;
+    })
 
 grown : (names : List (List ℕ × PartId)) (key : List ℕ × PartId) → Each GoodName names → Distinct names → GoodName key →
     Grown names key (place_of key names) (with_pair key names)
@@ -404,16 +459,21 @@ next_op op key l InTransaction keys ss txs ops events n b' is good f e =
     let names' = with_pair key keys.names in
     let g = grown keys.names key f.built.names f.built.distinct good in
     subst (λ b. Next (mk InTransaction keys ss txs ops events n) (l ∷ []) b) (with_op_is op key (mk InTransaction keys ss txs ops events n) b' (nat_le (length names') 16384) k c.1)
-    (record { fine = record { built = op_built keys ss txs ops events key names' k op l is f.built (grind (arith, nat_tests, c.0)) g;
-                              room = record {
-                                few_sessions = f.room.few_sessions;
-                                total = f.room.total;
-                                few = f.room.few;
-                                no_ops = λ x. absurd (omega arith);
-                                no_txs = f.room.no_txs };
-                              none_yet = f.none_yet };
-              adds = λ table h.
-                  (λ i x p. h i x (g.kept i x p), op_text table (body_lines table ss) txs ops (op k) l (is.line table k (h k.0 key g.there))) })
+    (record {
+      fine = record {
+        built = op_built keys ss txs ops events key names' k op l is f.built (grind (arith, nat_tests, c.0)) g;
+        room = record {
+          few_sessions = f.room.few_sessions;
+          total = f.room.total;
+          few = f.room.few;
+          no_ops = λ x. absurd (omega arith);
+          no_txs = f.room.no_txs;
+        };
+        none_yet = f.none_yet;
+      };
+      adds = λ table h.
+          (λ i x p. h i x (g.kept i x p), op_text table (body_lines table ss) txs ops (op k) l (is.line table k (h k.0 key g.there)));
+    })
 next_op op key l _ keys ss txs ops events n b' is good f e = absurd (none-some _ e)
 
 get_is : (name : List ℕ) → IsOpOf Get (in_first name) (LGet name)

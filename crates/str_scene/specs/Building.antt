@@ -87,6 +87,10 @@ begun_tx b = if nat_lt b.begun 1024 then Some (record b { stage = InTransaction;
 abbrev pub begun_schedule : Build → Option Build
 begun_schedule b = Some (staged InSchedule b)
 
+-- an operation is the next of the open transaction
+abbrev pub with_one_op : Op → Build → Build
+with_one_op op b = record b { ops = b.ops ++ op ∷ [] }
+
 -- an operation on the key with a number is the next of the open transaction
 abbrev pub with_op : (KeyId → Op) → List ℕ × PartId → Build → Option KeyId → Option Build
 with_op op key b None = None

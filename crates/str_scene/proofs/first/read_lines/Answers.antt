@@ -12,7 +12,7 @@ pub returns-in_default-read_line-clause-not_built :
 returns-in_default-read_line-clause-not_built c =
     let text = c.args.text.now in
     λ e. misspelled text c.loop-start.start (slice_range text c.loop-start.start c.in-Some.feed) _ c.loop-start.build c.loop-start.invariant.rest c.loop-start-test.true
-        c.in-Some.ensures.line c.in-Some.ensures.parts (search rules)
+    c.in-Some.ensures.line c.in-Some.ensures.parts (search rules)
 
 pub returns-in_err-take-clause-not_built : goal.returns-in_err-take-clause-not_built
 returns-in_err-take-clause-not_built c =
@@ -20,7 +20,7 @@ returns-in_err-take-clause-not_built c =
     let line = c.in-Some-read_line.ensures.line in
     let p = err_from_is_err_and c.from_residual.result c.from_residual.ensures.1 in
     λ e. out_of_place text c.loop-start.start (slice_range text c.loop-start.start c.in-Some.feed) _ c.in-Some-read_line.line c.loop-start.build c.loop-start.invariant.rest c.loop-start-test.true
-        c.in-Some.ensures.line c.in-Some.ensures.parts line.0 line.1 (c.in_err-take.ensures.not_built cc)
+    c.in-Some.ensures.line c.in-Some.ensures.parts line.0 line.1 (c.in_err-take.ensures.not_built cc)
 
 pub loop-start-preserved : goal.loop-start-preserved
 loop-start-preserved c =
