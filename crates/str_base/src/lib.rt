@@ -1,9 +1,11 @@
 //! The names and plain values of the store, its versions in order, and decimals.
 #![tactic(auto)]
 
+pub mod decimals;
 pub mod names;
 pub mod short;
 
+pub use decimals::{push_i64, push_u64, read_i64, read_u64};
 pub use names::{
     Cause, KeyId, Kind, NodeId, PartId, SessionId, TextId, Ts, TxId, Value, Version, Write,
 };

@@ -1,3 +1,12 @@
+mod Bridge
+mod Built
+mod Complete
 mod Counts
 mod Each
+mod GoodScenes
 mod Pairs
+mod Reading
+mod Runs
+mod Sound
+mod Steps
+pub mod TextLines
