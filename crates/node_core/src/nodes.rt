@@ -39,6 +39,20 @@ impl Model for Node {
 }
 
 impl Node {
+    /// A node of a first scene at the beginning. The error is want of memory.
+    pub fn new(alloc: Global, id: NodeId, scene: &Scene) -> Result<Node, AllocError>
+        requires first { IsFirst scene.now }
+        requires node { id.0 ≡ 1 }
+        ensures scene { IfOk result (λ n. n.scene ≡ scene.now) }
+        ensures id { IfOk result (λ n. n.id ≡ id) }
+        ensures view { IfOk result (λ n. n.view ≡ opening_view scene.now) }
+    {
+        let keys = scene.keys().len() as usize;
+        let state = State::new(alloc, keys)?;
+        let scene = scene.copy(alloc)?;
+        Ok(Node { id, scene, state })
+    }
+
     /// Makes room for the next step on this input in the node and in the outbox, and gives a number that is as
     /// great as the need at least. The view and the lists stay, also after an error.
     pub fn ready(&mut self, input: &Input, out: &mut Outbox) -> Result<usize, AllocError>

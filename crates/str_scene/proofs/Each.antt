@@ -1,11 +1,6 @@
 -- A fact of each element of a list, head by head.
 use Rattle.std.proofs.Common.{Bool, List, None, Option, Some, [], ap, arith, false, length, refl, slice_get, subst, suc, sym, true, zero, ℕ, ◌++◌, ◌+◌, ◌<◌, ◌∷◌, ◌≡◌, ◌⊎◌, inl, inr}
-use Rattle.std.specs.Prelude.{⊤}
-
--- the fact holds of each element
-abbrev pub Each : {X : Type 0} → (X → Type 0) → List X → Type 0
-Each P [] = ⊤
-Each P (x ∷ xs) = P x × Each P xs
+use Rattle.str_scene.specs.Building.{Each}
 
 -- after a push
 pub each_push : {X : Type 0} (P : X → Type 0) (xs : List X) (y : X) → Each P xs → P y → Each P (xs ++ y ∷ [])

@@ -1,6 +1,8 @@
 -- Where a key stands in a table.
-use Rattle.std.proofs.Common.{◌≡◌, ◌≤◌, ◌<◌, ◌++◌, ◌∷◌, [], ℕ, List, Option, Some, None, length, length-append, nat_le, refl, ap, arith, suc, Bool, true, false, sym, cond}
-use Rattle.std.proofs.lemmas.Bool.Decides.{nat_tests}
+use Rattle.std.proofs.Common.{◌≡◌, ◌≤◌, ◌<◌, ◌++◌, ◌∷◌, ◌⊎◌, ◌&&◌, inl, inr, [], ℕ, List, Option, Some, None, eqb, length, length-append, nat_le, refl, ap, arith, slice_get, suc, zero, Bool, true, false, sym, cond}
+use Rattle.std.proofs.lemmas.Bool.Decides.{Decides-eqb, nat_tests}
+use Rattle.std.proofs.lemmas.Slice.Eq.{bytes_eq-Decides}
+use Rattle.std.specs.Str.{bytes_eq}
 use Rattle.str_base.specs.declared.names.PartId.{PartId}
 use Rattle.str_scene.specs.Keys.{number_of, place_of, same_pair, with_pair}
 
@@ -41,3 +43,47 @@ refused a bs n e l h =
     let more : with_pair a bs ≡ bs ++ a ∷ [] = facts.2 (omega arith) in
     let many : nat_le (length (with_pair a bs)) 16384 ≡ false = rw (more, length-append) (grind (arith, nat_tests)) in
     rw many refl
+
+-- keys that are one
+pub same_pair_true : (a b : List ℕ × PartId) → same_pair a b ≡ true → b ≡ a
+same_pair_true a b e =
+    let both = and_true (bytes_eq b.0 a.0) (eqb b.1.0 a.1.0) e in
+    let names : b.0 ≡ a.0 = (bytes_eq-Decides b.0 a.0).0 both.0 in
+    let parts : b.1.0 ≡ a.1.0 = (Decides-eqb b.1.0 a.1.0).0 both.1 in
+    pair_same b.0 a.0 b.1.0 a.1.0 names parts
+  where
+    and_true : (x y : Bool) → (x && y) ≡ true → (x ≡ true) × (y ≡ true)
+    and_true true true e = (refl, refl)
+    and_true true false e = absurd cc
+    and_true false y e = absurd cc
+
+    pair_same : (n m : List ℕ) (p q : ℕ) → n ≡ m → p ≡ q → ◌≡◌ {A = List ℕ × PartId} (n, record { 0 = p }) (m, record { 0 = q })
+    pair_same n m p q e f = rw (e, f) refl
+
+pub same_pair_self : (a b : List ℕ × PartId) → b ≡ a → same_pair a b ≡ true
+same_pair_self a b e =
+    rw (e, (bytes_eq-Decides a.0 a.0).1 refl, (Decides-eqb a.1.0 a.1.0).1 refl) refl
+
+-- a key is in its place, and the table stays, or it is not there, and comes at the end
+abbrev pub Interned : List ℕ × PartId → List (List ℕ × PartId) → Type 0
+Interned a bs =
+    ((slice_get bs (place_of a bs) ≡ Some a) × (with_pair a bs ≡ bs))
+    ⊎ ((place_of a bs ≡ length bs) × (with_pair a bs ≡ bs ++ a ∷ []) × ((i : ℕ) → slice_get bs i ≡ Some a → ⊥))
+
+interned_more : (a b : List ℕ × PartId) (bs : List (List ℕ × PartId)) (same : Bool) → same_pair a b ≡ same → Interned a bs →
+    ((slice_get (b ∷ bs) (cond same 0 (suc (place_of a bs))) ≡ Some a) × (cond same (b ∷ bs) (b ∷ with_pair a bs) ≡ b ∷ bs))
+    ⊎ ((cond same 0 (suc (place_of a bs)) ≡ suc (length bs)) × (cond same (b ∷ bs) (b ∷ with_pair a bs) ≡ b ∷ (bs ++ a ∷ [])) × ((i : ℕ) → slice_get (b ∷ bs) i ≡ Some a → ⊥))
+interned_more a b bs true e h = inl (ap Some (same_pair_true a b e), refl)
+interned_more a b bs false e (inl h) = inl (h.0, ap (λ xs. b ∷ xs) h.1)
+interned_more a b bs false e (inr h) = inr (ap suc h.0, ap (λ xs. b ∷ xs) h.1, not_there)
+  where
+    not_there : (i : ℕ) → slice_get (b ∷ bs) i ≡ Some a → ⊥
+    not_there zero f = let same : same_pair a b ≡ true = same_pair_self a b cc in cc
+    not_there (suc i) f = h.2 i f
+
+pub interned : (a : List ℕ × PartId) (bs : List (List ℕ × PartId)) → Interned a bs
+interned a [] = inr (refl, refl, λ i e. none_there i e)
+  where
+    none_there : (i : ℕ) → slice_get {X = List ℕ × PartId} [] i ≡ Some a → ⊥
+    none_there i e = cc
+interned a (b ∷ bs) = interned_more a b bs (same_pair a b) refl (interned a bs)

@@ -1,10 +1,11 @@
 -- How a reader takes the lines of a first scene one by one. Public clauses cite none of it.
-use Rattle.std.specs.Prelude.{Bool, List, None, Option, Some, [], false, if◌then◌else◌, length, nat_le, nat_lt, option_and_then, true, ℕ, ◌&&◌, ◌++◌, ◌+◌, ◌∷◌}
+use Rattle.std.specs.Prelude.{Bool, List, None, Option, Some, [], false, if◌then◌else◌, length, nat_le, nat_lt, option_and_then, true, ⊤, ℕ, ◌&&◌, ◌++◌, ◌+◌, ◌∷◌, ◌≡◌}
 use Rattle.str_base.specs.declared.names.KeyId.{KeyId}
 use Rattle.str_base.specs.declared.names.PartId.{PartId}
 use Rattle.str_base.specs.declared.names.SessionId.{SessionId}
 use Rattle.str_scene.specs.Keys.{number_of, with_pair}
 use Rattle.str_scene.specs.Scenes.{KeyTable, Scene, Session}
+use Rattle.str_scene.specs.TextLines.{IsLine, lines_text}
 use Rattle.str_scene.specs.declared.build.Stage.{Stage}
 use Rattle.str_scene.specs.declared.build.Stage.TheVariants.{AfterDrain, AfterNodes, AfterVersion, Ended, InSchedule, InSession, InTransaction, Sessions, Start}
 use Rattle.str_scene.specs.declared.lines.Line.{Line}
@@ -13,6 +14,11 @@ use Rattle.str_scene.specs.declared.names.Event.{Event}
 use Rattle.str_scene.specs.declared.names.Event.TheVariants.{Client}
 use Rattle.str_scene.specs.declared.names.Op.{Op}
 use Rattle.str_scene.specs.declared.names.Op.TheVariants.{Get, Put}
+
+-- the fact holds of each element
+abbrev pub Each : {X : Type 0} → (X → Type 0) → List X → Type 0
+Each P [] = ⊤
+Each P (x ∷ xs) = P x × Each P xs
 
 -- what the lines so far have given: the keys, the closed sessions, the closed transactions of the open session, the operations of
 -- the open transaction, the events, and the number of transactions begun
@@ -81,6 +87,10 @@ begun_tx b = if nat_lt b.begun 1024 then Some (record b { stage = InTransaction;
 abbrev pub begun_schedule : Build → Option Build
 begun_schedule b = Some (staged InSchedule b)
 
+-- an operation is the next of the open transaction
+abbrev pub with_one_op : Op → Build → Build
+with_one_op op b = record b { ops = b.ops ++ op ∷ [] }
+
 -- an operation on the key with a number is the next of the open transaction
 abbrev pub with_op : (KeyId → Op) → List ℕ × PartId → Build → Option KeyId → Option Build
 with_op op key b None = None
@@ -139,3 +149,25 @@ run (l ∷ ls) b = option_and_then (run ls) (take_line b l)
 abbrev pub scene_of : Bool → Build → Scene
 scene_of drain b =
     record { version = 1; nodes = 1; parts = (record { 0 = 1 } ∷ []) ∷ []; keys = b.keys; sessions = b.sessions; schedule = b.schedule; drain = drain }
+
+-- the bytes are the text of lines that lead to the build
+pub record IsRead (text : List ℕ) (b : Build) : Type 0 where
+  pub lines : List Line
+  pub are_lines : Each IsLine lines
+  pub spelled : text ≡ lines_text lines
+  pub lead : run lines empty_build ≡ Some b
+
+-- the lines that are left of the text, from the build on
+pub record Left (rest : List ℕ) (b : Build) (end : Option Build) : Type 0 where
+  pub lines : List Line
+  pub are_lines : Each IsLine lines
+  pub spelled : lines_text lines ≡ rest
+  pub lead : end ≡ run lines b
+
+-- all lines of the whole text lead where those of the rest lead from the build
+abbrev pub GoesOn : List ℕ → List ℕ → Build → Type 0
+GoesOn whole rest b = (ls : List Line) → Each IsLine ls → lines_text ls ≡ whole → Left rest b (run ls empty_build)
+
+-- no lines of the text lead anywhere
+abbrev pub LeadsNowhere : List ℕ → Type 0
+LeadsNowhere text = (ls : List Line) → Each IsLine ls → lines_text ls ≡ text → run ls empty_build ≡ None

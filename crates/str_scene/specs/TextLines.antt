@@ -1,6 +1,7 @@
 -- The lines of the text of a first scene, as they are spelled.
 use Rattle.std.specs.Fmt.{signed_decimal}
-use Rattle.std.specs.Prelude.{Bool, List, None, Option, Some, [], codes, decimal, false, flat_map, slice_get, true, ℕ, ⊤, ◌++◌, ◌<◌, ◌^◌, ◌∷◌, ◌≡◌}
+use Rattle.std.specs.List.{list_all}
+use Rattle.std.specs.Prelude.{Bool, List, None, Option, Some, [], codes, decimal, false, flat_map, not, slice_get, true, ℕ, ⊤, ◌++◌, ◌<◌, ◌==◌, ◌^◌, ◌∷◌, ◌≡◌}
 use Rattle.str_base.specs.declared.names.KeyId.{KeyId}
 use Rattle.str_base.specs.declared.names.PartId.{PartId}
 use Rattle.str_scene.specs.declared.lines.Line.{Line}
@@ -76,3 +77,14 @@ abbrev pub first_lines : Scene → List Line
 first_lines scene =
     LVersion ∷ LNodes ∷ LPart ∷ (flat_map (one_session_lines scene.keys) scene.sessions
     ++ LSchedule ∷ (flat_map event_lines scene.schedule ++ (drain_line scene.drain ++ LEnd ∷ [])))
+
+-- no byte of the bytes is this one
+abbrev pub is_without : ℕ → List ℕ → Bool
+is_without c bytes = list_all (λ b. not (b == c)) bytes
+
+-- the line has no argument
+abbrev pub is_word_line : Line → Bool
+is_word_line (LGet name) = false
+is_word_line (LPut name n) = false
+is_word_line (LClient s t) = false
+is_word_line _ = true

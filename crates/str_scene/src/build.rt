@@ -1,7 +1,9 @@
 //! A first scene as the lines of its text give it, one by one.
-ghost use Rattle.std.specs.Prelude.{◌≡◌, OnOk, IfOk, option_and_then, MatchOption, Bool};
-ghost use Rattle.str_scene.specs.Building.{begun_schedule, begun_session, begun_tx, closed_script, closed_session, closed_tx, empty_build, ended_session, in_first, scene_of, take_client, take_drain, take_end, take_line, take_nodes, take_op, take_part, take_version};
+ghost use Rattle.std.specs.Prelude.{◌≡◌, OnOk, IfOk, option_and_then, MatchOption, Bool, length, ◌<◌};
+ghost use Rattle.str_scene.specs.Building.{begun_schedule, begun_session, begun_tx, closed_script, closed_session, closed_tx, empty_build, ended_session, in_first, scene_of, take_client, take_drain, take_end, take_line, take_nodes, take_op, take_part, take_version, with_one_op};
+ghost use Rattle.str_base.specs.declared.names.KeyId.{KeyId};
 ghost use Rattle.str_scene.specs.SceneLimits.{IsScene};
+ghost use Rattle.str_scene.specs.declared.names.Op.{Op as AnyOp};
 
 use crate::first::FirstFault;
 use crate::keys::{KeyTable, Name};
@@ -204,9 +206,11 @@ impl SceneBuild {
         Ok(())
     }
 
-    fn take_get(&mut self, name: Name) -> Result<(), FirstFault>
-        ensures ok { OnOk result (take_op Op.Get (in_first name) self.old.stage self.old ≡ Some self.new) }
-        ensures not_built { result ≡ Err FirstFault.NotBuilt → take_op Op.Get (in_first name) self.old.stage self.old ≡ None }
+    /// The number of the key of a name, where one more operation may come.
+    fn next_key(&mut self, name: Name) -> Result<KeyId, FirstFault>
+        ensures ok { IfOk result (λ k. (op : KeyId → AnyOp) → take_op op (in_first name) self.old.stage self.old ≡ Some (with_one_op (op k) self.new)) }
+        ensures room { OnOk result (length self.new.ops < 16) }
+        ensures not_built { result ≡ Err FirstFault.NotBuilt → (op : KeyId → AnyOp) → take_op op (in_first name) self.old.stage self.old ≡ None }
     {
         match self.stage {
             Stage::InTransaction => (),
@@ -216,34 +220,28 @@ impl SceneBuild {
             return Err(FirstFault::NotBuilt);
         }
         match self.keys.intern(name, PartId(1)) {
-            Ok(Some(key)) => {
-                self.ops.push(Op::Get(key));
-                Ok(())
-            }
+            Ok(Some(key)) => Ok(key),
             Ok(None) => Err(FirstFault::NotBuilt),
             Err(_) => Err(FirstFault::Memory),
         }
+    }
+
+    fn take_get(&mut self, name: Name) -> Result<(), FirstFault>
+        ensures ok { OnOk result (take_op Op.Get (in_first name) self.old.stage self.old ≡ Some self.new) }
+        ensures not_built { result ≡ Err FirstFault.NotBuilt → take_op Op.Get (in_first name) self.old.stage self.old ≡ None }
+    {
+        let key = self.next_key(name)?;
+        self.ops.push(Op::Get(key));
+        Ok(())
     }
 
     fn take_put(&mut self, name: Name, number: i64) -> Result<(), FirstFault>
         ensures ok { OnOk result (take_op (λ k. Op.Put k number) (in_first name) self.old.stage self.old ≡ Some self.new) }
         ensures not_built { result ≡ Err FirstFault.NotBuilt → take_op (λ k. Op.Put k number) (in_first name) self.old.stage self.old ≡ None }
     {
-        match self.stage {
-            Stage::InTransaction => (),
-            _ => return Err(FirstFault::NotBuilt),
-        }
-        if self.ops.len() >= 16 {
-            return Err(FirstFault::NotBuilt);
-        }
-        match self.keys.intern(name, PartId(1)) {
-            Ok(Some(key)) => {
-                self.ops.push(Op::Put(key, number));
-                Ok(())
-            }
-            Ok(None) => Err(FirstFault::NotBuilt),
-            Err(_) => Err(FirstFault::Memory),
-        }
+        let key = self.next_key(name)?;
+        self.ops.push(Op::Put(key, number));
+        Ok(())
     }
 
     fn take_client(&mut self, session: SessionId, reading: u64) -> Result<(), FirstFault>

@@ -1,6 +1,7 @@
-//! The program `strun`.
+//! The program `strun`: it runs a scene and writes the released answers.
 #![tactic(auto)]
 
+mod cluster;
 mod lines;
 
 fn main() {}
