@@ -1,21 +1,22 @@
 -- The lines of a text: each line has one reading, and no line feed stands in it.
-use Rattle.std.proofs.Common.{length-append, ◌*◌, Result, Ok, Err, FitsSigned, w64, ℤ, pos, negsuc, codes, decimal, append_assoc, Bor, eqb, take, IfSome, IsNone, MatchOption, Bool, List, Option, Some, None, [], arith, ap, false, length, get_or, drop, not, refl, subst, sym, true, ℕ, ◌&&◌, ◌+◌, ◌++◌, ◌<◌, ◌==◌, ◌∙◌, ◌∷◌, ◌≡◌, ◌≤◌}
-use Rattle.std.specs.List.{list_all, slice_range}
+use Rattle.std.proofs.Common.{Bool, Bor, Err, FitsSigned, IfSome, IsNone, List, MatchOption, None, Ok, Option, Result, Some, [], add-one, ap, append_assoc, arith, codes, decimal, drop, drop-cons, eqb, false, get_or, length, length-append, negsuc, not, pos, refl, subst, sym, take, true, w64, ℕ, ℤ, ◌&&◌, ◌*◌, ◌++◌, ◌+◌, ◌<◌, ◌==◌, ◌∙◌, ◌∷◌, ◌≡◌, ◌≤◌}
 use Rattle.std.proofs.lemmas.Bool.Decides.{Decides-eqb, nat_tests}
+use Rattle.std.proofs.lemmas.List.Edits.{between_more}
+use Rattle.std.proofs.lemmas.List.Folds.{drop_split, list_all-append}
+use Rattle.std.proofs.lemmas.List.{append-nil, append_cancel_left, append_cancel_right, take-append-drop}
+use Rattle.std.proofs.lemmas.Option.{get_or_from_slice_get, slice_get_within}
 use Rattle.std.proofs.lemmas.Slice.Eq.{strip_prefix_is}
 use Rattle.std.specs.Cmp.Lexicographic.{pointwise}
-use Rattle.std.proofs.lemmas.List.{append-nil, append_cancel_left, append_cancel_right}
+use Rattle.std.specs.Fmt.{signed_decimal}
+use Rattle.std.specs.List.{list_all, slice_get, slice_range}
+use Rattle.std.specs.Result.{OkIff, result_ok}
 use Rattle.str_base.proofs.DecimalLemmas.{decimal-injective, decimal-without, signed_decimal-injective, signed_decimal-without}
 use Rattle.str_base.specs.declared.names.SessionId.{SessionId}
+use Rattle.str_scene.specs.SceneLimits.{IsNumber, in_name, is_letter, is_name}
+use Rattle.str_scene.specs.Spelling.{ended}
+use Rattle.str_scene.specs.TextLines.{IsLine, is_without, line_spelled, lines_text}
 use Rattle.str_scene.specs.declared.lines.Line.TheVariants.{Client as LClient, Drain as LDrain, End as LEnd, Get as LGet, Nodes as LNodes, Part as LPart, Put as LPut, Schedule as LSchedule, Session as LSession, Tx as LTx, Version as LVersion}
 use Rattle.str_scene.specs.declared.lines.Line.{Line}
-use Rattle.str_scene.specs.Spelling.{ended}
-use Rattle.std.specs.Fmt.{signed_decimal}
-use Rattle.std.specs.Result.{OkIff, result_ok}
-use Rattle.std.proofs.lemmas.List.Edits.{between_more}
-use Rattle.std.proofs.lemmas.List.Folds.{list_all-append}
-use Rattle.str_scene.specs.SceneLimits.{IsNumber, in_name, is_letter, is_name}
-use Rattle.str_scene.specs.TextLines.{IsLine, is_without, line_spelled, lines_text}
 
 both : (a b : Bool) → a ≡ true → b ≡ true → (a && b) ≡ true
 both a b e f = rw (e, f)
@@ -68,6 +69,26 @@ is_without-name c (b ∷ bs) no_letter no_follow e =
 pub is_without_more : (c : ℕ) (xs : List ℕ) (from i : ℕ) → from ≤ i → i < length xs → ¬ (get_or xs i 0 ≡ c) → is_without c (slice_range xs from i) ≡ true → is_without c (slice_range xs from (i + 1)) ≡ true
 is_without_more c xs from i low high other before =
     rw (between_more xs from i 0 low high) (is_without-append c _ _ before (both _ _ (grind (arith, nat_tests)) refl))
+
+-- the bytes from a place on, parted at a later place
+pub drop_parted : (xs : List ℕ) (from i b : ℕ) → from ≤ i → slice_get xs i ≡ Some b → drop from xs ≡ slice_range xs from i ++ b ∷ drop (i + 1) xs
+drop_parted xs from i b low is =
+    let high : i < length xs = slice_get_within xs i b is in
+    let here : drop i xs ≡ b ∷ drop (i + 1) xs = rw (add-one, drop-cons xs i 0 high, get_or_from_slice_get xs i b 0 is) refl in
+    drop_split xs from i low ∙ ap (λ bytes. slice_range xs from i ++ bytes) here
+
+-- the bytes up to a place, and then those up to a later place and the byte there
+pub take_parted : (xs : List ℕ) (from i b : ℕ) → from ≤ i → slice_get xs i ≡ Some b → take (i + 1) xs ≡ take from xs ++ (slice_range xs from i ++ b ∷ [])
+take_parted xs from i b low is =
+    append_cancel_right (take (i + 1) xs) (take from xs ++ (slice_range xs from i ++ b ∷ [])) (drop (i + 1) xs)
+    (take-append-drop (i + 1) xs ∙ sym (append_assoc (take from xs) (slice_range xs from i ++ b ∷ []) (drop (i + 1) xs)
+    ∙ (ap (λ bytes. take from xs ++ bytes) (append_assoc (slice_range xs from i) (b ∷ []) (drop (i + 1) xs) ∙ sym (drop_parted xs from i b low is))
+    ∙ take-append-drop from xs)))
+
+-- the same where there may be no such place
+pub take_parted_some : (xs : List ℕ) (from b : ℕ) (r : Option ℕ) → IfSome r (λ i. from ≤ i) → IfSome r (λ i. slice_get xs i ≡ Some b) → IfSome r (λ i. take (i + 1) xs ≡ take from xs ++ (slice_range xs from i ++ b ∷ []))
+take_parted_some xs from b None low is = tt
+take_parted_some xs from b (Some i) low is = take_parted xs from i b low is
 
 -- what `strip_prefix` gives
 pub stripped : (s p : List ℕ) (r : Option (Bor (List ℕ))) → MatchOption r (pointwise eqb (take (length p) s) p ≡ false) (λ x. (pointwise eqb (take (length p) s) p ≡ true) × (x.now ≡ drop (length p) s) × (length x.now + length p ≡ length s)) → IfSome r (λ rest. s ≡ p ++ rest.now)
