@@ -1,5 +1,5 @@
 -- The lines of a text: each line has one reading, and no line feed stands in it.
-use Rattle.std.proofs.Common.{Bool, Bor, Err, FitsSigned, IfSome, IsNone, List, MatchOption, None, Ok, Option, Result, Some, [], add-one, ap, append_assoc, arith, codes, decimal, drop, drop-cons, eqb, false, get_or, length, length-append, negsuc, not, pos, refl, subst, sym, take, true, w64, ℕ, ℤ, ◌&&◌, ◌*◌, ◌++◌, ◌+◌, ◌<◌, ◌==◌, ◌∙◌, ◌∷◌, ◌≡◌, ◌≤◌}
+use Rattle.std.proofs.Common.{Bool, Bor, Err, FitsSigned, IfSome, IsNone, List, MatchOption, None, Ok, Option, Result, Some, [], add-one, ap, append_assoc, arith, codes, decimal, drop, drop-cons, eqb, false, get_or, length, length-append, length-drop, negsuc, not, pos, refl, subst, sym, take, true, w64, ℕ, ℤ, ◌&&◌, ◌*◌, ◌++◌, ◌+◌, ◌<◌, ◌==◌, ◌∙◌, ◌∷◌, ◌≡◌, ◌≤◌}
 use Rattle.std.proofs.lemmas.Bool.Decides.{Decides-eqb, nat_tests}
 use Rattle.std.proofs.lemmas.List.Edits.{between_more}
 use Rattle.std.proofs.lemmas.List.Folds.{drop_split, list_all-append}
@@ -9,6 +9,7 @@ use Rattle.std.proofs.lemmas.Slice.Eq.{strip_prefix_is}
 use Rattle.std.specs.Cmp.Lexicographic.{pointwise}
 use Rattle.std.specs.Fmt.{signed_decimal}
 use Rattle.std.specs.List.{list_all, slice_get, slice_range}
+use Rattle.std.specs.Prelude.{⊤}
 use Rattle.std.specs.Result.{OkIff, result_ok}
 use Rattle.str_base.proofs.DecimalLemmas.{decimal-injective, decimal-without, signed_decimal-injective, signed_decimal-without}
 use Rattle.str_base.specs.declared.names.SessionId.{SessionId}
@@ -226,3 +227,43 @@ line_taken l m ls text line rest ok fine whole parted is e =
 pub line_before : (m : Line) (ms : List Line) (text line rest : List ℕ) → text ≡ line ++ 10 ∷ rest → line ≡ line_spelled m → rest ≡ lines_text ms → lines_text (m ∷ ms) ≡ text
 line_before m ms text line rest parted is after =
     lines_text-cons m ms ∙ (ap (λ bytes. bytes ++ 10 ∷ lines_text ms) (sym is) ∙ (ap (λ bytes. line ++ 10 ∷ bytes) (sym after) ∙ sym parted))
+
+-- each is a line
+abbrev pub AreLines : List Line → Type 0
+AreLines [] = ⊤
+AreLines (l ∷ ls) = IsLine l × AreLines ls
+
+-- where bytes are left, a line is
+pub some_line : (ls : List Line) (text : List ℕ) (start : ℕ) → start < length text → drop start text ≡ lines_text ls → (l : Line) × ((after : List Line) × (ls ≡ l ∷ after))
+some_line [] text start h e = absurd (omega (arith, ap length e, length-drop start text))
+some_line (l ∷ after) text start h e = (l, (after, refl))
+
+-- the rest of a text of lines has a line feed
+pub rest_has_feed : (ls : List Line) (text : List ℕ) (start : ℕ) → start < length text → is_without 10 (drop start text) ≡ true → drop start text ≡ lines_text ls → ⊥
+rest_has_feed ls text start h none e =
+    let k = some_line ls text start h e in
+    no_feed_text k.0 k.1.0 (drop start text) none (ap lines_text (sym k.1.1) ∙ sym e)
+
+-- the next line of a text of lines is the spelling of one
+pub rest_has_line : (ls : List Line) (text line rest : List ℕ) (start : ℕ) → AreLines ls → start < length text → is_without 10 line ≡ true → drop start text ≡ line ++ 10 ∷ rest → ((m : Line) → IsLine m → ¬ (line ≡ line_spelled m)) → drop start text ≡ lines_text ls → ⊥
+rest_has_line ls text line rest start all h whole parted none e =
+    let k = some_line ls text start h e in
+    line_refused k.0 k.1.0 (drop start text) line rest (subst AreLines k.1.1 all).0 whole parted none (ap lines_text (sym k.1.1) ∙ sym e)
+
+-- where the next line spells m, the lines are m and others, which are the text after that line
+pub rest_begins : (m : Line) (ls : List Line) (text line rest : List ℕ) (start : ℕ) → IsLine m → AreLines ls → start < length text → is_without 10 line ≡ true → drop start text ≡ line ++ 10 ∷ rest → line ≡ line_spelled m → drop start text ≡ lines_text ls → (after : List Line) × ((ls ≡ m ∷ after) × (AreLines after × (rest ≡ lines_text after)))
+rest_begins m ls text line rest start fine all h whole parted is e =
+    let k = some_line ls text start h e in
+    let each = subst AreLines k.1.1 all in
+    let t = line_taken k.0 m k.1.0 (drop start text) line rest each.0 fine whole parted is (ap lines_text (sym k.1.1) ∙ sym e) in
+    (k.1.0, (k.1.1 ∙ ap (λ l. l ∷ k.1.0) t.0, (each.1, sym t.1)))
+
+-- the lines passed, and one more
+pub passed_more : (done : List Line) (m : Line) (text : List ℕ) (start i : ℕ) → take start text ≡ lines_text done → slice_range text start i ≡ line_spelled m → take (i + 1) text ≡ take start text ++ (slice_range text start i ++ 10 ∷ []) → take (i + 1) text ≡ lines_text (done ++ m ∷ [])
+passed_more done m text start i so_far is passed =
+    passed ∙ (ap (λ bytes. bytes ++ ended (slice_range text start i)) so_far ∙ (ap (λ bytes. lines_text done ++ ended bytes) is ∙ sym (lines_text-push done m)))
+
+-- lines and then other lines
+pub AreLines-append : (ls ms : List Line) → AreLines ls → AreLines ms → AreLines (ls ++ ms)
+AreLines-append [] ms all each = each
+AreLines-append (l ∷ ls) ms all each = (all.0, AreLines-append ls ms all.1 each)
