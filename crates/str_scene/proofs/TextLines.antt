@@ -19,9 +19,11 @@ use Rattle.str_scene.specs.TextLines.{IsLine, is_without, line_spelled, lines_te
 use Rattle.str_scene.specs.declared.lines.Line.TheVariants.{Client as LClient, Drain as LDrain, End as LEnd, Get as LGet, Nodes as LNodes, Part as LPart, Put as LPut, Schedule as LSchedule, Session as LSession, Tx as LTx, Version as LVersion}
 use Rattle.str_scene.specs.declared.lines.Line.{Line}
 
+-- both tests pass
 both : (a b : Bool) → a ≡ true → b ≡ true → (a && b) ≡ true
 both a b e f = rw (e, f)
 
+-- each of two tests that both pass
 parts : (a b : Bool) → (a && b) ≡ true → (a ≡ true) × (b ≡ true)
 parts true b e = (refl, e)
 parts false b e = absurd (cc)
@@ -34,10 +36,11 @@ differs p b c yes_b no_c = by_answer (b == c) refl
     by_answer true e = let same : b ≡ c = grind (arith, nat_tests) in absurd (cc (ap p same))
     by_answer false e = refl
 
--- the byte is in neither part
+-- what is in neither part is not in both
 pub is_without-append : (c : ℕ) (xs ys : List ℕ) → is_without c xs ≡ true → is_without c ys ≡ true → is_without c (xs ++ ys) ≡ true
 is_without-append c xs ys e f = list_all-append (λ b. not (b == c)) xs ys ∙ both _ _ e f
 
+-- a byte is itself
 not_itself : (c : ℕ) → not (c == c) ≡ true → ⊥
 not_itself c e = grind (arith, nat_tests)
 
@@ -96,6 +99,7 @@ pub stripped : (s p : List ℕ) (r : Option (Bor (List ℕ))) → MatchOption r 
 stripped s p None h = tt
 stripped s p (Some x) h = strip_prefix_is Decides-eqb s p (Some x) h
 
+-- where it gives nothing
 pub not_stripped : (s p : List ℕ) (r : Option (Bor (List ℕ))) → MatchOption r (pointwise eqb (take (length p) s) p ≡ false) (λ x. (pointwise eqb (take (length p) s) p ≡ true) × (x.now ≡ drop (length p) s) × (length x.now + length p ≡ length s)) → IsNone r → (rest : List ℕ) → ¬ (s ≡ p ++ rest)
 not_stripped s p None h is = strip_prefix_is Decides-eqb s p None h
 not_stripped s p (Some x) h is = absurd (cc)
