@@ -1,5 +1,4 @@
 //! The keys of a scene by number, and its byte strings.
-<<<<<<< HEAD
 ghost use Rattle.std.specs.Prelude.{◌≡◌, ◌≤◌, ◌<◌, ◌++◌, [], Some, flat_map, length, OnOk, OnErr, OnSome, IfOk, IfNone, slice_get};
 ghost use Rattle.str_scene.specs.Keeping.{Keeps};
 ghost use Rattle.str_scene.specs.Keys.{number_of, place_of, same_pair, with_pair};
@@ -9,16 +8,6 @@ ghost use Rattle.str_scene.specs.Spelling.{hex_byte, hex_digit, key_spelled, nam
 use std::alloc::{AllocError, Global};
 use std::marker::Model;
 use str_base::{KeyId, PartId, ShortList, TextId, push_u64};
-=======
-ghost use Rattle.std.specs.Prelude.{◌≡◌, ◌≤◌, ◌<◌, [], length, OnOk, OnErr, OnSome, IfOk, IfNone, slice_get, take, vec_len, ◌++◌};
-ghost use Rattle.str_scene.specs.Keys.{number_of, place_of, same_pair, with_pair};
-ghost use Rattle.str_scene.specs.Scenes.{KeyTable as Table, named_part};
-ghost use Rattle.str_scene.specs.Spelling.{key_spelled, name_spelled};
-
-use std::alloc::{AllocError, Global};
-use std::marker::Model;
-use str_base::{KeyId, PartId, ShortList, push_u64};
->>>>>>> 86a6f43ee34a9c991ec3b75f927c1b87ba6691b9
 
 /// The most keys of a scene.
 const MOST_KEYS: usize = 16_384;
@@ -82,16 +71,6 @@ impl NamedKey {
     {
         self.name.as_slice() == name.as_slice() && self.part == part
     }
-
-    /// Appends the spelling of the key. Where memory runs out it may have appended a part.
-    fn push_to(&self, out: &mut Vec<u8>) -> Result<(), AllocError>
-        ensures ok { OnOk result (out.new.items ≡ out.old.items ++ name_spelled (Some self.now)) }
-        ensures err { OnErr result (take (vec_len out.old) out.new.items ≡ out.old.items) }
-    {
-        out.extend_from_slice(self.name.as_slice())?;
-        out.extend_from_slice(b"@")?;
-        push_u64(out, u64::from(self.part.0))
-    }
 }
 
 impl KeyTable {
@@ -136,21 +115,6 @@ impl KeyTable {
     {
         let named = &self.names[key.0 as usize];
         named.part
-    }
-
-    /// Appends the spelling of a key. It fails where memory runs out, and then the bytes stay as they were.
-    pub fn push_key(&self, key: KeyId, out: &mut Vec<u8>) -> Result<(), AllocError>
-        requires { key.0 < length self.now.names }
-        ensures ok { OnOk result (out.new.items ≡ out.old.items ++ key_spelled self.now key) }
-        ensures err { OnErr result (out.new.items ≡ out.old.items) }
-    {
-        let before = out.len();
-        let named = &self.names[key.0 as usize];
-        let pushed = named.push_to(out);
-        if pushed.is_err() {
-            out.truncate(before);
-        }
-        pushed
     }
 
     /// The place of a key, which is the number of keys where it is not there.

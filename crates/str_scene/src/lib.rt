@@ -8,7 +8,7 @@ pub mod lines;
 pub mod names;
 pub mod scenes;
 
-pub use first::FirstFault;
+pub use first::{FirstFault, first_scene};
 pub use keys::{ByteText, KeyTable, Name};
 pub use lines::Line;
 pub use names::{Event, Op, OpList, TxPlace};

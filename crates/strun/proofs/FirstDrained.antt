@@ -1,5 +1,5 @@
 -- The drain of a first scene, from the laws of its node.
-use Rattle.std.proofs.Common.{ap, List, None, Some, [], refl, subst, sym, ℕ, ◌<◌, ◌∙◌, ◌≡◌}
+use Rattle.std.proofs.Common.{List, None, Some, [], ap, refl, subst, sym, ℕ, ◌<◌, ◌∙◌, ◌≡◌}
 use Rattle.str_base.specs.declared.names.SessionId.{SessionId}
 use Rattle.str_model.specs.declared.messages.Answer.{Answer}
 use Rattle.str_model.specs.declared.messages.Input.TheVariants.{Client}
@@ -15,7 +15,7 @@ use Rattle.str_model.specs.Work.{left}
 use Rattle.str_scene.specs.FirstScenes.{IsFirst}
 use Rattle.str_scene.specs.SceneLimits.{IsScene}
 use Rattle.str_scene.specs.Scenes.{Scene}
-use Rattle.strun.specs.ClusterStates.{drained_from, only_node, world_of}
+use Rattle.strun.specs.ClusterStates.{GoesOn, drained_from, only_node, world_of}
 use Rattle.node_core.proofs.FirstHere.{first_here}
 use Rattle.node_core.proofs.FirstKept.{first_kept}
 use Rattle.node_core.proofs.FirstLeft.{first_left}
@@ -42,11 +42,7 @@ first_over scene is first = drained-over scene is first (IsFirstView scene) (fal
 abbrev numbered : ℕ → SessionId
 numbered n = record { 0 = n }
 
--- the drain of a state is that of the state after its next event, in which less is left
-pub record GoesOn (scene : Scene) (w w' : World) : Type 0 where
-  pub same : drained_from scene w' ≡ drained_from scene w
-  pub less : left scene w' < left scene w
-
+-- the drain goes on with the next client step
 pub first_goes_on : (scene : Scene) → IsScene scene → IsFirst scene → (v : View) (j : List Done) (a : List Answer) (s : ℕ) → IsFirstView scene v
     → next_session scene (world_of v j a) ≡ Some s → GoesOn scene (world_of v j a) (happens scene (world_of v j a) (ClientEvent (record { 0 = s }) 0))
 first_goes_on scene is first v j a s good e = by_next (next_of scene is first v j a)

@@ -1,24 +1,30 @@
 -- An event of a first scene as the code does it: a step of the node, and the taking of its answers.
-use Rattle.std.proofs.Common.{Bool, List, MatchOption, None, Option, Some, [], ap, append-nil, arith, false, length, refl, sym, true, ℕ, ◌++◌, ◌∙◌, ◌∷◌, ◌≡◌, ◌≤◌}
+use Rattle.std.proofs.Common.{Bool, IfSome, IsNone, List, MatchOption, None, Option, Some, [], add-one, add_comm, ap, append-nil, arith, cond, false, find, get_or, is_some, length, not, option_map, refl, subst, suc, sym, take, true, ℕ, ◌++◌, ◌+◌, ◌-◌, ◌<◌, ◌∙◌, ◌∷◌, ◌≡◌, ◌≤◌}
+use Rattle.std.proofs.Math.Seq.{take-suc}
+use Rattle.std.specs.List.{range_with_len}
 use Rattle.str_base.specs.declared.names.NodeId.{NodeId}
 use Rattle.str_base.specs.declared.names.SessionId.{SessionId}
 use Rattle.str_model.specs.declared.messages.Answer.{Answer}
 use Rattle.str_model.specs.declared.messages.Input.{Input}
 use Rattle.str_model.specs.declared.messages.Input.TheVariants.{Client}
 use Rattle.str_model.specs.declared.names.Done.{Done}
+use Rattle.str_scene.specs.declared.names.Event.{Event}
 use Rattle.str_scene.specs.declared.names.Event.TheVariants.{Client as ClientEvent}
 use Rattle.node_core.specs.FirstSteps.{first_step}
-use Rattle.node_core.specs.NodeStates.{IsNode, NodeState, OutState, Steps, here_of}
-use Rattle.str_model.specs.Runs.{happens, stepped}
+use Rattle.node_core.specs.NodeStates.{IsNode, NodeState, OutState, SameLists, SameNode, Steps, here_of}
+use Rattle.str_model.specs.Drains.{moves, next_session}
+use Rattle.str_model.specs.Runs.{World, happens, run_from, stepped}
 use Rattle.str_model.specs.Steps.{need, step}
 use Rattle.str_model.specs.Views.{Doing, View}
 use Rattle.str_scene.specs.Scenes.{Here, Scene}
-use Rattle.strun.specs.ClusterStates.{client_done, only_node, world_of}
+use Rattle.strun.specs.ClusterStates.{GoesOn, IsCluster, client_done, drained_from, only_node, world_of}
 use Rattle.node_core.proofs.FirstHere.{first_here}
 use Rattle.node_core.proofs.FirstKept.{first_kept}
 use Rattle.node_core.proofs.FirstNeeds.{first_small}
 use Rattle.node_core.proofs.FirstRules.{step_first}
-use Rattle.strun.proofs.FirstRuns.{happens-client}
+use Rattle.strun.proofs.FirstDrained.{first_goes_on, first_over}
+use Rattle.strun.proofs.FirstDrains.{moves-step}
+use Rattle.strun.proofs.FirstRuns.{happens-client, run_from-append}
 
 -- a place
 abbrev here_at : Scene → NodeId → Here
@@ -103,3 +109,70 @@ stepped_is old new before after moves s t n m b says = by_step (step (here_of ol
         done : (j : List Done) (a : List Answer) → d.sent ≡ [] → stepped (ClientEvent s t) 0 (world_of old.view j a) (Some d)
             ≡ world_of d.view (j ++ client_done s t true (length d.released) ∷ []) (a ++ d.released)
         done j a q = rw q refl
+
+-- the same of a cluster, whose node made room first
+pub client_stepped : (node node1 node2 : NodeState) (out out1 out2 : OutState) (moves : Bool) (s : SessionId) (t : ℕ) → IsCluster node out → SameNode node node1 → SameLists out out1
+    → Says node1 node2 out1 out2 moves (step (here_of node1) (Client s t) node1.view) → Stepped node node2 out2 moves s t
+client_stepped node node1 node2 out out1 out2 moves s t is same lists says =
+    let n : IsNode node1.scene node1.id node1.view = rw (same.scene, same.id, same.view) is.node_ in
+    let r : Stepped node1 node2 out2 moves s t = stepped_is node1 node2 out1 out2 moves s t n (lists.messages ∙ is.messages) (lists.answers ∙ is.answers) says in
+    record {
+      scene = r.scene ∙ same.scene;
+      node_ = r.node_;
+      messages = r.messages;
+      few = r.few;
+      fits = subst (λ (m : ℕ). length out2.answers ≤ m) (needs_same) r.fits;
+      world = λ j a. r.world j a ∙ worlds j a;
+    }
+  where
+    needs_same : need (here_of node1) (Client s t) node1.view ≡ need (here_of node) (Client s t) node.view
+    needs_same = rw (same.scene, same.id, same.view) refl
+
+    worlds : (j : List Done) (a : List Answer) → happens node1.scene (world_of node1.view j a) (ClientEvent s t) ≡ happens node.scene (world_of node.view j a) (ClientEvent s t)
+    worlds j a = rw (same.scene, same.view) refl
+
+-- whether a session moves, as the node has it
+pub moves_is : (node : NodeState) (out : OutState) (j : List Done) (a : List Answer) (s : SessionId) (idle : Bool) → IsCluster node out
+    → idle ≡ not (is_some (step (here_of node) (Client s 0) node.view)) → moves node.scene (world_of node.view j a) s.0 ≡ not idle
+moves_is node out j a s idle is e =
+    let n = is.node_ in
+    let m : moves node.scene (world_of node.view j a) s.0 ≡ is_some (step (here_of node) (Client s 0) node.view) =
+          moves-step node.scene n.scene_ n.first node.view j a s.0 ∙ ap (λ (h : Here). is_some (step h (Client s 0) node.view)) (sym (one_here node.scene node.id n.one)) in
+    rw e (m ∙ sym (not_not (is_some (step (here_of node) (Client s 0) node.view))))
+  where
+    not_not : (b : Bool) → not (not b) ≡ b
+    not_not true = refl
+    not_not false = refl
+
+-- a search from a number on looks at that number first
+pub find_next : (p : ℕ → Bool) (i n : ℕ) → i < n
+    → find p (range_with_len (1 + i) (n - i)) ≡ cond (p (i + 1)) (Some (i + 1)) (find p (range_with_len (1 + (i + 1)) (n - (i + 1))))
+find_next p i n h = by_rest (n - (i + 1)) (omega arith)
+  where
+    by_rest : (m : ℕ) → n - i ≡ suc m → find p (range_with_len (1 + i) (n - i)) ≡ cond (p (i + 1)) (Some (i + 1)) (find p (range_with_len (1 + (i + 1)) m))
+    by_rest m e = rw (e, add_comm 1 i, add_comm 1 (i + 1)) refl
+
+-- the search for a session begins with the first one
+pub find_start : (scene : Scene) (w : World) → find (moves scene w) (range_with_len 1 (length scene.sessions - 0)) ≡ next_session scene w
+unfolding next_session
+find_start scene w = ap (λ (n : ℕ). find (moves scene w) (range_with_len 1 n)) (omega arith)
+
+-- what the search for a session found, as the drain has it
+pub session_over : (node : NodeState) (out : OutState) (j : List Done) (a : List Answer) (o : Option SessionId) → IsCluster node out
+    → option_map (λ (s : SessionId). s.0) o ≡ next_session node.scene (world_of node.view j a) → IsNone o → drained_from node.scene (world_of node.view j a) ≡ world_of node.view j a
+session_over node out j a None is e h = first_over node.scene is.node_.scene_ is.node_.first node.view j a (sym e)
+session_over node out j a (Some s) is e h = absurd (cc h)
+
+pub session_goes : (node : NodeState) (out : OutState) (j : List Done) (a : List Answer) (o : Option SessionId) → IsCluster node out
+    → option_map (λ (s : SessionId). s.0) o ≡ next_session node.scene (world_of node.view j a)
+    → IfSome o (λ s. GoesOn node.scene (world_of node.view j a) (happens node.scene (world_of node.view j a) (ClientEvent s 0)))
+session_goes node out j a None is e = tt
+session_goes node out j a (Some s) is e = first_goes_on node.scene is.node_.scene_ is.node_.first node.view j a s.0 is.node_.view (sym e)
+
+-- one more event of the schedule
+pub one_more : (scene : Scene) (w v : World) (es : List Event) (i : ℕ) (d : Event) → i < length es
+    → v ≡ run_from scene w (take i es) → happens scene v (get_or es i d) ≡ run_from scene w (take (i + 1) es)
+one_more scene w v es i d h k = rw (taken, run_from-append, k) refl
+  where
+    taken : take (i + 1) es ≡ take i es ++ get_or es i d ∷ []
+    taken = rw add-one (take-suc es i d h)

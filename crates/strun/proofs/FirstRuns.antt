@@ -1,5 +1,5 @@
 -- Runs of first scenes: one node, which sends nothing.
-use Rattle.std.proofs.Common.{List, None, Option, Some, [], ap, arith, option_map, refl, subst, suc, sym, zero, ℕ, ◌++◌, ◌∷◌, ◌≡◌}
+use Rattle.std.proofs.Common.{Bool, List, None, Option, Some, [], ap, append-nil, arith, cond, false, option_map, refl, subst, suc, sym, true, zero, ℕ, ◌++◌, ◌∙◌, ◌∷◌, ◌≡◌}
 use Rattle.str_base.specs.declared.names.NodeId.{NodeId}
 use Rattle.str_base.specs.declared.names.SessionId.{SessionId}
 use Rattle.str_model.specs.declared.messages.Answer.{Answer}
@@ -8,13 +8,15 @@ use Rattle.str_model.specs.declared.names.Done.{Done}
 use Rattle.str_scene.specs.declared.names.Event.{Event}
 use Rattle.str_scene.specs.declared.names.Event.TheVariants.{Client as ClientEvent, Deliver}
 use Rattle.str_model.specs.Clients.{client_rule, in_session}
-use Rattle.str_model.specs.Runs.{World, at_node, client_event, happens, run_from, stepped}
+use Rattle.str_model.specs.Drains.{cluster_events, cluster_run, drain_events, drained}
+use Rattle.str_model.specs.Runs.{World, at_node, client_event, happens, opening, run_from, stepped}
 use Rattle.str_model.specs.Steps.{after_rule, rule, step}
 use Rattle.str_model.specs.Views.{View, starts}
+use Rattle.str_model.specs.Work.{left}
 use Rattle.str_scene.specs.FirstScenes.{IsFirst}
 use Rattle.str_scene.specs.SceneLimits.{Exists, IsScene}
 use Rattle.str_scene.specs.Scenes.{Here, Scene, Session, nth}
-use Rattle.strun.specs.ClusterStates.{only_node, world_of}
+use Rattle.strun.specs.ClusterStates.{drained_from, only_node, world_of}
 
 -- a later event is done after the earlier ones
 pub run_from-append : (scene : Scene) (w : World) (es fs : List Event) → run_from scene w (es ++ fs) ≡ run_from scene (run_from scene w es) fs
@@ -59,3 +61,19 @@ pub happens-client : (scene : Scene) → IsScene scene → IsFirst scene → (v 
     stepped (ClientEvent s t) 0 (world_of v journal answers) (step (only_node scene) (Client s t) v)
 unfolding happens
 happens-client scene is first v journal answers s t = client_step scene is first v journal answers s t (nth scene.sessions s.0) refl
+
+-- the run of a scene without a drain
+pub run-schedule : (scene : Scene) (w : World) → w ≡ run_from scene (opening scene) scene.schedule → scene.drain ≡ false → w ≡ cluster_run scene
+unfolding cluster_run cluster_events
+run-schedule scene w e k =
+    let r : World = run_from scene (opening scene) scene.schedule in
+    let none : drained scene r ≡ [] = ap (λ (b : Bool). cond b (drain_events scene (left scene r) r) []) k in
+    e ∙ sym (ap (λ (es : List Event). run_from scene (opening scene) (scene.schedule ++ es)) none ∙ ap (λ (es : List Event). run_from scene (opening scene) es) (append-nil scene.schedule))
+
+-- the run of a scene with a drain
+pub run-drained : (scene : Scene) (w v : World) → w ≡ run_from scene (opening scene) scene.schedule → scene.drain ≡ true → v ≡ drained_from scene w → v ≡ cluster_run scene
+unfolding cluster_run cluster_events
+run-drained scene w v e k d =
+    let r : World = run_from scene (opening scene) scene.schedule in
+    let events : drained scene r ≡ drain_events scene (left scene r) r = ap (λ (b : Bool). cond b (drain_events scene (left scene r) r) []) k in
+    d ∙ (ap (drained_from scene) e ∙ sym (run_from-append scene (opening scene) scene.schedule (drained scene r) ∙ ap (λ (es : List Event). run_from scene r es) events))

@@ -1,5 +1,5 @@
 -- What contracts see of a cluster of one node, and the worlds of first scenes.
-use Rattle.std.specs.Prelude.{Bool, List, [], not, ℕ, ◌∷◌, ◌≡◌}
+use Rattle.std.specs.Prelude.{Bool, List, [], not, ℕ, ◌<◌, ◌∷◌, ◌≡◌}
 use Rattle.str_base.specs.declared.names.SessionId.{SessionId}
 use Rattle.str_model.specs.declared.messages.Answer.{Answer}
 use Rattle.str_model.specs.declared.names.Done.{Done}
@@ -27,6 +27,11 @@ only_node scene = record { scene = scene; node = record { 0 = 1 } }
 -- the drain of a state, in full
 abbrev pub drained_from : Scene → World → World
 drained_from scene w = run_from scene w (drain_events scene (left scene w) w)
+
+-- the drain of a state is that of the state after its next event, in which less is left
+pub record GoesOn (scene : Scene) (w w' : World) : Type 0 where
+  pub same : drained_from scene w' ≡ drained_from scene w
+  pub less : left scene w' < left scene w
 
 -- what a cluster keeps between events: its node is that of a first scene, and the outbox is empty
 pub record IsCluster (node : NodeState) (out : OutState) : Type 0 where

@@ -1,20 +1,22 @@
 //! A cluster of one node, and its run.
-ghost use Rattle.std.specs.Prelude.{◌≡◌, ◌≤◌, ◌<◌, ◌+◌, ◌^◌, OnOk, OnErr, IfOk, ◌++◌, [], length, vec_len, vec_capacity};
+ghost use Rattle.std.specs.Prelude.{◌≡◌, ◌≤◌, ◌<◌, ◌+◌, ◌^◌, OnOk, OnErr, IfOk, IfSome, IsNone, ◌++◌, [], length, not, vec_len, vec_capacity};
+ghost use Rattle.std.specs.List.{count_by, sum_by};
 ghost use Rattle.std.specs.Option.{option_map};
 ghost use Rattle.str_model.specs.Drains.{next_session};
-ghost use Rattle.str_model.specs.Lines.{counts};
+ghost use Rattle.str_model.specs.Lines.{counts, is_commit};
 ghost use Rattle.str_model.specs.Runs.{happens, opening, run_from};
 ghost use Rattle.str_scene.specs.declared.names.Event.TheVariants.{Client, Deliver};
 ghost use Rattle.str_scene.specs.FirstScenes.{IsFirst};
 ghost use Rattle.str_scene.specs.SceneLimits.{IsScene};
-ghost use Rattle.strun.specs.ClusterStates.{drained_from};
+ghost use Rattle.strun.specs.ClusterStates.{GoesOn, drained_from};
+ghost use Rattle.strun.specs.Printing.{counted};
 
 use crate::lines::Counts;
 use node_core::{Node, Outbox};
 use std::alloc::{AllocError, Global};
 use std::marker::Model;
 use str_base::{NodeId, SessionId};
-use str_model::{Answer, Done, Input};
+use str_model::{Answer, Done, Input, Outcome};
 use str_scene::{Event, Scene};
 
 /// A cluster of the one node of a first scene, with its journal and its answers.
@@ -130,7 +132,7 @@ impl Cluster {
     }
 
     /// The lowest session for which a client step is not idle.
-    fn next_session(&self) -> Option<SessionId>
+    fn lowest_session(&self) -> Option<SessionId>
         ensures { option_map (λ s. s.0) result ≡ next_session self.now.scene self.now.world }
     {
         for i in 0..self.scene().sessions().len() {
@@ -140,6 +142,30 @@ impl Cluster {
             }
         }
         None
+    }
+
+    /// The session of the drain's next client step; none where the drain is over.
+    fn next_session(&self) -> Option<SessionId>
+        ensures over { IsNone result → drained_from self.now.scene self.now.world ≡ self.now.world }
+        ensures goes { IfSome result (λ s. GoesOn self.now.scene self.now.world (happens self.now.scene self.now.world (Client s 0))) }
+    {
+        let _ = &self.node;
+        self.lowest_session()
+    }
+
+    /// The numbers of the last line.
+    pub fn counts(&self) -> Counts
+        ensures { counted result ≡ counts self.now.scene self.now.world }
+    {
+        let _ = &self.node;
+        let begun = u64::from(self.node.begun());
+        Counts {
+            commits: commits_among(self.answers.as_slice()),
+            aborts: aborts_among(self.answers.as_slice()),
+            held: u64::from(self.node.held()),
+            unbegun: scripts_of(self.node.scene()).saturating_sub(begun),
+            messages: 0,
+        }
     }
 
     /// Drains the cluster: since no message was sent, it makes the client step of the lowest session for which it
@@ -156,6 +182,41 @@ impl Cluster {
         }
         Ok(())
     }
+}
+
+/// Whether a transaction committed.
+fn has_committed(outcome: &Outcome) -> bool
+    ensures { result ≡ is_commit outcome.now }
+{
+    match outcome {
+        Outcome::Committed { .. } => true,
+        Outcome::Aborted { .. } => false,
+    }
+}
+
+/// How many of these answers are commits.
+fn commits_among(answers: &[Answer]) -> u64
+    ensures { result ≡ count_by (λ a. is_commit a.outcome) answers.now }
+{
+    answers.iter().filter(|a| has_committed(&a.outcome)).count() as u64
+}
+
+/// How many of these answers are aborts.
+fn aborts_among(answers: &[Answer]) -> u64
+    ensures { result ≡ count_by (λ a. not (is_commit a.outcome)) answers.now }
+{
+    answers.iter().filter(|a| !has_committed(&a.outcome)).count() as u64
+}
+
+/// How many transactions the sessions of a scene have.
+fn scripts_of(scene: &Scene) -> u64
+    ensures { result ≡ sum_by (λ s. length s.txs) scene.now.sessions }
+{
+    let mut total = 0;
+    for session in scene.sessions() {
+        total += session.txs().len() as u64;
+    }
+    total
 }
 
 /// Takes the answers out of an outbox, and says how many there were.

@@ -3,5 +3,7 @@
 
 mod cluster;
 mod lines;
+mod status;
+mod tops;
 
 fn main() {}

@@ -1,0 +1,11 @@
+use Rattle.std.proofs.Common.{flat_map, take, ◌≡◌, ◌≤◌}
+use Rattle.std.specs.Io.KnownBytes.{Appends}
+use Rattle.str_model.specs.Lines.{answer_line}
+use Rattle.strun.proofs.tops.write_answers.Given as goal
+
+abbrev pub invariant-loop-answer : goal.invariant-loop-answer
+invariant-loop-answer g l = record {
+  later : g.K.Sink.faults l.fn.out ≤ g.K.Sink.faults l.out;
+  keys : l.keys ≡ l.cluster.scene.keys;
+  written : Appends (g.K.Sink.held l.fn.out) (g.K.Sink.held l.out) (flat_map (answer_line l.cluster.scene.keys) (take l.answer-index l.answer-items));
+}
