@@ -1,13 +1,11 @@
 -- The text of a first scene is that of its lines.
-use Rattle.std.proofs.Common.{Bool, List, None, Option, Some, [], ap, append-nil, append_assoc, arith, false, get_or, length, map, refl, slice_get, subst, sym, true, ℕ, ◌++◌, ◌<◌, ◌≤◌, ◌∷◌, ◌≡◌, ◌∙◌}
+use Rattle.std.proofs.Common.{Bool, List, Some, [], ap, append_assoc, arith, false, get_or, length, map, refl, slice_get, sym, true, ℕ, ◌++◌, ◌<◌, ◌∷◌, ◌≡◌, ◌∙◌}
 use Rattle.std.proofs.lemmas.List.{map-append}
 use Rattle.std.proofs.lemmas.Option.{slice_get-get_or}
 use Rattle.std.proofs.lemmas.Fmt.{decimal_digit}
-use Rattle.std.proofs.lemmas.Grind.{flat_map-append}
 use Rattle.std.specs.Prelude.{codes, decimal, flat_map}
 use Rattle.std.specs.Fmt.{signed_decimal}
 use Rattle.str_base.specs.declared.names.KeyId.{KeyId}
-use Rattle.str_base.specs.declared.names.PartId.{PartId}
 use Rattle.str_scene.proofs.Built.{GoodEvent, GoodName, GoodOp, GoodScript, GoodSession}
 use Rattle.str_scene.proofs.Each.{each_append, each_at}
 use Rattle.str_scene.proofs.GoodScenes.{GoodScene, good_scene}
@@ -18,7 +16,7 @@ use Rattle.str_scene.specs.Scenes.{KeyTable, Scene, Session}
 use Rattle.str_scene.specs.Spelling.{drain_lines, ended, event_spelled, head_lines, key_spelled, op_spelled, scene_lines, session_lines, spelling, tail_lines, tx_lines}
 use Rattle.str_scene.specs.TextLines.{IsLine, drain_line, event_lines, first_lines, line_spelled, lines_text, name_of_key, one_session_lines, op_lines, script_lines}
 use Rattle.str_scene.specs.declared.lines.Line.{Line}
-use Rattle.str_scene.specs.declared.lines.Line.TheVariants.{Client as LClient, Drain as LDrain, End as LEnd, Get as LGet, Nodes as LNodes, Part as LPart, Put as LPut, Schedule as LSchedule, Session as LSession, Tx as LTx, Version as LVersion}
+use Rattle.str_scene.specs.declared.lines.Line.TheVariants.{End as LEnd, Schedule as LSchedule}
 use Rattle.str_scene.specs.declared.names.Event.{Event}
 use Rattle.str_scene.specs.declared.names.Event.TheVariants.{Client, Deliver}
 use Rattle.str_scene.specs.declared.names.Op.{Op}

@@ -1,32 +1,32 @@
 -- The lines of a first scene are taken to the end.
-use Rattle.std.proofs.Common.{Bool, List, None, Option, Some, [], add-one, ap, append-nil, append_assoc, arith, cond, drop, false, get_or, length, length-append, length-take, nat_le, nat_lt, refl, slice_get, subst, suc, sym, take, true, zero, ℕ, ◌&&◌, ◌*◌, ◌++◌, ◌+◌, ◌<◌, ◌≤◌, ◌∙◌, ◌∷◌, ◌≡◌, ◌⊎◌, inl, inr}
+use Rattle.std.proofs.Common.{Bool, List, None, Option, Some, [], add-one, ap, append-nil, append_assoc, arith, cond, false, get_or, length, length-append, length-take, nat_le, nat_lt, refl, slice_get, subst, suc, sym, take, true, zero, ℕ, ◌&&◌, ◌*◌, ◌++◌, ◌+◌, ◌<◌, ◌≤◌, ◌∙◌, ◌∷◌, ◌≡◌, inl, inr}
 use Rattle.std.proofs.lemmas.Bool.Decides.{nat_tests}
 use Rattle.std.proofs.lemmas.Grind.{flat_map-append}
 use Rattle.std.proofs.lemmas.List.Sums.{sum_by-append}
 use Rattle.std.proofs.lemmas.Option.{none-some, same_Some, slice_get-get_or, slice_get_within}
-use Rattle.std.specs.List.{count_by, sum_by}
+use Rattle.std.specs.List.{count_by}
 use Rattle.std.specs.Prelude.{flat_map, option_and_then}
 use Rattle.str_base.specs.Versions.{same_node}
 use Rattle.str_base.specs.declared.names.KeyId.{KeyId}
 use Rattle.str_base.specs.declared.names.NodeId.{NodeId}
 use Rattle.str_base.specs.declared.names.PartId.{PartId}
 use Rattle.str_scene.proofs.Built.{Distinct, GoodEvent, GoodName, GoodOp, GoodScript, GoodSession, mk, script_ops, session_ops, tx_count}
-use Rattle.str_scene.proofs.Counts.{counted-append, counted_cases, counted_grows}
+use Rattle.str_scene.proofs.Counts.{counted-append, counted_cases}
 use Rattle.str_scene.proofs.Each.{each_at}
-use Rattle.str_scene.proofs.GoodScenes.{GoodScene, good_scene}
+use Rattle.str_scene.proofs.GoodScenes.{good_scene}
 use Rattle.str_scene.proofs.Pairs.{Interned, interned}
 use Rattle.str_scene.proofs.Runs.{run-append}
 use Rattle.str_scene.proofs.Sound.{session_good}
-use Rattle.str_scene.specs.Building.{Build, Each, begun_schedule, begun_session, begun_tx, closed_script, closed_session, closed_tx, empty_build, ended_session, in_first, run, take_line, take_op, with_op}
+use Rattle.str_scene.specs.Building.{Build, Each, begun_schedule, begun_session, begun_tx, closed_script, closed_session, closed_tx, empty_build, ended_session, in_first, run, take_line, take_op}
 use Rattle.str_scene.specs.FirstScenes.{IsFirst}
 use Rattle.str_scene.specs.Keys.{number_of, place_of, with_pair}
 use Rattle.str_scene.specs.SceneLimits.{IsScene, counted, key_of}
 use Rattle.str_scene.specs.Scenes.{KeyTable, Scene, Session}
 use Rattle.str_scene.specs.TextLines.{drain_line, event_lines, first_lines, name_of_key, one_session_lines, op_lines, script_lines}
 use Rattle.str_scene.specs.declared.build.Stage.{Stage}
-use Rattle.str_scene.specs.declared.build.Stage.TheVariants.{AfterDrain, AfterNodes, AfterVersion, Ended, InSchedule, InSession, InTransaction, Sessions, Start}
+use Rattle.str_scene.specs.declared.build.Stage.TheVariants.{Ended, InSchedule, InSession, InTransaction, Sessions}
 use Rattle.str_scene.specs.declared.lines.Line.{Line}
-use Rattle.str_scene.specs.declared.lines.Line.TheVariants.{Client as LClient, End as LEnd, Get as LGet, Put as LPut, Schedule as LSchedule, Session as LSession, Tx as LTx}
+use Rattle.str_scene.specs.declared.lines.Line.TheVariants.{Client as LClient, End as LEnd, Schedule as LSchedule, Session as LSession, Tx as LTx}
 use Rattle.str_scene.specs.declared.names.Event.{Event}
 use Rattle.str_scene.specs.declared.names.Event.TheVariants.{Client, Deliver}
 use Rattle.str_scene.specs.declared.names.Op.{Op}

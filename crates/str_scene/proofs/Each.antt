@@ -1,5 +1,5 @@
 -- A fact of each element of a list, head by head.
-use Rattle.std.proofs.Common.{Bool, List, None, Option, Some, [], ap, arith, false, length, refl, slice_get, subst, suc, sym, true, zero, ℕ, ◌++◌, ◌+◌, ◌<◌, ◌∷◌, ◌≡◌, ◌⊎◌, inl, inr}
+use Rattle.std.proofs.Common.{List, Some, [], ap, length, refl, slice_get, subst, suc, zero, ℕ, ◌++◌, ◌∷◌, ◌≡◌, ◌⊎◌, inl, inr}
 use Rattle.str_scene.specs.Building.{Each}
 
 -- after a push

@@ -1,12 +1,12 @@
 -- What a first scene has, element by element.
-use Rattle.std.proofs.Common.{Bool, List, None, Option, Some, [], ap, arith, false, length, refl, slice_get, subst, sym, true, zero, suc, ℕ, ◌&&◌, ◌++◌, ◌<◌, ◌≤◌, ◌∷◌, ◌≡◌, ◌∙◌}
+use Rattle.std.proofs.Common.{Bool, List, [], ap, arith, false, length, refl, subst, true, ℕ, ◌&&◌, ◌++◌, ◌≤◌, ◌∷◌, ◌≡◌}
 use Rattle.std.specs.List.{list_all}
 use Rattle.str_base.specs.declared.names.PartId.{PartId}
 use Rattle.str_scene.proofs.Built.{GoodEvent, GoodName, GoodOp, GoodScript, GoodSession, script_ops, session_ops}
 use Rattle.str_scene.proofs.Each.{each_from}
 use Rattle.str_scene.specs.Building.{Each}
 use Rattle.str_scene.specs.FirstScenes.{IsFirst, is_client, is_get_or_put}
-use Rattle.str_scene.specs.SceneLimits.{IsEvent, IsKey, IsNumber, IsOp, IsScene, IsScript, IsSession}
+use Rattle.str_scene.specs.SceneLimits.{IsEvent, IsKey, IsOp, IsScene, IsScript, IsSession}
 use Rattle.str_scene.specs.Scenes.{KeyTable, Scene, Session}
 use Rattle.str_scene.specs.declared.names.Event.{Event}
 use Rattle.str_scene.specs.declared.names.Event.TheVariants.{Client, Deliver}

@@ -1,5 +1,5 @@
 -- Where a key stands in a table.
-use Rattle.std.proofs.Common.{◌≡◌, ◌≤◌, ◌<◌, ◌++◌, ◌∷◌, ◌⊎◌, ◌&&◌, inl, inr, [], ℕ, List, Option, Some, None, eqb, length, length-append, nat_le, refl, ap, arith, slice_get, suc, zero, Bool, true, false, sym, cond}
+use Rattle.std.proofs.Common.{◌≡◌, ◌≤◌, ◌<◌, ◌++◌, ◌∷◌, ◌⊎◌, ◌&&◌, inl, inr, [], ℕ, List, Some, None, eqb, length, length-append, nat_le, refl, ap, arith, slice_get, suc, zero, Bool, true, false, cond}
 use Rattle.std.proofs.lemmas.Bool.Decides.{Decides-eqb, nat_tests}
 use Rattle.std.proofs.lemmas.Slice.Eq.{bytes_eq-Decides}
 use Rattle.std.specs.Str.{bytes_eq}

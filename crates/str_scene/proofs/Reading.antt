@@ -1,20 +1,18 @@
 -- How the reader goes on over a text.
-use Rattle.std.proofs.Common.{Bool, List, None, Option, Some, [], ap, arith, length, length-drop, drop, take, refl, sym, subst, true, ℕ, ◌++◌, ◌+◌, ◌<◌, ◌≤◌, ◌∷◌, ◌≡◌, ◌∙◌}
+use Rattle.std.proofs.Common.{Bool, List, None, Option, Some, [], ap, arith, length, length-drop, drop, take, refl, sym, true, ℕ, ◌++◌, ◌+◌, ◌<◌, ◌≤◌, ◌∷◌, ◌≡◌, ◌∙◌}
 use Rattle.std.proofs.lemmas.Option.{same_Some}
 use Rattle.std.specs.Prelude.{option_and_then}
 use Rattle.str_scene.proofs.Bridge.{bridge}
 use Rattle.str_scene.proofs.Complete.{complete}
 use Rattle.str_scene.proofs.Each.{each_push}
 use Rattle.str_scene.proofs.Runs.{run-append}
-use Rattle.str_scene.proofs.Sound.{Sound, sound}
+use Rattle.str_scene.proofs.Sound.{sound}
 use Rattle.str_scene.proofs.TextLines.{line_refused, line_taken, lines_text-nonempty, lines_text-push, no_feed_text}
 use Rattle.str_scene.specs.Building.{Build, Each, GoesOn, IsRead, LeadsNowhere, Left, empty_build, run, scene_of, take_line}
 use Rattle.str_scene.specs.FirstScenes.{IsFirstText}
 use Rattle.str_scene.specs.SceneLimits.{IsScene}
 use Rattle.str_scene.specs.Scenes.{Scene}
-use Rattle.str_scene.specs.Spelling.{spelling}
 use Rattle.str_scene.specs.TextLines.{IsLine, first_lines, is_without, line_spelled, lines_text}
-use Rattle.str_scene.specs.declared.build.Stage.{Stage}
 use Rattle.str_scene.specs.declared.build.Stage.TheVariants.{Ended}
 use Rattle.str_scene.specs.declared.lines.Line.{Line}
 

@@ -1,21 +1,18 @@
 -- A build at its end is a first scene, whose lines are those that were taken.
-use Rattle.std.proofs.Common.{Bool, List, None, Option, Some, [], ap, append-nil, arith, cond, false, length, nat_eq, refl, slice_get, subst, sym, true, zero, suc, ℕ, ◌&&◌, ◌++◌, ◌+◌, ◌<◌, ◌≤◌, ◌∷◌, ◌≡◌, ◌^◌, ◌∙◌, inl, inr}
-use Rattle.std.specs.List.{count_by, list_all}
+use Rattle.std.proofs.Common.{Bool, List, Some, [], ap, append-nil, arith, length, refl, slice_get, subst, sym, true, zero, suc, ℕ, ◌++◌, ◌∷◌, ◌≡◌, ◌∙◌, inl}
+use Rattle.std.specs.List.{list_all}
 use Rattle.std.specs.Prelude.{flat_map}
 use Rattle.std.proofs.lemmas.List.Sums.{count_by-le-length}
 use Rattle.str_base.specs.Versions.{same_node}
-use Rattle.std.proofs.lemmas.Grind.{flat_map-append}
-use Rattle.str_base.specs.declared.names.NodeId.{NodeId}
 use Rattle.str_base.specs.declared.names.PartId.{PartId}
-use Rattle.str_scene.proofs.Built.{Fine, GoodEvent, GoodName, GoodOp, GoodScript, GoodSession, IsBuilt, Next, built_ops, mk, script_ops, session_ops}
+use Rattle.str_scene.proofs.Built.{Fine, GoodEvent, GoodName, GoodOp, GoodScript, GoodSession, Next, built_ops, mk, script_ops, session_ops}
 use Rattle.str_scene.proofs.Each.{each_append, each_at, each_weaker}
 use Rattle.str_scene.proofs.Steps.{next_run}
 use Rattle.str_scene.specs.Building.{Each, Build, empty_build, run, scene_of}
 use Rattle.str_scene.specs.FirstScenes.{IsFirst, is_client, is_get_or_put}
-use Rattle.str_scene.specs.SceneLimits.{Exists, IsEvent, IsKey, IsOp, IsRow, IsScene, IsScript, IsSession, IsTable, counted, key_of, text_of}
+use Rattle.str_scene.specs.SceneLimits.{Exists, IsEvent, IsKey, IsOp, IsRow, IsScene, IsScript, IsSession, counted, key_of, text_of}
 use Rattle.str_scene.specs.Scenes.{KeyTable, Scene, Session}
 use Rattle.str_scene.specs.TextLines.{IsLine, first_lines}
-use Rattle.str_scene.specs.declared.build.Stage.{Stage}
 use Rattle.str_scene.specs.declared.build.Stage.TheVariants.{Ended}
 use Rattle.str_scene.specs.declared.lines.Line.{Line}
 use Rattle.str_scene.specs.declared.names.Event.{Event}

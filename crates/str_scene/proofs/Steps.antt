@@ -1,5 +1,5 @@
 -- Each line keeps the limits of a build, and adds itself to its lines.
-use Rattle.std.proofs.Common.{Bool, List, None, Option, Some, [], ap, append-nil, append_assoc, arith, cond, false, length, length-append, nat_le, nat_lt, refl, slice_get, ◌&&◌, subst, sym, true, zero, suc, ℕ, ℤ, ◌++◌, ◌+◌, ◌<◌, ◌≤◌, ◌∷◌, ◌≡◌, ◌^◌, ◌∙◌, ◌⊎◌, inl, inr}
+use Rattle.std.proofs.Common.{Bool, List, None, Option, Some, [], ap, append-nil, append_assoc, arith, cond, false, length, length-append, nat_le, nat_lt, refl, slice_get, ◌&&◌, subst, sym, true, ℕ, ℤ, ◌++◌, ◌<◌, ◌≤◌, ◌∷◌, ◌≡◌, ◌^◌, ◌∙◌, inl, inr}
 use Rattle.std.specs.Prelude.{flat_map, option_and_then}
 use Rattle.std.proofs.lemmas.Bool.Decides.{nat_tests}
 use Rattle.std.proofs.lemmas.Grind.{flat_map-append}
@@ -8,21 +8,21 @@ use Rattle.std.proofs.lemmas.Option.{cond_some, none-some, same_Some, slice_get_
 use Rattle.str_base.specs.declared.names.KeyId.{KeyId}
 use Rattle.str_base.specs.declared.names.PartId.{PartId}
 use Rattle.str_base.specs.declared.names.SessionId.{SessionId}
-use Rattle.str_scene.proofs.Built.{Adds, Distinct, Extends, Fine, GoodEvent, GoodName, GoodOp, GoodScript, GoodSession, IsBuilt, Next, Room, body_lines, built_ops, lines_at, mk, script_ops, session_ops, sessions_open, tx_count, txs_open}
+use Rattle.str_scene.proofs.Built.{Distinct, Fine, GoodEvent, GoodName, GoodOp, GoodScript, GoodSession, IsBuilt, Next, body_lines, built_ops, lines_at, mk, script_ops, session_ops}
 use Rattle.str_scene.proofs.Counts.{counted-append, counted_next, counted_old}
 use Rattle.str_scene.proofs.Pairs.{Interned, interned}
 use Rattle.str_scene.proofs.Each.{each_push, each_weaker, get_left, get_middle, get_push}
 use Rattle.str_scene.specs.Building.{Each, Build, begun_schedule, begun_session, begun_tx, closed_script, closed_session, closed_tx, ended_session, in_first, run, take_client, take_drain, take_end, take_line, take_nodes, take_op, take_part, take_version, with_op}
 use Rattle.str_scene.specs.Keys.{number_of, place_of, with_pair}
-use Rattle.str_scene.specs.SceneLimits.{IsNumber, counted, is_name, key_of}
+use Rattle.str_scene.specs.SceneLimits.{IsNumber, counted, key_of}
 use Rattle.str_scene.specs.Scenes.{KeyTable, Session}
-use Rattle.str_scene.specs.TextLines.{IsLine, drain_line, event_lines, one_session_lines, op_lines, script_lines}
+use Rattle.str_scene.specs.TextLines.{IsLine, event_lines, one_session_lines, op_lines, script_lines}
 use Rattle.str_scene.specs.declared.build.Stage.{Stage}
-use Rattle.str_scene.specs.declared.build.Stage.TheVariants.{AfterDrain, AfterNodes, AfterVersion, Ended, InSchedule, InSession, InTransaction, Sessions, Start}
+use Rattle.str_scene.specs.declared.build.Stage.TheVariants.{AfterDrain, AfterNodes, AfterVersion, InSchedule, InSession, InTransaction, Sessions, Start}
 use Rattle.str_scene.specs.declared.lines.Line.{Line}
 use Rattle.str_scene.specs.declared.lines.Line.TheVariants.{Client as LClient, Drain as LDrain, End as LEnd, Get as LGet, Nodes as LNodes, Part as LPart, Put as LPut, Schedule as LSchedule, Session as LSession, Tx as LTx, Version as LVersion}
 use Rattle.str_scene.specs.declared.names.Event.{Event}
-use Rattle.str_scene.specs.declared.names.Event.TheVariants.{Client, Deliver}
+use Rattle.str_scene.specs.declared.names.Event.TheVariants.{Client}
 use Rattle.str_scene.specs.declared.names.Op.{Op}
 use Rattle.str_scene.specs.declared.names.Op.TheVariants.{Get, Put}
 
