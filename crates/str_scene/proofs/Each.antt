@@ -39,6 +39,7 @@ pub get_middle : {X : Type 0} (xs ys : List X) (y : X) → slice_get (xs ++ y �
 get_middle [] ys y = refl
 get_middle (x ∷ xs) ys y = get_middle xs ys y
 
+-- one element more at the front
 push_more : {X : Type 0} (xs : List X) (y : X) (i : ℕ) (x : X) → (slice_get xs i ≡ Some x) ⊎ ((i ≡ length xs) × (x ≡ y)) →
     (slice_get xs i ≡ Some x) ⊎ ((suc i ≡ suc (length xs)) × (x ≡ y))
 push_more xs y i x (inl e) = inl e
