@@ -1,25 +1,29 @@
 -- The lines of a text: each line has one reading, and no line feed stands in it.
-use Rattle.std.proofs.Common.{length-append, ◌*◌, Result, Ok, Err, FitsSigned, w64, ℤ, pos, negsuc, codes, decimal, append_assoc, Bor, eqb, take, IfSome, IsNone, MatchOption, Bool, List, Option, Some, None, [], arith, ap, false, length, get_or, drop, not, refl, subst, sym, true, ℕ, ◌&&◌, ◌+◌, ◌++◌, ◌<◌, ◌==◌, ◌∙◌, ◌∷◌, ◌≡◌, ◌≤◌}
-use Rattle.std.specs.List.{list_all, slice_range}
+use Rattle.std.proofs.Common.{Bool, Bor, Err, FitsSigned, IfSome, IsNone, List, MatchOption, None, Ok, Option, Result, Some, [], add-one, ap, append_assoc, arith, codes, decimal, drop, drop-cons, eqb, false, get_or, length, length-append, length-drop, negsuc, not, pos, refl, subst, sym, take, true, w64, ℕ, ℤ, ◌&&◌, ◌*◌, ◌++◌, ◌+◌, ◌<◌, ◌==◌, ◌∙◌, ◌∷◌, ◌≡◌, ◌≤◌}
 use Rattle.std.proofs.lemmas.Bool.Decides.{Decides-eqb, nat_tests}
+use Rattle.std.proofs.lemmas.List.Edits.{between_more}
+use Rattle.std.proofs.lemmas.List.Folds.{drop_split, list_all-append}
+use Rattle.std.proofs.lemmas.List.{append-nil, append_cancel_left, append_cancel_right, take-append-drop}
+use Rattle.std.proofs.lemmas.Option.{get_or_from_slice_get, slice_get_within}
 use Rattle.std.proofs.lemmas.Slice.Eq.{strip_prefix_is}
 use Rattle.std.specs.Cmp.Lexicographic.{pointwise}
-use Rattle.std.proofs.lemmas.List.{append-nil, append_cancel_left, append_cancel_right}
+use Rattle.std.specs.Fmt.{signed_decimal}
+use Rattle.std.specs.List.{list_all, slice_get, slice_range}
+use Rattle.std.specs.Prelude.{⊤}
+use Rattle.std.specs.Result.{OkIff, result_ok}
 use Rattle.str_base.proofs.DecimalLemmas.{decimal-injective, decimal-without, signed_decimal-injective, signed_decimal-without}
 use Rattle.str_base.specs.declared.names.SessionId.{SessionId}
+use Rattle.str_scene.specs.SceneLimits.{IsNumber, in_name, is_letter, is_name}
+use Rattle.str_scene.specs.Spelling.{ended}
+use Rattle.str_scene.specs.TextLines.{IsLine, is_without, line_spelled, lines_text}
 use Rattle.str_scene.specs.declared.lines.Line.TheVariants.{Client as LClient, Drain as LDrain, End as LEnd, Get as LGet, Nodes as LNodes, Part as LPart, Put as LPut, Schedule as LSchedule, Session as LSession, Tx as LTx, Version as LVersion}
 use Rattle.str_scene.specs.declared.lines.Line.{Line}
-use Rattle.str_scene.specs.Spelling.{ended}
-use Rattle.std.specs.Fmt.{signed_decimal}
-use Rattle.std.specs.Result.{OkIff, result_ok}
-use Rattle.std.proofs.lemmas.List.Edits.{between_more}
-use Rattle.std.proofs.lemmas.List.Folds.{list_all-append}
-use Rattle.str_scene.specs.SceneLimits.{IsNumber, in_name, is_letter, is_name}
-use Rattle.str_scene.specs.TextLines.{IsLine, is_without, line_spelled, lines_text}
 
+-- both tests pass
 both : (a b : Bool) → a ≡ true → b ≡ true → (a && b) ≡ true
 both a b e f = rw (e, f)
 
+-- each of two tests that both pass
 parts : (a b : Bool) → (a && b) ≡ true → (a ≡ true) × (b ≡ true)
 parts true b e = (refl, e)
 parts false b e = absurd (cc)
@@ -32,10 +36,11 @@ differs p b c yes_b no_c = by_answer (b == c) refl
     by_answer true e = let same : b ≡ c = grind (arith, nat_tests) in absurd (cc (ap p same))
     by_answer false e = refl
 
--- the byte is in neither part
+-- what is in neither part is not in both
 pub is_without-append : (c : ℕ) (xs ys : List ℕ) → is_without c xs ≡ true → is_without c ys ≡ true → is_without c (xs ++ ys) ≡ true
 is_without-append c xs ys e f = list_all-append (λ b. not (b == c)) xs ys ∙ both _ _ e f
 
+-- a byte is itself
 not_itself : (c : ℕ) → not (c == c) ≡ true → ⊥
 not_itself c e = grind (arith, nat_tests)
 
@@ -69,11 +74,32 @@ pub is_without_more : (c : ℕ) (xs : List ℕ) (from i : ℕ) → from ≤ i �
 is_without_more c xs from i low high other before =
     rw (between_more xs from i 0 low high) (is_without-append c _ _ before (both _ _ (grind (arith, nat_tests)) refl))
 
+-- the bytes from a place on, parted at a later place
+pub drop_parted : (xs : List ℕ) (from i b : ℕ) → from ≤ i → slice_get xs i ≡ Some b → drop from xs ≡ slice_range xs from i ++ b ∷ drop (i + 1) xs
+drop_parted xs from i b low is =
+    let high : i < length xs = slice_get_within xs i b is in
+    let here : drop i xs ≡ b ∷ drop (i + 1) xs = rw (add-one, drop-cons xs i 0 high, get_or_from_slice_get xs i b 0 is) refl in
+    drop_split xs from i low ∙ ap (λ bytes. slice_range xs from i ++ bytes) here
+
+-- the bytes up to a place, and then those up to a later place and the byte there
+pub take_parted : (xs : List ℕ) (from i b : ℕ) → from ≤ i → slice_get xs i ≡ Some b → take (i + 1) xs ≡ take from xs ++ (slice_range xs from i ++ b ∷ [])
+take_parted xs from i b low is =
+    append_cancel_right (take (i + 1) xs) (take from xs ++ (slice_range xs from i ++ b ∷ [])) (drop (i + 1) xs)
+    (take-append-drop (i + 1) xs ∙ sym (append_assoc (take from xs) (slice_range xs from i ++ b ∷ []) (drop (i + 1) xs)
+    ∙ (ap (λ bytes. take from xs ++ bytes) (append_assoc (slice_range xs from i) (b ∷ []) (drop (i + 1) xs) ∙ sym (drop_parted xs from i b low is))
+    ∙ take-append-drop from xs)))
+
+-- the same where there may be no such place
+pub take_parted_some : (xs : List ℕ) (from b : ℕ) (r : Option ℕ) → IfSome r (λ i. from ≤ i) → IfSome r (λ i. slice_get xs i ≡ Some b) → IfSome r (λ i. take (i + 1) xs ≡ take from xs ++ (slice_range xs from i ++ b ∷ []))
+take_parted_some xs from b None low is = tt
+take_parted_some xs from b (Some i) low is = take_parted xs from i b low is
+
 -- what `strip_prefix` gives
 pub stripped : (s p : List ℕ) (r : Option (Bor (List ℕ))) → MatchOption r (pointwise eqb (take (length p) s) p ≡ false) (λ x. (pointwise eqb (take (length p) s) p ≡ true) × (x.now ≡ drop (length p) s) × (length x.now + length p ≡ length s)) → IfSome r (λ rest. s ≡ p ++ rest.now)
 stripped s p None h = tt
 stripped s p (Some x) h = strip_prefix_is Decides-eqb s p (Some x) h
 
+-- where it gives nothing
 pub not_stripped : (s p : List ℕ) (r : Option (Bor (List ℕ))) → MatchOption r (pointwise eqb (take (length p) s) p ≡ false) (λ x. (pointwise eqb (take (length p) s) p ≡ true) × (x.now ≡ drop (length p) s) × (length x.now + length p ≡ length s)) → IsNone r → (rest : List ℕ) → ¬ (s ≡ p ++ rest)
 not_stripped s p None h is = strip_prefix_is Decides-eqb s p None h
 not_stripped s p (Some x) h is = absurd (cc)
@@ -205,3 +231,43 @@ line_taken l m ls text line rest ok fine whole parted is e =
 pub line_before : (m : Line) (ms : List Line) (text line rest : List ℕ) → text ≡ line ++ 10 ∷ rest → line ≡ line_spelled m → rest ≡ lines_text ms → lines_text (m ∷ ms) ≡ text
 line_before m ms text line rest parted is after =
     lines_text-cons m ms ∙ (ap (λ bytes. bytes ++ 10 ∷ lines_text ms) (sym is) ∙ (ap (λ bytes. line ++ 10 ∷ bytes) (sym after) ∙ sym parted))
+
+-- each is a line
+abbrev pub AreLines : List Line → Type 0
+AreLines [] = ⊤
+AreLines (l ∷ ls) = IsLine l × AreLines ls
+
+-- where bytes are left, a line is
+pub some_line : (ls : List Line) (text : List ℕ) (start : ℕ) → start < length text → drop start text ≡ lines_text ls → (l : Line) × ((after : List Line) × (ls ≡ l ∷ after))
+some_line [] text start h e = absurd (omega (arith, ap length e, length-drop start text))
+some_line (l ∷ after) text start h e = (l, (after, refl))
+
+-- the rest of a text of lines has a line feed
+pub rest_has_feed : (ls : List Line) (text : List ℕ) (start : ℕ) → start < length text → is_without 10 (drop start text) ≡ true → drop start text ≡ lines_text ls → ⊥
+rest_has_feed ls text start h none e =
+    let k = some_line ls text start h e in
+    no_feed_text k.0 k.1.0 (drop start text) none (ap lines_text (sym k.1.1) ∙ sym e)
+
+-- the next line of a text of lines is the spelling of one
+pub rest_has_line : (ls : List Line) (text line rest : List ℕ) (start : ℕ) → AreLines ls → start < length text → is_without 10 line ≡ true → drop start text ≡ line ++ 10 ∷ rest → ((m : Line) → IsLine m → ¬ (line ≡ line_spelled m)) → drop start text ≡ lines_text ls → ⊥
+rest_has_line ls text line rest start all h whole parted none e =
+    let k = some_line ls text start h e in
+    line_refused k.0 k.1.0 (drop start text) line rest (subst AreLines k.1.1 all).0 whole parted none (ap lines_text (sym k.1.1) ∙ sym e)
+
+-- where the next line spells m, the lines are m and others, which are the text after that line
+pub rest_begins : (m : Line) (ls : List Line) (text line rest : List ℕ) (start : ℕ) → IsLine m → AreLines ls → start < length text → is_without 10 line ≡ true → drop start text ≡ line ++ 10 ∷ rest → line ≡ line_spelled m → drop start text ≡ lines_text ls → (after : List Line) × ((ls ≡ m ∷ after) × (AreLines after × (rest ≡ lines_text after)))
+rest_begins m ls text line rest start fine all h whole parted is e =
+    let k = some_line ls text start h e in
+    let each = subst AreLines k.1.1 all in
+    let t = line_taken k.0 m k.1.0 (drop start text) line rest each.0 fine whole parted is (ap lines_text (sym k.1.1) ∙ sym e) in
+    (k.1.0, (k.1.1 ∙ ap (λ l. l ∷ k.1.0) t.0, (each.1, sym t.1)))
+
+-- the lines passed, and one more
+pub passed_more : (done : List Line) (m : Line) (text : List ℕ) (start i : ℕ) → take start text ≡ lines_text done → slice_range text start i ≡ line_spelled m → take (i + 1) text ≡ take start text ++ (slice_range text start i ++ 10 ∷ []) → take (i + 1) text ≡ lines_text (done ++ m ∷ [])
+passed_more done m text start i so_far is passed =
+    passed ∙ (ap (λ bytes. bytes ++ ended (slice_range text start i)) so_far ∙ (ap (λ bytes. lines_text done ++ ended bytes) is ∙ sym (lines_text-push done m)))
+
+-- lines and then other lines
+pub AreLines-append : (ls ms : List Line) → AreLines ls → AreLines ms → AreLines (ls ++ ms)
+AreLines-append [] ms all each = each
+AreLines-append (l ∷ ls) ms all each = (all.0, AreLines-append ls ms all.1 each)

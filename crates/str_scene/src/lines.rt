@@ -41,6 +41,7 @@ pub enum Line {
 /// The place of the first of these bytes at `start` or after it, and `None` where there is none.
 fn place_of(bytes: &[u8], byte: u8, start: usize) -> Option<usize>
     ensures after { IfSome result (λ i. start ≤ i) }
+    ensures within { IfSome result (λ i. i < length bytes.now) }
     ensures byte { IfSome result (λ i. slice_get bytes.now i ≡ Some byte) }
     ensures first { IfSome result (λ i. is_without byte (slice_range bytes.now start i) ≡ true) }
     ensures none { IsNone result → is_without byte (drop start bytes.now) ≡ true }
@@ -56,6 +57,7 @@ fn place_of(bytes: &[u8], byte: u8, start: usize) -> Option<usize>
 /// The place of the first line feed at `start` or after it, and `None` where there is none.
 pub fn next_feed(text: &[u8], start: usize) -> Option<usize>
     ensures after { IfSome result (λ i. start ≤ i) }
+    ensures within { IfSome result (λ i. i < length text.now) }
     ensures feed { IfSome result (λ i. slice_get text.now i ≡ Some 10) }
     ensures line { IfSome result (λ i. is_without 10 (slice_range text.now start i) ≡ true) }
     ensures parts { IfSome result

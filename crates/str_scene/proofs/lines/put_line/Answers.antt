@@ -1,6 +1,6 @@
-use Rattle.std.proofs.Common.{sym, ◌∙◌, [], refl, ◌∙◌, ◌∷◌}
-use Rattle.std.specs.Fmt.{signed_decimal}
+use Rattle.std.proofs.Common.{[], refl, sym, ◌∙◌, ◌∷◌}
 use Rattle.std.proofs.lemmas.List.{append_cancel_left}
+use Rattle.std.specs.Fmt.{signed_decimal}
 use Rattle.str_scene.proofs.TextLines.{is_without-name, number_fits, one_answer, put_is, put_parts}
 use Rattle.str_scene.proofs.lines.put_line.Goals as goal
 
