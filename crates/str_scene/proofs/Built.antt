@@ -1,5 +1,5 @@
 -- What a build keeps, and the lines that it stands for.
-use Rattle.std.proofs.Common.{Bool, List, None, Option, Some, [], false, length, slice_get, true, ℕ, ◌++◌, ◌+◌, ◌<◌, ◌≤◌, ◌∷◌, ◌≡◌, ◌^◌}
+use Rattle.std.proofs.Common.{List, Some, [], length, slice_get, true, ℕ, ◌++◌, ◌+◌, ◌<◌, ◌≤◌, ◌∷◌, ◌≡◌, ◌^◌}
 use Rattle.std.specs.Prelude.{flat_map, ⊤}
 use Rattle.std.specs.List.{sum_by}
 use Rattle.str_base.specs.declared.names.PartId.{PartId}

@@ -1,32 +1,32 @@
 -- The lines of a first scene are taken to the end.
-use Rattle.std.proofs.Common.{Bool, List, None, Option, Some, [], add-one, ap, append-nil, append_assoc, arith, cond, drop, false, get_or, length, length-append, length-take, nat_le, nat_lt, refl, slice_get, subst, suc, sym, take, true, zero, ℕ, ◌&&◌, ◌*◌, ◌++◌, ◌+◌, ◌<◌, ◌≤◌, ◌∙◌, ◌∷◌, ◌≡◌, ◌⊎◌, inl, inr}
+use Rattle.std.proofs.Common.{Bool, List, None, Option, Some, [], add-one, ap, append-nil, append_assoc, arith, cond, false, get_or, length, length-append, length-take, nat_le, nat_lt, refl, slice_get, subst, suc, sym, take, true, zero, ℕ, ◌&&◌, ◌*◌, ◌++◌, ◌+◌, ◌<◌, ◌≤◌, ◌∙◌, ◌∷◌, ◌≡◌, inl, inr}
 use Rattle.std.proofs.lemmas.Bool.Decides.{nat_tests}
 use Rattle.std.proofs.lemmas.Grind.{flat_map-append}
 use Rattle.std.proofs.lemmas.List.Sums.{sum_by-append}
 use Rattle.std.proofs.lemmas.Option.{none-some, same_Some, slice_get-get_or, slice_get_within}
-use Rattle.std.specs.List.{count_by, sum_by}
+use Rattle.std.specs.List.{count_by}
 use Rattle.std.specs.Prelude.{flat_map, option_and_then}
 use Rattle.str_base.specs.Versions.{same_node}
 use Rattle.str_base.specs.declared.names.KeyId.{KeyId}
 use Rattle.str_base.specs.declared.names.NodeId.{NodeId}
 use Rattle.str_base.specs.declared.names.PartId.{PartId}
 use Rattle.str_scene.proofs.Built.{Distinct, GoodEvent, GoodName, GoodOp, GoodScript, GoodSession, mk, script_ops, session_ops, tx_count}
-use Rattle.str_scene.proofs.Counts.{counted-append, counted_cases, counted_grows}
+use Rattle.str_scene.proofs.Counts.{counted-append, counted_cases}
 use Rattle.str_scene.proofs.Each.{each_at}
-use Rattle.str_scene.proofs.GoodScenes.{GoodScene, good_scene}
+use Rattle.str_scene.proofs.GoodScenes.{good_scene}
 use Rattle.str_scene.proofs.Pairs.{Interned, interned}
 use Rattle.str_scene.proofs.Runs.{run-append}
 use Rattle.str_scene.proofs.Sound.{session_good}
-use Rattle.str_scene.specs.Building.{Build, Each, begun_schedule, begun_session, begun_tx, closed_script, closed_session, closed_tx, empty_build, ended_session, in_first, run, take_line, take_op, with_op}
+use Rattle.str_scene.specs.Building.{Build, Each, begun_schedule, begun_session, begun_tx, closed_script, closed_session, closed_tx, empty_build, ended_session, in_first, run, take_line, take_op}
 use Rattle.str_scene.specs.FirstScenes.{IsFirst}
 use Rattle.str_scene.specs.Keys.{number_of, place_of, with_pair}
 use Rattle.str_scene.specs.SceneLimits.{IsScene, counted, key_of}
 use Rattle.str_scene.specs.Scenes.{KeyTable, Scene, Session}
 use Rattle.str_scene.specs.TextLines.{drain_line, event_lines, first_lines, name_of_key, one_session_lines, op_lines, script_lines}
 use Rattle.str_scene.specs.declared.build.Stage.{Stage}
-use Rattle.str_scene.specs.declared.build.Stage.TheVariants.{AfterDrain, AfterNodes, AfterVersion, Ended, InSchedule, InSession, InTransaction, Sessions, Start}
+use Rattle.str_scene.specs.declared.build.Stage.TheVariants.{Ended, InSchedule, InSession, InTransaction, Sessions}
 use Rattle.str_scene.specs.declared.lines.Line.{Line}
-use Rattle.str_scene.specs.declared.lines.Line.TheVariants.{Client as LClient, End as LEnd, Get as LGet, Put as LPut, Schedule as LSchedule, Session as LSession, Tx as LTx}
+use Rattle.str_scene.specs.declared.lines.Line.TheVariants.{Client as LClient, End as LEnd, Schedule as LSchedule, Session as LSession, Tx as LTx}
 use Rattle.str_scene.specs.declared.names.Event.{Event}
 use Rattle.str_scene.specs.declared.names.Event.TheVariants.{Client, Deliver}
 use Rattle.str_scene.specs.declared.names.Op.{Op}
@@ -39,12 +39,14 @@ get_take (suc m) [] i x e = absurd cc
 get_take (suc m) (y ∷ xs) zero x e = (omega arith, e)
 get_take (suc m) (y ∷ xs) (suc i) x e = let h = get_take m xs i x e in (omega (arith, h.0), h.1)
 
+-- an element before m is one of the first m
 take_get : {X : Type 0} (m : ℕ) (xs : List X) (i : ℕ) (x : X) → i < m → slice_get xs i ≡ Some x → slice_get (take m xs) i ≡ Some x
 take_get zero xs i x l e = absurd (omega arith)
 take_get (suc m) [] i x l e = absurd cc
 take_get (suc m) (y ∷ xs) zero x l e = e
 take_get (suc m) (y ∷ xs) (suc i) x l e = take_get m xs i x (omega arith) e
 
+-- the first m and the next
 take_next : {X : Type 0} (m : ℕ) (xs : List X) (x : X) → slice_get xs m ≡ Some x → take (suc m) xs ≡ take m xs ++ x ∷ []
 take_next zero [] x e = absurd cc
 take_next zero (y ∷ xs) x e = ap (λ z. z ∷ []) (same_Some y x e)
@@ -61,10 +63,12 @@ record Ordered (table : KeyTable) : Type 0 where
   distinct : Distinct table.names
   few : length table.names ≤ 16384
 
+-- from the key at its place
 key_is : (table : KeyTable) (k : KeyId) (name : List ℕ) (p : ℕ) → slice_get table.names k.0 ≡ Some (name, record { 0 = p }) → p ≡ 1 →
     slice_get table.names k.0 ≡ Some (in_first (name_of_key table k))
 key_is table k name p e one = rw (e, one) refl
 
+-- the key with a number stands at that place
 key_at : (table : KeyTable) (k : KeyId) → Each GoodName table.names → k.0 < length table.names → slice_get table.names k.0 ≡ Some (in_first (name_of_key table k))
 key_at table k good l =
     let key = get_or table.names k.0 ([], record { 0 = 0 }) in
@@ -77,11 +81,13 @@ record Found (names : List (List ℕ × PartId)) (key : List ℕ × PartId) (m i
   place : place_of key (take m names) ≡ i
   with_ : with_pair key (take m names) ≡ take m' names
 
+-- a key that has been seen
 found_old : (names : List (List ℕ × PartId)) (key : List ℕ × PartId) (m i : ℕ) → Distinct names → slice_get names i ≡ Some key → i < m →
     Interned key (take m names) → Found names key m i m
 found_old names key m i d e l (inl h) = record { place = d _ _ key (get_take m names _ key h.0).1 e; with_ = h.1 }
 found_old names key m i d e l (inr h) = absurd (h.2 i (take_get m names i key l e))
 
+-- the next key
 found_new : (names : List (List ℕ × PartId)) (key : List ℕ × PartId) (m : ℕ) → Distinct names → slice_get names m ≡ Some key →
     Interned key (take m names) → Found names key m m (m + 1)
 found_new names key m d e (inl h) =
@@ -95,6 +101,7 @@ found_new names key m d e (inr h) =
       with_ = h.1 ∙ (sym (take_next m names key e) ∙ ap (λ n. take n names) (sym (add-one m)));
     }
 
+-- the number of a key that is found
 number_is : (names : List (List ℕ × PartId)) (key : List ℕ × PartId) (m m' : ℕ) (k : KeyId) → length names ≤ 16384 → Found names key m k.0 m' →
     number_of key (take m names) ≡ Some k
 number_is names key m m' k few f =
@@ -116,6 +123,7 @@ record InOrder (table : KeyTable) (k : KeyId) (m : ℕ) (ms : List ℕ) (end : �
   found : Found table.names (in_first (name_of_key table k)) m k.0 next
   rest : counted next ms ≡ Some end
 
+-- the key of the next operation is found
 in_order : (table : KeyTable) (k : KeyId) (m : ℕ) (ms : List ℕ) (end : ℕ) → Ordered table → k.0 < length table.names → counted m (k.0 ∷ ms) ≡ Some end → InOrder table k m ms end
 in_order table k m ms end o l e =
     let key = in_first (name_of_key table k) in
@@ -164,13 +172,16 @@ record Parts (m : ℕ) (xs ys : List ℕ) (end : ℕ) : Type 0 where
   first : counted m xs ≡ Some middle
   second : counted middle ys ≡ Some end
 
+-- by what the first part counts to
 parts_of : (o : Option ℕ) (m end : ℕ) (xs ys : List ℕ) → counted m xs ≡ o → option_and_then (λ k. counted k ys) o ≡ Some end → Parts m xs ys end
 parts_of None m end xs ys p q = absurd (none-some _ q)
 parts_of (Some k) m end xs ys p q = record { middle = k; first = p; second = q }
 
+-- from both together
 parts : (m end : ℕ) (xs ys : List ℕ) → counted m (xs ++ ys) ≡ Some end → Parts m xs ys end
 parts m end xs ys e = parts_of (counted m xs) m end xs ys refl (sym (counted-append m xs ys) ∙ e)
 
+-- a transaction with an operation closes
 script_closed : (ops : List Op) (b : Build) → 1 ≤ length ops → closed_script ops b ≡ Some (record b { stage = InSession; txs = b.txs ++ ops ∷ []; ops = [] })
 script_closed [] b l = absurd (omega arith)
 script_closed (op ∷ ops) b l = refl
@@ -186,6 +197,7 @@ tx_run table ops m end n ss done b o h few e at =
     ap (option_and_then (run (flat_map (op_lines table) ops))) begun
     ∙ ops_run table ops m end (n + 1) ss done [] o h.2 (omega (arith, h.1)) e
 
+-- the transactions of a session are taken
 txs_run : (table : KeyTable) (txs : List (List Op)) (m end n : ℕ) (ss : List Session) (done : List (List Op)) (b : Build) →
     Ordered table → Each (GoodScript (length table.names)) txs → n + length txs ≤ 1024 → counted m (flat_map key_of (script_ops txs)) ≡ Some end →
     closed_tx b.stage b ≡ Some (mk InSession (upto table m) ss done [] [] n) →
@@ -212,9 +224,11 @@ then_ended : (stage : Stage) (b c : Build) → closed_tx stage b ≡ Some c → 
 then_ended Sessions b c e = absurd (none-some _ e)
 then_ended stage b c e = ap (option_and_then ended_session) e
 
+-- the transactions of one session more
 tx_count_more : (s : Session) (ss : List Session) → tx_count (s ∷ ss) ≡ length s.txs + tx_count ss
 tx_count_more s ss = let h = sum_by-append (λ x. length x.txs) (s ∷ []) ss in omega (arith, h)
 
+-- the sessions are taken
 sessions_run : (table : KeyTable) (ss : List Session) (m end n : ℕ) (done : List Session) (b : Build) →
     Ordered table → Each (GoodSession (length table.names)) ss → length done + length ss ≤ 16 → n + tx_count ss ≤ 1024 →
     counted m (flat_map key_of (session_ops ss)) ≡ Some end →
@@ -261,6 +275,7 @@ events_run (Client s t ∷ es) keys ss done n h few =
     event_room d k l x y z = grind (arith, nat_tests)
 events_run (Deliver i ∷ es) keys ss done n h few = absurd h.0
 
+-- the drain and the end are taken
 drain_run : (drain : Bool) (keys : KeyTable) (ss : List Session) (es : List Event) (n : ℕ) →
     run (drain_line drain ++ LEnd ∷ []) (mk InSchedule keys ss [] [] es n) ≡ Some (mk (Ended drain) keys ss [] [] es n)
 drain_run true keys ss es n = refl
@@ -272,16 +287,19 @@ counted_le n k [] e = let same : n ≡ k = same_Some n k e in omega arith
 counted_le n k (m ∷ ms) e =
     elim (counted_cases n m k ms e) [ inl h ↦ (let l = counted_le n k ms h.1 in omega arith) | inr h ↦ (let l = counted_le (n + 1) k ms h.1 in omega arith) ]
 
+-- each operation names one key at most
 keys_le : (n : ℕ) (ops : List Op) → Each (GoodOp n) ops → length (flat_map key_of ops) ≤ length ops
 keys_le n [] h = omega arith
 keys_le n (Get k ∷ ops) h = let l = keys_le n ops h.1 in omega arith
 keys_le n (Put k v ∷ ops) h = let l = keys_le n ops h.1 in omega arith
 keys_le n (_ ∷ ops) h = absurd h.0
 
+-- a transaction has at most 16 operations
 script_le : (n : ℕ) (txs : List (List Op)) → Each (GoodScript n) txs → length (script_ops txs) ≤ 16 * length txs
 script_le n [] h = omega arith
 script_le n (ops ∷ txs) h = let l = script_le n txs h.1 in omega (arith, h.0.1, length-append ops (script_ops txs))
 
+-- and so have those of all sessions
 session_le : (n : ℕ) (ss : List Session) → Each (GoodSession n) ss → length (session_ops ss) ≤ 16 * tx_count ss
 session_le n [] h = omega arith
 session_le n (s ∷ ss) h =
@@ -300,12 +318,14 @@ all_at_one n (s ∷ ss) h =
     let both = sum_by-append (λ x. cond (same_node x.node one) 1 0) (s ∷ []) ss in
     omega (arith, both, here, rest)
 
+-- the lines are taken to the end
 pub record Complete (s : Scene) : Type 0 where
   pub build : Build
   pub drain : Bool
   pub lead : run (first_lines s) empty_build ≡ Some build
   pub at_end : build.stage ≡ Ended drain
 
+-- for each first scene
 pub complete : (s : Scene) → IsScene s → IsFirst s → Complete s
 complete s scene first =
     let good = good_scene s scene first in

@@ -1,5 +1,5 @@
 -- How the numbers of keys come in order.
-use Rattle.std.proofs.Common.{Bool, List, None, Option, Some, [], ap, arith, cond, eqb, false, length, ltb, refl, sym, true, ℕ, ◌++◌, ◌+◌, ◌<◌, ◌≤◌, ◌∷◌, ◌≡◌, ◌⊎◌, inl, inr, suc, ◌∙◌}
+use Rattle.std.proofs.Common.{Bool, List, None, Option, Some, [], arith, cond, eqb, false, ltb, refl, sym, true, ℕ, ◌++◌, ◌+◌, ◌<◌, ◌≤◌, ◌∷◌, ◌≡◌, ◌⊎◌, inl, inr, suc, ◌∙◌}
 use Rattle.std.specs.Prelude.{option_and_then}
 use Rattle.std.proofs.lemmas.Bool.Decides.{eqb_tells, leb_tells, nat_tests}
 use Rattle.str_scene.specs.SceneLimits.{counted}

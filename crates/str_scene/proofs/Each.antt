@@ -1,5 +1,5 @@
 -- A fact of each element of a list, head by head.
-use Rattle.std.proofs.Common.{Bool, List, None, Option, Some, [], ap, arith, false, length, refl, slice_get, subst, suc, sym, true, zero, ℕ, ◌++◌, ◌+◌, ◌<◌, ◌∷◌, ◌≡◌, ◌⊎◌, inl, inr}
+use Rattle.std.proofs.Common.{List, Some, [], ap, length, refl, slice_get, subst, suc, zero, ℕ, ◌++◌, ◌∷◌, ◌≡◌, ◌⊎◌, inl, inr}
 use Rattle.str_scene.specs.Building.{Each}
 
 -- after a push
@@ -39,6 +39,7 @@ pub get_middle : {X : Type 0} (xs ys : List X) (y : X) → slice_get (xs ++ y �
 get_middle [] ys y = refl
 get_middle (x ∷ xs) ys y = get_middle xs ys y
 
+-- one element more at the front
 push_more : {X : Type 0} (xs : List X) (y : X) (i : ℕ) (x : X) → (slice_get xs i ≡ Some x) ⊎ ((i ≡ length xs) × (x ≡ y)) →
     (slice_get xs i ≡ Some x) ⊎ ((suc i ≡ suc (length xs)) × (x ≡ y))
 push_more xs y i x (inl e) = inl e

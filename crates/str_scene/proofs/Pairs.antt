@@ -1,14 +1,16 @@
 -- Where a key stands in a table.
-use Rattle.std.proofs.Common.{◌≡◌, ◌≤◌, ◌<◌, ◌++◌, ◌∷◌, ◌⊎◌, ◌&&◌, inl, inr, [], ℕ, List, Option, Some, None, eqb, length, length-append, nat_le, refl, ap, arith, slice_get, suc, zero, Bool, true, false, sym, cond}
+use Rattle.std.proofs.Common.{◌≡◌, ◌≤◌, ◌<◌, ◌++◌, ◌∷◌, ◌⊎◌, ◌&&◌, inl, inr, [], ℕ, List, Some, None, eqb, length, length-append, nat_le, refl, ap, arith, slice_get, suc, zero, Bool, true, false, cond}
 use Rattle.std.proofs.lemmas.Bool.Decides.{Decides-eqb, nat_tests}
 use Rattle.std.proofs.lemmas.Slice.Eq.{bytes_eq-Decides}
 use Rattle.std.specs.Str.{bytes_eq}
 use Rattle.str_base.specs.declared.names.PartId.{PartId}
 use Rattle.str_scene.specs.Keys.{number_of, place_of, same_pair, with_pair}
 
+-- what the place of a key tells of the table with it
 abbrev PlaceFacts : List ℕ × PartId → List (List ℕ × PartId) → Type 0
 PlaceFacts a bs = (place_of a bs ≤ length bs) × (place_of a bs < length bs → with_pair a bs ≡ bs) × (place_of a bs ≡ length bs → with_pair a bs ≡ bs ++ a ∷ [])
 
+-- one key more at the front
 place_more : (a b : List ℕ × PartId) (bs : List (List ℕ × PartId)) (same : Bool) → PlaceFacts a bs →
     (cond same 0 (suc (place_of a bs)) ≤ suc (length bs)) × (cond same 0 (suc (place_of a bs)) < suc (length bs) → cond same (b ∷ bs) (b ∷ with_pair a bs) ≡ b ∷ bs) × (cond same 0 (suc (place_of a bs)) ≡ suc (length bs) → cond same (b ∷ bs) (b ∷ with_pair a bs) ≡ b ∷ (bs ++ a ∷ []))
 place_more a b bs true h = (omega arith, λ _. refl, λ e. cc)
@@ -60,6 +62,7 @@ same_pair_true a b e =
     pair_same : (n m : List ℕ) (p q : ℕ) → n ≡ m → p ≡ q → ◌≡◌ {A = List ℕ × PartId} (n, record { 0 = p }) (m, record { 0 = q })
     pair_same n m p q e f = rw (e, f) refl
 
+-- a key is one with itself
 pub same_pair_self : (a b : List ℕ × PartId) → b ≡ a → same_pair a b ≡ true
 same_pair_self a b e =
     rw (e, (bytes_eq-Decides a.0 a.0).1 refl, (Decides-eqb a.1.0 a.1.0).1 refl) refl
@@ -70,6 +73,7 @@ Interned a bs =
     ((slice_get bs (place_of a bs) ≡ Some a) × (with_pair a bs ≡ bs))
     ⊎ ((place_of a bs ≡ length bs) × (with_pair a bs ≡ bs ++ a ∷ []) × ((i : ℕ) → slice_get bs i ≡ Some a → ⊥))
 
+-- one key more at the front
 interned_more : (a b : List ℕ × PartId) (bs : List (List ℕ × PartId)) (same : Bool) → same_pair a b ≡ same → Interned a bs →
     ((slice_get (b ∷ bs) (cond same 0 (suc (place_of a bs))) ≡ Some a) × (cond same (b ∷ bs) (b ∷ with_pair a bs) ≡ b ∷ bs))
     ⊎ ((cond same 0 (suc (place_of a bs)) ≡ suc (length bs)) × (cond same (b ∷ bs) (b ∷ with_pair a bs) ≡ b ∷ (bs ++ a ∷ [])) × ((i : ℕ) → slice_get (b ∷ bs) i ≡ Some a → ⊥))
@@ -81,6 +85,7 @@ interned_more a b bs false e (inr h) = inr (ap suc h.0, ap (λ xs. b ∷ xs) h.1
     not_there zero f = let same : same_pair a b ≡ true = same_pair_self a b cc in cc
     not_there (suc i) f = h.2 i f
 
+-- each key is in its place, or comes at the end
 pub interned : (a : List ℕ × PartId) (bs : List (List ℕ × PartId)) → Interned a bs
 interned a [] = inr (refl, refl, λ i e. none_there i e)
   where

@@ -1,20 +1,18 @@
 -- How the reader goes on over a text.
-use Rattle.std.proofs.Common.{Bool, List, None, Option, Some, [], ap, arith, length, length-drop, drop, take, refl, sym, subst, true, ℕ, ◌++◌, ◌+◌, ◌<◌, ◌≤◌, ◌∷◌, ◌≡◌, ◌∙◌}
+use Rattle.std.proofs.Common.{Bool, List, None, Option, Some, [], ap, arith, length, length-drop, drop, take, refl, sym, true, ℕ, ◌++◌, ◌+◌, ◌<◌, ◌≤◌, ◌∷◌, ◌≡◌, ◌∙◌}
 use Rattle.std.proofs.lemmas.Option.{same_Some}
 use Rattle.std.specs.Prelude.{option_and_then}
 use Rattle.str_scene.proofs.Bridge.{bridge}
 use Rattle.str_scene.proofs.Complete.{complete}
 use Rattle.str_scene.proofs.Each.{each_push}
 use Rattle.str_scene.proofs.Runs.{run-append}
-use Rattle.str_scene.proofs.Sound.{Sound, sound}
+use Rattle.str_scene.proofs.Sound.{sound}
 use Rattle.str_scene.proofs.TextLines.{line_refused, line_taken, lines_text-nonempty, lines_text-push, no_feed_text}
 use Rattle.str_scene.specs.Building.{Build, Each, GoesOn, IsRead, LeadsNowhere, Left, empty_build, run, scene_of, take_line}
 use Rattle.str_scene.specs.FirstScenes.{IsFirstText}
 use Rattle.str_scene.specs.SceneLimits.{IsScene}
 use Rattle.str_scene.specs.Scenes.{Scene}
-use Rattle.str_scene.specs.Spelling.{spelling}
 use Rattle.str_scene.specs.TextLines.{IsLine, first_lines, is_without, line_spelled, lines_text}
-use Rattle.str_scene.specs.declared.build.Stage.{Stage}
 use Rattle.str_scene.specs.declared.build.Stage.TheVariants.{Ended}
 use Rattle.str_scene.specs.declared.lines.Line.{Line}
 
@@ -24,12 +22,14 @@ left_none : (ms : List Line) (rest : List ℕ) (b : Build) → Each IsLine ms �
 left_none [] rest b i e some f = absurd (omega (arith, ap length e))
 left_none (l ∷ ls) rest b i e some f = f l ls i.0 i.1 e
 
+-- where no first line of the rest may come, the text leads nowhere
 goes_nowhere : (text rest : List ℕ) (b : Build) → GoesOn text rest b → 1 ≤ length rest →
     ((l : Line) (ls : List Line) → IsLine l → Each IsLine ls → lines_text (l ∷ ls) ≡ rest → run (l ∷ ls) b ≡ None) → LeadsNowhere text
 goes_nowhere text rest b goes some f ls i e =
     let left = goes ls i e in
     left.lead ∙ left_none left.lines rest b left.are_lines left.spelled some f
 
+-- a rest before the end is not empty
 rest_some : (text : List ℕ) (start : ℕ) → start < length text → 1 ≤ length (drop start text)
 rest_some text start l = omega (arith, length-drop start text)
 
@@ -67,6 +67,7 @@ read_more text start feed line m b b' r passed is spelled next = record {
       ∙ (ap (option_and_then (run (m ∷ []))) r.lead ∙ ap (option_and_then (run [])) next);
 }
 
+-- the lines that are left after the next
 left_more : (ms : List Line) (text rest line : List ℕ) (m : Line) (b b' : Build) (end : Option Build) → Each IsLine ms → lines_text ms ≡ text → 1 ≤ length text → end ≡ run ms b →
     is_without 10 line ≡ true → text ≡ line ++ 10 ∷ rest → IsLine m → line ≡ line_spelled m → take_line b m ≡ Some b' → Left rest b' end
 left_more [] text rest line m b b' end i e some lead whole parts is spelled next = absurd (omega (arith, ap length e))
@@ -96,6 +97,7 @@ no_first text nowhere s f =
     absurd_run : {X : Type 0} {o : Option X} {x : X} → o ≡ None → o ≡ Some x → ⊥
     absurd_run p q = cc
 
+-- no line is left at the end
 left_end : (ms : List Line) (b : Build) → lines_text ms ≡ [] → run ms b ≡ Some b
 left_end [] b e = refl
 left_end (l ∷ ls) b e = absurd (omega (arith, lines_text-nonempty l ls, ap length e))

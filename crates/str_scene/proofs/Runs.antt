@@ -4,6 +4,7 @@ use Rattle.std.specs.Prelude.{option_and_then}
 use Rattle.str_scene.specs.Building.{Build, run, take_line}
 use Rattle.str_scene.specs.declared.lines.Line.{Line}
 
+-- by what the first lines lead to
 run_more : (ls ms : List Line) → ((c : Build) → run (ls ++ ms) c ≡ option_and_then (run ms) (run ls c)) → (o : Option Build) →
     option_and_then (run (ls ++ ms)) o ≡ option_and_then (run ms) (option_and_then (run ls) o)
 run_more ls ms f None = refl

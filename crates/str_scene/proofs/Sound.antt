@@ -1,21 +1,18 @@
 -- A build at its end is a first scene, whose lines are those that were taken.
-use Rattle.std.proofs.Common.{Bool, List, None, Option, Some, [], ap, append-nil, arith, cond, false, length, nat_eq, refl, slice_get, subst, sym, true, zero, suc, ℕ, ◌&&◌, ◌++◌, ◌+◌, ◌<◌, ◌≤◌, ◌∷◌, ◌≡◌, ◌^◌, ◌∙◌, inl, inr}
-use Rattle.std.specs.List.{count_by, list_all}
+use Rattle.std.proofs.Common.{Bool, List, Some, [], ap, append-nil, arith, length, refl, slice_get, subst, sym, true, zero, suc, ℕ, ◌++◌, ◌∷◌, ◌≡◌, ◌∙◌, inl}
+use Rattle.std.specs.List.{list_all}
 use Rattle.std.specs.Prelude.{flat_map}
 use Rattle.std.proofs.lemmas.List.Sums.{count_by-le-length}
 use Rattle.str_base.specs.Versions.{same_node}
-use Rattle.std.proofs.lemmas.Grind.{flat_map-append}
-use Rattle.str_base.specs.declared.names.NodeId.{NodeId}
 use Rattle.str_base.specs.declared.names.PartId.{PartId}
-use Rattle.str_scene.proofs.Built.{Fine, GoodEvent, GoodName, GoodOp, GoodScript, GoodSession, IsBuilt, Next, built_ops, mk, script_ops, session_ops}
+use Rattle.str_scene.proofs.Built.{Fine, GoodEvent, GoodName, GoodOp, GoodScript, GoodSession, Next, built_ops, mk, script_ops, session_ops}
 use Rattle.str_scene.proofs.Each.{each_append, each_at, each_weaker}
 use Rattle.str_scene.proofs.Steps.{next_run}
 use Rattle.str_scene.specs.Building.{Each, Build, empty_build, run, scene_of}
 use Rattle.str_scene.specs.FirstScenes.{IsFirst, is_client, is_get_or_put}
-use Rattle.str_scene.specs.SceneLimits.{Exists, IsEvent, IsKey, IsOp, IsRow, IsScene, IsScript, IsSession, IsTable, counted, key_of, text_of}
+use Rattle.str_scene.specs.SceneLimits.{Exists, IsEvent, IsKey, IsOp, IsRow, IsScene, IsScript, IsSession, counted, key_of, text_of}
 use Rattle.str_scene.specs.Scenes.{KeyTable, Scene, Session}
 use Rattle.str_scene.specs.TextLines.{IsLine, first_lines}
-use Rattle.str_scene.specs.declared.build.Stage.{Stage}
 use Rattle.str_scene.specs.declared.build.Stage.TheVariants.{Ended}
 use Rattle.str_scene.specs.declared.lines.Line.{Line}
 use Rattle.str_scene.specs.declared.names.Event.{Event}
@@ -47,6 +44,7 @@ each_all : {X : Type 0} (P : X → Type 0) (p : X → Bool) → ((x : X) → P x
 each_all P p f [] h = refl
 each_all P p f (x ∷ xs) h = rw (f x h.0, each_all P p f xs h.1) refl
 
+-- a fact of each element of lists in a row
 each_flat : {X Y : Type 0} (P : Y → Type 0) (Q : X → Type 0) (f : X → List Y) → ((x : X) → Q x → Each P (f x)) → (xs : List X) → Each Q xs → Each P (flat_map f xs)
 each_flat P Q f g [] h = tt
 each_flat P Q f g (x ∷ xs) h = each_append P (f x) (flat_map f xs) (g x h.0) (each_flat P Q f g xs h.1)
@@ -55,32 +53,39 @@ each_flat P Q f g (x ∷ xs) h = each_append P (f x) (flat_map f xs) (g x h.0) (
 pub session_good : (n : ℕ) (ss : List Session) → Each (GoodSession n) ss → Each (GoodOp n) (session_ops ss)
 session_good n ss h = each_flat (GoodOp n) (GoodSession n) (λ s. script_ops s.txs) (λ s g. each_flat (GoodOp n) (GoodScript n) (λ ops. ops) (λ ops k. k.2) s.txs g.1) ss h
 
+-- a good operation is a get or a put
 get_or_put_good : (n : ℕ) (o : Op) → GoodOp n o → is_get_or_put o ≡ true
 get_or_put_good n (Get k) h = refl
 get_or_put_good n (Put k v) h = refl
 get_or_put_good n _ h = absurd h
 
+-- a good event is a client step
 client_good : (n : ℕ) (e : Event) → GoodEvent n e → is_client e ≡ true
 client_good n (Client s t) h = refl
 client_good n (Deliver i) h = absurd h
 
+-- a good operation names no byte string
 no_text : (n : ℕ) (o : Op) → GoodOp n o → text_of o ≡ []
 no_text n (Get k) h = refl
 no_text n (Put k v) h = refl
 no_text n _ h = absurd h
 
+-- nor do good operations in a row
 no_texts : (n : ℕ) (ops : List Op) → Each (GoodOp n) ops → flat_map text_of ops ≡ []
 no_texts n [] h = refl
 no_texts n (o ∷ ops) h = ap (λ xs. xs ++ flat_map text_of ops) (no_text n o h.0) ∙ no_texts n ops h.1
 
+-- a good name is a key of the one partition
 key_good : (key : List ℕ × PartId) → GoodName key → IsKey 1 key
 key_good key h = record { name = h.0; part = rw h.1 (omega arith, omega arith) }
 
+-- a good operation is one of the table
 op_good : (table : KeyTable) (o : Op) → GoodOp (length table.names) o → IsOp 1 table o
 op_good table (Get k) h = h
 op_good table (Put k v) h = h
 op_good table _ h = absurd h
 
+-- a good script is one of the table
 script_good : (table : KeyTable) (ops : List Op) → GoodScript (length table.names) ops → IsScript 1 table ops
 script_good table ops h = record {
   some = h.0;
@@ -88,14 +93,17 @@ script_good table ops h = record {
   ops = λ i o e. op_good table o (each_at (GoodOp (length table.names)) ops i o h.2 e);
 }
 
+-- a good event is one of the scene
 event_good : (scene : Scene) (e : Event) → GoodEvent (length scene.sessions) e → IsEvent scene e
 event_good scene (Client s t) h = ((h.0, h.1), h.2)
 event_good scene (Deliver i) h = absurd h
 
+-- a list of one element has it at place 0
 one_only : {X : Type 0} (x : X) (i : ℕ) (y : X) → slice_get (x ∷ []) i ≡ Some y → i ≡ 0
 one_only x zero y e = refl
 one_only x (suc i) y e = absurd cc
 
+-- the row of the one partition
 one_row : IsRow 1 (record { 0 = 1 } ∷ [])
 one_row = record {
   some = omega arith;
@@ -104,6 +112,7 @@ one_row = record {
   distinct = λ i j n e f. one_only (record { 0 = 1 }) i n e ∙ sym (one_only (record { 0 = 1 }) j n f);
 }
 
+-- a good session is one of the scene
 session_is : (scene : Scene) (s : Session) → scene.version ≡ 1 → scene.nodes ≡ 1 → GoodSession (length scene.keys.names) s → IsSession scene s
 session_is scene s version nodes h = record {
   node = rw (h.0, nodes) (omega arith, omega arith);
@@ -143,6 +152,7 @@ built_scene drain keys ss txs ops events n f =
     no_text_at : (texts : List (List ℕ)) → texts ≡ [] → (i : ℕ) (t : List ℕ) → slice_get texts i ≡ Some t → ⊥
     no_text_at texts z i t e = let h : slice_get {X = List ℕ} [] i ≡ Some t = rw z at e in cc
 
+-- what was read is a first scene
 built_first : (drain : Bool) (keys : KeyTable) (ss : List Session) (txs : List (List Op)) (ops : List Op) (events : List Event) (n : ℕ) →
     Fine (mk (Ended drain) keys ss txs ops events n) → IsFirst (scene_of drain (mk (Ended drain) keys ss txs ops events n))
 built_first drain keys ss txs ops events n f =
@@ -161,6 +171,7 @@ pub record Sound (ls : List Line) (scene : Scene) : Type 0 where
   pub first : IsFirst scene
   pub lines : first_lines scene ≡ ls
 
+-- so it is for each list of lines that is taken to the end
 pub sound : (ls : List Line) (b : Build) (drain : Bool) → Each IsLine ls → run ls empty_build ≡ Some b → b.stage ≡ Ended drain → Sound ls (scene_of drain b)
 sound ls b drain i e at =
     let next = subst (λ stage. Next empty_build ls (mk stage b.keys b.sessions b.txs b.ops b.schedule b.begun)) at (next_run ls empty_build b i empty_fine e) in

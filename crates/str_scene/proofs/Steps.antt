@@ -1,5 +1,5 @@
 -- Each line keeps the limits of a build, and adds itself to its lines.
-use Rattle.std.proofs.Common.{Bool, List, None, Option, Some, [], ap, append-nil, append_assoc, arith, cond, false, length, length-append, nat_le, nat_lt, refl, slice_get, ◌&&◌, subst, sym, true, zero, suc, ℕ, ℤ, ◌++◌, ◌+◌, ◌<◌, ◌≤◌, ◌∷◌, ◌≡◌, ◌^◌, ◌∙◌, ◌⊎◌, inl, inr}
+use Rattle.std.proofs.Common.{Bool, List, None, Option, Some, [], ap, append-nil, append_assoc, arith, cond, false, length, length-append, nat_le, nat_lt, refl, slice_get, ◌&&◌, subst, sym, true, ℕ, ℤ, ◌++◌, ◌<◌, ◌≤◌, ◌∷◌, ◌≡◌, ◌^◌, ◌∙◌, inl, inr}
 use Rattle.std.specs.Prelude.{flat_map, option_and_then}
 use Rattle.std.proofs.lemmas.Bool.Decides.{nat_tests}
 use Rattle.std.proofs.lemmas.Grind.{flat_map-append}
@@ -8,21 +8,21 @@ use Rattle.std.proofs.lemmas.Option.{cond_some, none-some, same_Some, slice_get_
 use Rattle.str_base.specs.declared.names.KeyId.{KeyId}
 use Rattle.str_base.specs.declared.names.PartId.{PartId}
 use Rattle.str_base.specs.declared.names.SessionId.{SessionId}
-use Rattle.str_scene.proofs.Built.{Adds, Distinct, Extends, Fine, GoodEvent, GoodName, GoodOp, GoodScript, GoodSession, IsBuilt, Next, Room, body_lines, built_ops, lines_at, mk, script_ops, session_ops, sessions_open, tx_count, txs_open}
+use Rattle.str_scene.proofs.Built.{Distinct, Fine, GoodEvent, GoodName, GoodOp, GoodScript, GoodSession, IsBuilt, Next, body_lines, built_ops, lines_at, mk, script_ops, session_ops}
 use Rattle.str_scene.proofs.Counts.{counted-append, counted_next, counted_old}
 use Rattle.str_scene.proofs.Pairs.{Interned, interned}
 use Rattle.str_scene.proofs.Each.{each_push, each_weaker, get_left, get_middle, get_push}
 use Rattle.str_scene.specs.Building.{Each, Build, begun_schedule, begun_session, begun_tx, closed_script, closed_session, closed_tx, ended_session, in_first, run, take_client, take_drain, take_end, take_line, take_nodes, take_op, take_part, take_version, with_op}
 use Rattle.str_scene.specs.Keys.{number_of, place_of, with_pair}
-use Rattle.str_scene.specs.SceneLimits.{IsNumber, counted, is_name, key_of}
+use Rattle.str_scene.specs.SceneLimits.{IsNumber, counted, key_of}
 use Rattle.str_scene.specs.Scenes.{KeyTable, Session}
-use Rattle.str_scene.specs.TextLines.{IsLine, drain_line, event_lines, one_session_lines, op_lines, script_lines}
+use Rattle.str_scene.specs.TextLines.{IsLine, event_lines, one_session_lines, op_lines, script_lines}
 use Rattle.str_scene.specs.declared.build.Stage.{Stage}
-use Rattle.str_scene.specs.declared.build.Stage.TheVariants.{AfterDrain, AfterNodes, AfterVersion, Ended, InSchedule, InSession, InTransaction, Sessions, Start}
+use Rattle.str_scene.specs.declared.build.Stage.TheVariants.{AfterDrain, AfterNodes, AfterVersion, InSchedule, InSession, InTransaction, Sessions, Start}
 use Rattle.str_scene.specs.declared.lines.Line.{Line}
 use Rattle.str_scene.specs.declared.lines.Line.TheVariants.{Client as LClient, Drain as LDrain, End as LEnd, Get as LGet, Nodes as LNodes, Part as LPart, Put as LPut, Schedule as LSchedule, Session as LSession, Tx as LTx, Version as LVersion}
 use Rattle.str_scene.specs.declared.names.Event.{Event}
-use Rattle.str_scene.specs.declared.names.Event.TheVariants.{Client, Deliver}
+use Rattle.str_scene.specs.declared.names.Event.TheVariants.{Client}
 use Rattle.str_scene.specs.declared.names.Op.{Op}
 use Rattle.str_scene.specs.declared.names.Op.TheVariants.{Get, Put}
 
@@ -75,6 +75,7 @@ script_more : (table : KeyTable) (txs : List (List Op)) (ops : List Op) →
     flat_map (script_lines table) (txs ++ ops ∷ []) ≡ flat_map (script_lines table) txs ++ script_lines table ops
 script_more table txs ops = flat_map-append (script_lines table) txs (ops ∷ []) ∙ ap (λ xs. flat_map (script_lines table) txs ++ xs) (append-nil (script_lines table ops))
 
+-- one session more at the end
 session_more : (table : KeyTable) (ss : List Session) (s : Session) →
     flat_map (one_session_lines table) (ss ++ s ∷ []) ≡ flat_map (one_session_lines table) ss ++ one_session_lines table s
 session_more table ss s = flat_map-append (one_session_lines table) ss (s ∷ []) ∙ ap (λ xs. flat_map (one_session_lines table) ss ++ xs) (append-nil (one_session_lines table s))
@@ -341,6 +342,7 @@ record Grown (names : List (List ℕ × PartId)) (key : List ℕ × PartId) (pla
   there : slice_get names' place ≡ Some key
   kept : (i : ℕ) (k : List ℕ × PartId) → slice_get names i ≡ Some k → slice_get names' i ≡ Some k
 
+-- a key that is not there may come at the end
 distinct_push : (names : List (List ℕ × PartId)) (key : List ℕ × PartId) → Distinct names → ((i : ℕ) → slice_get names i ≡ Some key → ⊥) →
     Distinct (names ++ key ∷ [])
 distinct_push names key d new i j k p q =
@@ -349,6 +351,7 @@ distinct_push names key d new i j k p q =
       | inr u ↦ elim (get_push names key j k q) [ inl v ↦ absurd (new j (v ∙ ap Some u.1)) | inr v ↦ u.0 ∙ sym v.0 ]
     ]
 
+-- a key that is there or not
 grown_by : (names : List (List ℕ × PartId)) (key : List ℕ × PartId) → Each GoodName names → Distinct names → GoodName key →
     Interned key names → Grown names key (place_of key names) (with_pair key names)
 grown_by names key g d k (inl h) =
@@ -376,6 +379,7 @@ grown_by names key g d k (inr h) =
       kept = λ i x e. get_left names (key ∷ []) i x e;
     })
 
+-- any key
 grown : (names : List (List ℕ × PartId)) (key : List ℕ × PartId) → Each GoodName names → Distinct names → GoodName key →
     Grown names key (place_of key names) (with_pair key names)
 grown names key g d k = grown_by names key g d k (interned key names)
@@ -386,9 +390,11 @@ op_weaker n m l (Get k) h = omega arith
 op_weaker n m l (Put k v) h = (omega (arith, h.0), h.1)
 op_weaker n m l _ h = absurd h
 
+-- scripts with more keys
 script_weaker : (n m : ℕ) → n ≤ m → (ops : List Op) → GoodScript n ops → GoodScript m ops
 script_weaker n m l ops h = (h.0, h.1, each_weaker (GoodOp n) (GoodOp m) (op_weaker n m l) ops h.2)
 
+-- sessions with more keys
 session_weaker : (n m : ℕ) → n ≤ m → (s : Session) → GoodSession n s → GoodSession m s
 session_weaker n m l s h = (h.0, each_weaker (GoodScript n) (GoodScript m) (script_weaker n m l) s.txs h.1)
 
@@ -403,9 +409,11 @@ more_ops : (ss : List Session) (txs : List (List Op)) (ops : List Op) (o : Op) �
 more_ops ss txs ops o =
     ap (λ xs. session_ops ss ++ xs) (sym (append_assoc (script_ops txs) ops (o ∷ []))) ∙ sym (append_assoc (session_ops ss) (script_ops txs ++ ops) (o ∷ []))
 
+-- one number more at the end
 counted_more : (xs : List ℕ) (n m k : ℕ) → counted 0 xs ≡ Some n → counted n (k ∷ []) ≡ Some m → counted 0 (xs ++ k ∷ []) ≡ Some m
 counted_more xs n m k p q = counted-append 0 xs (k ∷ []) ∙ (ap (λ o. option_and_then (λ i. counted i (k ∷ [])) o) p ∙ q)
 
+-- the key of one operation more comes in order
 op_order : (ss : List Session) (txs : List (List Op)) (ops : List Op) (o : Op) (n m k : ℕ) → key_of o ≡ k ∷ [] →
     counted 0 (flat_map key_of (built_ops ss txs ops)) ≡ Some n → counted n (k ∷ []) ≡ Some m →
     counted 0 (flat_map key_of (built_ops ss txs (ops ++ o ∷ []))) ≡ Some m
@@ -415,6 +423,7 @@ op_order ss txs ops o n m k e p q =
     ∙ (ap (λ xs. counted 0 (flat_map key_of (built_ops ss txs ops) ++ xs)) (append-nil (key_of o) ∙ e)
     ∙ counted_more (flat_map key_of (built_ops ss txs ops)) n m k p q))
 
+-- the limits with one operation more
 op_built : (keys : KeyTable) (ss : List Session) (txs : List (List Op)) (ops : List Op) (events : List Event) (key : List ℕ × PartId) (names' : List (List ℕ × PartId)) (k : KeyId) (op : KeyId → Op) (l : Line) →
     IsOpOf op key l → IsBuilt keys ss txs ops events → length ops < 16 → Grown keys.names key k.0 names' →
     IsBuilt (record keys { names = names' }) ss txs (ops ++ op k ∷ []) events
@@ -431,6 +440,7 @@ op_built keys ss txs ops events key names' k op l is f few g = record {
   few_events = f.few_events;
 }
 
+-- the lines with one operation more
 op_text : (table : KeyTable) (body : List Line) (txs : List (List Op)) (ops : List Op) (o : Op) (l : Line) → op_lines table o ≡ l ∷ [] →
     body ++ (LSession ∷ (flat_map (script_lines table) txs ++ script_lines table (ops ++ o ∷ [])))
     ≡ (body ++ (LSession ∷ (flat_map (script_lines table) txs ++ script_lines table ops))) ++ l ∷ []
@@ -444,6 +454,7 @@ cond_is : {X : Type 0} (b : Bool) (o : Option X) (y : X) → cond b o None ≡ S
 cond_is true o y e = (refl, e)
 cond_is false o y e = absurd (none-some _ e)
 
+-- what an operation that is taken builds
 with_op_is : (op : KeyId → Op) (key : List ℕ × PartId) (b b' : Build) (c : Bool) (k : KeyId) → with_op op key b (cond c (Some k) None) ≡ Some b' →
     record b { keys = record b.keys { names = with_pair key b.keys.names }; ops = b.ops ++ op k ∷ [] } ≡ b'
 with_op_is op key b b' true k e = same_Some _ _ e
@@ -476,6 +487,7 @@ next_op op key l InTransaction keys ss txs ops events n b' is good f e =
     })
 next_op op key l _ keys ss txs ops events n b' is good f e = absurd (none-some _ e)
 
+-- a get is an operation on its key
 get_is : (name : List ℕ) → IsOpOf Get (in_first name) (LGet name)
 get_is name = record {
   its_key = λ k. refl;
@@ -483,6 +495,7 @@ get_is name = record {
   line = λ table k e. rw e refl;
 }
 
+-- so is a put
 put_is : (name : List ℕ) (v : ℤ) → IsNumber v → IsOpOf (λ k. Put k v) (in_first name) (LPut name v)
 put_is name v fits = record {
   its_key = λ k. refl;

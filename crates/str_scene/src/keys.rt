@@ -34,8 +34,8 @@ impl Model for NamedKey {
     ghost view = { λ k. (k.name, k.part) };
 }
 
-/// The keys in order of first appearance, each a name and a partition, and the byte strings in order of first
-/// appearance. A key's number is its place, from 0, and so is a byte string's.
+/// The keys in order of first appearance, each a name and a partition, at most 16,384, and the byte strings in order
+/// of first appearance. A key's number is its place, from 0, and so is a byte string's.
 #[derive(Drop)]
 pub struct KeyTable {
     names: Vec<NamedKey>,

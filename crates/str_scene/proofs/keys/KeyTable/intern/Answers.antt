@@ -1,4 +1,4 @@
-use Rattle.std.proofs.Common.{◌≡◌, ap, arith, length, refl, sym}
+use Rattle.std.proofs.Common.{ap, arith, length, refl, sym}
 use Rattle.str_scene.proofs.Pairs.{added, refused, there}
 use Rattle.str_scene.proofs.keys.KeyTable.intern.Goals as goal
 
