@@ -77,3 +77,12 @@ run-drained scene w v e k d =
     let r : World = run_from scene (opening scene) scene.schedule in
     let events : drained scene r ≡ drain_events scene (left scene r) r = ap (λ (b : Bool). cond b (drain_events scene (left scene r) r) []) k in
     d ∙ (ap (drained_from scene) e ∙ sym (run_from-append scene (opening scene) scene.schedule (drained scene r) ∙ ap (λ (es : List Event). run_from scene r es) events))
+
+-- the same for a scene and a state that are told to be these
+pub ran-schedule : (scene s : Scene) (w w' : World) → s ≡ scene → w ≡ opening scene → w' ≡ run_from s w s.schedule → scene.drain ≡ false → w' ≡ cluster_run scene
+ran-schedule scene s w w' q o e k = run-schedule scene w' (e ∙ (ap (λ (z : Scene). run_from z w z.schedule) q ∙ ap (λ (z : World). run_from scene z scene.schedule) o)) k
+
+pub ran-drained : (scene s s' : Scene) (w w' v : World) → s ≡ scene → w ≡ opening scene → w' ≡ run_from s w s.schedule → s' ≡ scene → scene.drain ≡ true
+    → v ≡ drained_from s' w' → v ≡ cluster_run scene
+ran-drained scene s s' w w' v q o e q' k d =
+    run-drained scene w' v (e ∙ (ap (λ (z : Scene). run_from z w z.schedule) q ∙ ap (λ (z : World). run_from scene z scene.schedule) o)) k (d ∙ ap (λ (z : Scene). drained_from z w') q')

@@ -3,3 +3,4 @@ pub mod FirstDrains
 pub mod FirstDrained
 pub mod Failing
 pub mod FirstEvents
+pub mod Written

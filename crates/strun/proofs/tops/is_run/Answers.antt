@@ -1,4 +1,11 @@
+use Rattle.std.proofs.Common.{ap, arith, nat_eq, ◌∙◌}
+use Rattle.std.specs.Cmp.Lexicographic.{pointwise}
+use Rattle.std.specs.Prelude.{codes}
+use Rattle.std.specs.String.{string_bytes}
+use Rattle.strun.proofs.Written.{one_word}
 use Rattle.strun.proofs.tops.is_run.Goals as goal
 
 pub returns-in-len1 : goal.returns-in-len1
-returns-in-len1 c = let x = c.eq.ensures in let y = c.word-item.is in let z = c.as_str.ensures.value in let w = c.in-len1.len_below in ?
+returns-in-len1 c =
+    one_word string_bytes c.args.words.now c.word-item.result (codes "run") c.eq.result (omega arith) (omega arith) c.word-item.is
+    (rw c.as_str.ensures.value at c.eq.ensures)

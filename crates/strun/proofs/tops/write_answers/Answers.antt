@@ -1,4 +1,16 @@
+use Rattle.std.proofs.Common.{ap, arith, refl, ◌++◌, ◌∙◌}
+use Rattle.str_model.specs.Lines.{answer_line}
+use Rattle.strun.proofs.Written.{one_answer}
 use Rattle.strun.proofs.tops.write_answers.Goals as goal
 
 pub loop-answer-preserved : goal.loop-answer-preserved
-loop-answer-preserved g c = let x = c.in_ok-write_all.ensures in ?
+loop-answer-preserved g c =
+    let later = c.in_ok-write_all.ensures.cause.faults_later in
+    let before = c.loop-answer.invariant.later in
+    record {
+      later = omega arith;
+      keys = c.loop-answer.invariant.keys;
+      written = one_answer _ _ _ (answer_line c.args.cluster.now.scene.keys) c.answers-answer-items.result.now c.loop-answer.answer-index c.answer-item.result c.as_slice.result.now
+        c.loop-answer-test.true c.answer-item.is (c.as_slice.ensures.value ∙ rw (c.in-Ok.ensures.ok, c.clear.ensures.items, c.loop-answer.invariant.keys) refl)
+        c.loop-answer.invariant.written c.in_ok-write_all.ensures.ok;
+    }
