@@ -27,6 +27,7 @@ one_there [] i h = absurd (omega arith)
 one_there (x ∷ xs) zero h = (x, refl)
 one_there (x ∷ xs) (suc i) h = one_there xs i (omega arith)
 
+-- the same, one past the place
 last_at_suc : {A : Type 0} (p : A → Bool) (xs : List A) (i : ℕ) (x : A) → slice_get xs i ≡ Some x → p x ≡ true → last_index p (drop (suc i) xs) ≡ None → last_index p xs ≡ Some i
 last_at_suc p [] i x e t n = absurd cc
 last_at_suc p (y ∷ ys) zero x e t n = let q : y ≡ x = cc in let h : p y ≡ true = rw q t in rw (n, h) refl
@@ -36,6 +37,7 @@ last_at_suc p (y ∷ ys) (suc i) x e t n = rw (last_at_suc p ys i x e t n) refl
 pub last_at : {A : Type 0} (p : A → Bool) (xs : List A) (i j : ℕ) (x : A) → slice_get xs i ≡ Some x → p x ≡ true → j ≡ suc i → last_index p (drop j xs) ≡ None → last_index p xs ≡ Some i
 last_at p xs i j x e t q n = last_at_suc p xs i x e t (subst (λ k. last_index p (drop k xs) ≡ None) q n)
 
+-- the last timestamp of a chain is below what all versions are below
 chain_below : (k : KeyId) (u t : ℕ) (vs : List Version) → t < u → ((j : ℕ) (w : Version) → slice_get vs j ≡ Some w → w.ts.0 < u) → last_time t (chain k vs) < u
 chain_below k u t [] h f = h
 chain_below k u t (v ∷ vs) h f =
@@ -72,6 +74,7 @@ pub commit_more : (i : ℕ) (x : Own) (ws : List Write) (v : View) → 0 < lengt
 commit_more i x [] v h = absurd (omega arith)
 commit_more i x (w ∷ ws) v h = refl
 
+-- what is no item is None
 none_if : {A : Type 0} (o : Option A) → ((x : A) → o ≡ Some x → ⊥) → o ≡ None
 none_if None h = refl
 none_if (Some x) h = absurd (h x refl)

@@ -54,6 +54,7 @@ turn_some node (Close i) v e = refl
 turn_some node (Refuse i by k) v e = refl
 turn_some node (Commit i lc) v e = refl
 
+-- a step is idle where nothing is done
 idle_not : (node : NodeId) (t : Turn) (v : View) → is_idle t ≡ not (is_some (turn_step node t v))
 idle_not node Idle v = refl
 idle_not node Stay v = refl
@@ -104,6 +105,7 @@ step_done old new before after input h e a b d =
     let t = turn_of (here_of old) input old.view in
     rw (node_step old input h, turn_some old.id t old.view e) (refl, steps_done old new before after t a b d)
 
+-- nothing is done where the step is idle
 turn_none : (node : NodeId) (t : Turn) (v : View) → is_idle t ≡ true → turn_step node t v ≡ None
 turn_none node Idle v e = refl
 turn_none node Stay v e = absurd (cc e)

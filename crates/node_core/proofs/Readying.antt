@@ -33,6 +33,7 @@ use Rattle.node_core.proofs.Turning.{step_is}
 
 -- ---- bounds
 
+-- the index of a transaction in its session
 index_within : (scene : Scene) (v : View) (i : ℕ) (x : Own) → IsScene scene → IsFirstView scene v → slice_get v.own i ≡ Some x → x.place.index ≤ 1024
 index_within scene v i x is fv e =
     let a = (fv.own i x e).index in
@@ -67,6 +68,7 @@ module _ (scene : Scene) (v : View) (room space : ℕ) (is : IsScene scene) (f :
   abbrev Can : Turn → Type 0
   Can turn = needs turn v ≤ room → needs turn v ≤ space → CanDo turn (record { view = v; room = room }) space
 
+  -- a transaction that begins
   begin_can : (s : SessionId) (n r : ℕ) (o : Option (List Op)) → Can (begin_turn s n r o)
   begin_can s n r None a b = tt
   begin_can s n r (Some ops) a b = a
@@ -75,6 +77,7 @@ module _ (scene : Scene) (v : View) (room space : ℕ) (is : IsScene scene) (f :
   has : (P : Own → Type 0) (i : ℕ) (x : Own) → slice_get v.own i ≡ Some x → P x → OwnHas P i v
   has P i x e p = (got_below v.own i x e, λ y g. subst P (let k : x ≡ y = cc (e, g) in k) p)
 
+  -- a certification
   certify_can : (i : ℕ) (x : Own) (o : Option Version) → slice_get v.own i ≡ Some x → Can (certify_turn i x o v)
   certify_can i x (Some u) e a b = (rw e at b, got_below v.own i x e)
   certify_can i x None e a b =
@@ -82,10 +85,12 @@ module _ (scene : Scene) (v : View) (room space : ℕ) (is : IsScene scene) (f :
       let b' = rw e at b in
       (omega arith, has (λ y. length y.writes ≤ room) i x e (omega arith))
 
+  -- a request to commit
   commit_can : (i : ℕ) (x : Own) (ws : List Write) → slice_get v.own i ≡ Some x → Can (commit_turn i x ws v)
   commit_can i x [] e a b = (rw e at b, got_below v.own i x e)
   commit_can i x (w ∷ ws) e a b = certify_can i x (find (conflicts x.snap.rs) (met x.writes v.versions)) e a b
 
+  -- a get of a transaction
   get_can : (i : ℕ) (x : Own) (op : Op) → slice_get v.own i ≡ Some x → own_op (first_here scene) x ≡ Some op → OwnHas CanGet i v
   get_can i x op e g =
       let own = fv.own i x e in
@@ -95,6 +100,7 @@ module _ (scene : Scene) (v : View) (room space : ℕ) (is : IsScene scene) (f :
       let d = own.gets in
       has CanGet i x e (record { reads = omega arith; gets = omega arith; next = omega arith })
 
+  -- a put of a transaction
   put_can : (i : ℕ) (x : Own) (op : Op) → slice_get v.own i ≡ Some x → own_op (first_here scene) x ≡ Some op → OwnHas CanPut i v
   put_can i x op e g =
       let own = fv.own i x e in
@@ -103,12 +109,14 @@ module _ (scene : Scene) (v : View) (room space : ℕ) (is : IsScene scene) (f :
       let c = own.writes in
       has CanPut i x e (record { writes = omega arith; next = omega arith })
 
+  -- a get, where the transaction may know the value already
   known_can : (i : ℕ) (x : Own) (k : KeyId) (o : Option Value) → slice_get v.own i ≡ Some x → own_op (first_here scene) x ≡ Some (GetOp k) → Can (get_turn i k x o v)
   known_can i x k (Some u) e g a b = get_can i x (GetOp k) e g
   known_can i x k None e g a b =
       let l : k.0 < length scene.keys.names = script_op scene x.place x.next (GetOp k) is f g in
       (rw fv.marks l, get_can i x (GetOp k) e g)
 
+  -- an operation or a request to commit
   own_can : (i : ℕ) (x : Own) (o : Option Op) → slice_get v.own i ≡ Some x → own_op (first_here scene) x ≡ o → Can (own_turn i x o v)
   own_can i x None e g = commit_can i x x.writes e
   own_can i x (Some (GetOp k)) e g = known_can i x k (known x k) e g
@@ -119,6 +127,7 @@ module _ (scene : Scene) (v : View) (room space : ℕ) (is : IsScene scene) (f :
   own_can i x (Some (Need k n)) e g = λ a b. tt
   own_can i x (Some Stop) e g = λ a b. tt
 
+  -- the last transaction of a session goes on
   phase_can : (s : SessionId) (r : ℕ) (text : Session) (i : ℕ) (x : Own) (p : Phase) → slice_get v.own i ≡ Some x → Can (phase_turn (first_here scene) s r text i x p v)
   phase_can s r text i x Active e = own_can i x (own_op (first_here scene) x) e refl
   phase_can s r text i x (Committed lc fc) e = begin_can s (x.place.index + 1) r (nth text.txs (x.place.index + 1))
@@ -131,14 +140,17 @@ module _ (scene : Scene) (v : View) (room space : ℕ) (is : IsScene scene) (f :
   phase_can s r text i x (Local lc) e = λ a b. tt
   phase_can s r text i x (Global lc) e = λ a b. tt
 
+  -- the same, where there is one
   at_can : (s : SessionId) (r : ℕ) (text : Session) (i : ℕ) (o : Option Own) → slice_get v.own i ≡ o → Can (at_turn (first_here scene) s r text i o v)
   at_can s r text i None e = λ a b. tt
   at_can s r text i (Some x) e = phase_can s r text i x x.phase e
 
+  -- the last transaction of a session, or its first one
   last_can : (s : SessionId) (r : ℕ) (text : Session) (o : Option ℕ) → Can (last_turn (first_here scene) s r text o v)
   last_can s r text None = begin_can s 1 r (nth text.txs 1)
   last_can s r text (Some i) = at_can s r text i (slice_get v.own i) refl
 
+  -- a client step of a session
   session_can : (s : SessionId) (r : ℕ) (o : Option Session) → Can (session_turn (first_here scene) s r o v)
   session_can s r None = λ a b. tt
   session_can s r (Some text) =
@@ -147,6 +159,7 @@ module _ (scene : Scene) (v : View) (room space : ℕ) (is : IsScene scene) (f :
         | false ↦ (λ a b. tt)
       ]
 
+  -- a step
   turn_can : (input : Input) → Can (turn_of (first_here scene) input v)
   turn_can (Client s t) = session_can s (begin_rs t v) (nth scene.sessions s.0)
   turn_can (Deliver m) = λ a b. tt

@@ -48,27 +48,32 @@ final_one scene i lc (w ∷ ws) is f h =
 -- ---- the step
 
 module _ (scene : Scene) (v : View) (is : IsScene scene) (f : IsFirst scene) (fv : IsFirstView scene v) where
+  -- a transaction that begins
   begin_is : (s : SessionId) (n t : ℕ) (o : Option (List Op)) → begin (first_here scene) (place_in s n) t o (starts v) ≡ turn_step (record { 0 = 1 }) (begin_turn s n (begin_rs t v) o) v
   unfolding begun
   begin_is s n t None = refl
   begin_is s n t (Some ops) = refl
 
+  -- a certification
   certify_is : (i : ℕ) (x : Own) (o : Option Version) → slice_get v.own i ≡ Some x → Some (first_certified (first_here scene) i x o (starts v)) ≡ turn_step (record { 0 = 1 }) (certify_turn i x o v) v
   certify_is i x (Some u) e = rw e refl
   certify_is i x None e =
       let k = final_one scene i (1 + max x.snap.rs (passed v x.writes)) x.writes is f (λ j w g. (fv.own i x e).keys j w g) in
       rw (e, k, zero-add (length x.writes)) refl
 
+  -- a request to commit
   commit_is : (i : ℕ) (x : Own) (ws : List Write) → slice_get v.own i ≡ Some x → Some (first_commit (first_here scene) i x ws (starts v)) ≡ turn_step (record { 0 = 1 }) (commit_turn i x ws v) v
   unfolding closed
   commit_is i x [] e = rw e refl
   commit_is i x (w ∷ ws) e = certify_is i x (find (conflicts x.snap.rs) (met x.writes v.versions)) e
 
+  -- a get
   get_is : (i : ℕ) (k : KeyId) (x : Own) (o : Option Value) → slice_get v.own i ≡ Some x → Some (first_get (first_here scene) i k x o (starts v)) ≡ turn_step (record { 0 = 1 }) (get_turn i k x o v) v
   unfolding marked
   get_is i k x (Some u) e = rw e refl
   get_is i k x None e = rw e refl
 
+  -- an operation or a request to commit
   own_is : (i : ℕ) (x : Own) (o : Option Op) → slice_get v.own i ≡ Some x → Some (first_own (first_here scene) i x o (starts v)) ≡ turn_step (record { 0 = 1 }) (own_turn i x o v) v
   own_is i x None e = commit_is i x x.writes e
   own_is i x (Some (GetOp k)) e = get_is i k x (known x k) e
@@ -79,6 +84,7 @@ module _ (scene : Scene) (v : View) (is : IsScene scene) (f : IsFirst scene) (fv
   own_is i x (Some (Need k n)) e = refl
   own_is i x (Some Stop) e = refl
 
+  -- the last transaction of a session goes on
   phase_is : (s : SessionId) (t : ℕ) (text : Session) (i : ℕ) (x : Own) (p : Phase) → slice_get v.own i ≡ Some x
       → first_go_on (first_here scene) s t text i x p (starts v) ≡ turn_step (record { 0 = 1 }) (phase_turn (first_here scene) s (begin_rs t v) text i x p v) v
   phase_is s t text i x Active e = own_is i x (own_op (first_here scene) x) e
@@ -92,15 +98,18 @@ module _ (scene : Scene) (v : View) (is : IsScene scene) (f : IsFirst scene) (fv
   phase_is s t text i x (Local lc) e = refl
   phase_is s t text i x (Global lc) e = refl
 
+  -- the same, where there is one
   at_is : (s : SessionId) (t : ℕ) (text : Session) (i : ℕ) (o : Option Own) → slice_get v.own i ≡ o
       → first_go_on_at (first_here scene) s t text i o (starts v) ≡ turn_step (record { 0 = 1 }) (at_turn (first_here scene) s (begin_rs t v) text i o v) v
   at_is s t text i None e = refl
   at_is s t text i (Some x) e = phase_is s t text i x x.phase e
 
+  -- the last transaction of a session, or its first one
   last_is : (s : SessionId) (t : ℕ) (text : Session) (o : Option ℕ) → first_go_on_last (first_here scene) s t text o (starts v) ≡ turn_step (record { 0 = 1 }) (last_turn (first_here scene) s (begin_rs t v) text o v) v
   last_is s t text None = begin_is s 1 t (nth text.txs 1)
   last_is s t text (Some i) = at_is s t text i (slice_get v.own i) refl
 
+  -- a client step of a session
   session_is : (s : SessionId) (t : ℕ) (o : Option Session) → first_in_session (first_here scene) s t o (starts v) ≡ turn_step (record { 0 = 1 }) (session_turn (first_here scene) s (begin_rs t v) o v) v
   session_is s t None = refl
   session_is s t (Some text) =
@@ -117,10 +126,12 @@ module _ (scene : Scene) (v : View) (is : IsScene scene) (f : IsFirst scene) (fv
 
 -- ---- when a step is idle
 
+-- a transaction that begins
 begin_idle : (s : SessionId) (n r r' : ℕ) (o : Option (List Op)) → is_idle (begin_turn s n r o) ≡ is_idle (begin_turn s n r' o)
 begin_idle s n r r' None = refl
 begin_idle s n r r' (Some ops) = refl
 
+-- the last transaction of a session goes on
 phase_idle : (here : Here) (s : SessionId) (r r' : ℕ) (text : Session) (i : ℕ) (x : Own) (p : Phase) (v : View) → is_idle (phase_turn here s r text i x p v) ≡ is_idle (phase_turn here s r' text i x p v)
 phase_idle here s r r' text i x Active v = refl
 phase_idle here s r r' text i x (Committed lc fc) v = begin_idle s (x.place.index + 1) r r' (nth text.txs (x.place.index + 1))
@@ -133,14 +144,17 @@ phase_idle here s r r' text i x (Closing wish) v = refl
 phase_idle here s r r' text i x (Local lc) v = refl
 phase_idle here s r r' text i x (Global lc) v = refl
 
+-- the same, where there is one
 at_idle : (here : Here) (s : SessionId) (r r' : ℕ) (text : Session) (i : ℕ) (o : Option Own) (v : View) → is_idle (at_turn here s r text i o v) ≡ is_idle (at_turn here s r' text i o v)
 at_idle here s r r' text i None v = refl
 at_idle here s r r' text i (Some x) v = phase_idle here s r r' text i x x.phase v
 
+-- the last transaction of a session, or its first one
 last_idle : (here : Here) (s : SessionId) (r r' : ℕ) (text : Session) (o : Option ℕ) (v : View) → is_idle (last_turn here s r text o v) ≡ is_idle (last_turn here s r' text o v)
 last_idle here s r r' text None v = begin_idle s 1 r r' (nth text.txs 1)
 last_idle here s r r' text (Some i) v = at_idle here s r r' text i (slice_get v.own i) v
 
+-- a client step of a session
 session_idle : (here : Here) (s : SessionId) (r r' : ℕ) (o : Option Session) (v : View) → is_idle (session_turn here s r o v) ≡ is_idle (session_turn here s r' o v)
 session_idle here s r r' None v = refl
 session_idle here s r r' (Some text) v =
@@ -155,6 +169,7 @@ client_idle_at here s t t' v = session_idle here s (begin_rs t v) (begin_rs t' v
 
 -- ---- phases
 
+-- the same by the phase
 by_phase : (here : Here) (s : SessionId) (r : ℕ) (text : Session) (i : ℕ) (x : Own) (p : Phase) (v : View) → is_settled p ≡ true → is_decided p ≡ false → own_turn i x (own_op here x) v ≡ phase_turn here s r text i x p v
 by_phase here s r text i x Active v a b = refl
 by_phase here s r text i x (Committed lc fc) v a b = absurd (cc b)

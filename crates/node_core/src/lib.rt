@@ -3,11 +3,11 @@
 
 pub mod nodes;
 pub mod outbox;
-pub mod own;
-pub mod scripts;
-pub mod state;
-pub mod turns;
-pub mod versions;
+mod own;
+mod scripts;
+mod state;
+mod turns;
+mod versions;
 
 pub use nodes::Node;
 pub use outbox::Outbox;

@@ -128,3 +128,51 @@ fn sendable<T: Send + Sync>(_: &T) {}
 fn all_sendable(node: &Node) {
     sendable(node);
 }
+
+#[cfg(test)]
+mod tests {
+    use super::*;
+    use std::test::Fail;
+    use str_base::Value;
+    use str_model::Outcome;
+    use str_scene::first::first_scene;
+
+    const TEXT: &[u8] =
+        b"str 1\nnodes 1\npart 1 1\nsession 1\ntx\nput a@1 5\ntx\nget a@1\nschedule\ndrain\nend\n";
+
+    /// A client step, with room made before.
+    fn go(node: &mut Node, out: &mut Outbox, reading: u64) -> Result<bool, AllocError> {
+        let input = Input::Client {
+            session: SessionId(1),
+            reading,
+        };
+        let _ = node.ready(&input, out)?;
+        Ok(node.step(&input, out))
+    }
+
+    /// Whether the second answer is a commit that read 5.
+    fn has_read(out: &Outbox) -> bool {
+        let Some(answer) = out.answers().get(1) else {
+            return false;
+        };
+        match &answer.outcome {
+            Outcome::Committed { gets, .. } => match gets.as_slice().get(0) {
+                Some(got) => got.value == Value::Num(5),
+                None => false,
+            },
+            Outcome::Aborted { .. } => false,
+        }
+    }
+
+    #[test]
+    fn a_commit_is_read(rt: HostRuntime) -> Result<(), Fail> {
+        let scene = first_scene(rt.alloc(), TEXT)?;
+        let mut node = Node::new(rt.alloc(), NodeId(1), &scene)?;
+        let mut out = Outbox::new(rt.alloc());
+        for reading in [10, 0, 0, 0, 0, 0] {
+            go(&mut node, &mut out, reading)?;
+        }
+        assert!(rt; has_read(&out));
+        Ok(())
+    }
+}
