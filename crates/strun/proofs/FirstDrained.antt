@@ -28,10 +28,11 @@ falls : (scene : Scene) → IsScene scene → IsFirst scene → (v : View) (s : 
     → step (only_node scene) (Client s 0) v ≡ Some d
     → IsFirstView scene d.view × (d.sent ≡ []) × ((j j' : List Done) (a a' : List Answer) → left scene (world_of d.view j' a') < left scene (world_of v j a))
 falls scene is first v s d good e =
-    let f : first_step (first_here scene) (Client s 0) v ≡ Some d = sym (step_first scene (Client s 0) v is first good) ∙ e in
-    (first_kept scene (Client s 0) v d is first good f,
-     (first_small scene (Client s 0) v d is first good f).sent,
-     λ j j' a a'. first_left scene (Client s 0) v d (world_of v j a) (world_of d.view j' a') is first good f refl refl refl refl refl refl)
+    let f : first_step (first_here scene) (Client s 0) v ≡ Some d = sym (step_first scene (Client s 0) v is first good) ∙ e in (
+      first_kept scene (Client s 0) v d is first good f,
+      (first_small scene (Client s 0) v d is first good f).sent,
+      λ j j' a a'. first_left scene (Client s 0) v d (world_of v j a) (world_of d.view j' a') is first good f refl refl refl refl refl refl,
+    )
 
 -- where nothing comes next, the drain leaves the state as it is
 pub first_over : (scene : Scene) → IsScene scene → IsFirst scene → (v : View) (j : List Done) (a : List Answer) → next_session scene (world_of v j a) ≡ None

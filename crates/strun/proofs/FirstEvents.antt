@@ -47,7 +47,7 @@ one_here scene id e = ap (here_at scene) (one_node id e)
 pub step_kept : (scene : Scene) (id : NodeId) (v : View) (input : Input) (d : Doing) → IsNode scene id v → step (here_at scene id) input v ≡ Some d → Kept scene id d
 step_kept scene id v input d n e =
     let f : first_step (first_here scene) input v ≡ Some d =
-          sym (step_first scene input v n.scene_ n.first n.view) ∙ (ap (λ (h : Here). step h input v) (sym (one_here scene id n.one)) ∙ e) in
+    sym (step_first scene input v n.scene_ n.first n.view) ∙ (ap (λ (h : Here). step h input v) (sym (one_here scene id n.one)) ∙ e) in
     record {
       node_ = record { scene_ = n.scene_; first = n.first; one = n.one; view = first_kept scene input v d n.scene_ n.first n.view f };
       sent = (first_small scene input v d n.scene_ n.first n.view f).sent;
@@ -137,7 +137,7 @@ pub moves_is : (node : NodeState) (out : OutState) (j : List Done) (a : List Ans
 moves_is node out j a s idle is e =
     let n = is.node_ in
     let m : moves node.scene (world_of node.view j a) s.0 ≡ is_some (step (here_of node) (Client s 0) node.view) =
-          moves-step node.scene n.scene_ n.first node.view j a s.0 ∙ ap (λ (h : Here). is_some (step h (Client s 0) node.view)) (sym (one_here node.scene node.id n.one)) in
+    moves-step node.scene n.scene_ n.first node.view j a s.0 ∙ ap (λ (h : Here). is_some (step h (Client s 0) node.view)) (sym (one_here node.scene node.id n.one)) in
     rw e (m ∙ sym (not_not (is_some (step (here_of node) (Client s 0) node.view))))
   where
     not_not : (b : Bool) → not (not b) ≡ b

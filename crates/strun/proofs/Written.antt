@@ -18,8 +18,8 @@ one_word f (x ∷ y ∷ ys) word bytes same a b e h = absurd (omega arith)
 one_word f (x ∷ []) word bytes same a b e h = by_test same (told_text (f word) bytes same h)
   where
     by_test : (r : Bool) → MatchBool r (f word ≡ bytes) (f word ≢ bytes) → (IsTrue r → map f (x ∷ []) ≡ bytes ∷ []) × (map f (x ∷ []) ≡ bytes ∷ [] → IsTrue r)
-    by_test true k = (λ _. rw (← e, k) refl, λ _. tt)
-    by_test false k = (λ n. absurd n, λ q. let s : f x ≡ bytes = cc q in absurd (k (rw e s)))
+    by_test true k = (λ _. rw (← e, k) refl, λ _. refl)
+    by_test false k = (λ n. absurd (cc n), λ q. let s : f x ≡ bytes = cc q in absurd (k (rw e s)))
 
 -- one more answer is written
 pub one_answer : (a b d : Option (List ℕ)) (f : Answer → List ℕ) (xs : List Answer) (i : ℕ) (x : Answer) (piece : List ℕ) → i < length xs → x ≡ get_or xs i x
@@ -40,5 +40,5 @@ all_written scene s w v c a b d line (Err e) q k m l x y = tt
 all_written scene s w v c a b d line (Ok u) q k m l x y =
     let last : line ≡ end_line (counts scene w) = l ∙ ap end_line (m ∙ (ap (λ (z : Scene). counts z v) q ∙ ap (counts scene) k)) in
     let first : flat_map (answer_line s.keys) v.answers ≡ flat_map (answer_line scene.keys) w.answers =
-          ap (λ (z : Scene). flat_map (answer_line z.keys) v.answers) q ∙ ap (λ (z : World). flat_map (answer_line scene.keys) z.answers) k in
+    ap (λ (z : Scene). flat_map (answer_line z.keys) v.answers) q ∙ ap (λ (z : World). flat_map (answer_line scene.keys) z.answers) k in
     rw (← first, ← last) (Appends-trans a b d (flat_map (answer_line s.keys) v.answers) line x y)

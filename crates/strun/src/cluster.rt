@@ -205,7 +205,10 @@ fn commits_among(answers: &[Answer]) -> u64
 fn aborts_among(answers: &[Answer]) -> u64
     ensures { result ≡ count_by (λ a. not (is_commit a.outcome)) answers.now }
 {
-    answers.iter().filter(|a| !has_committed(&a.outcome)).count() as u64
+    answers
+        .iter()
+        .filter(|a| !has_committed(&a.outcome))
+        .count() as u64
 }
 
 /// How many transactions the sessions of a scene have.

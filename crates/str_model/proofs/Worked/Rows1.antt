@@ -16,11 +16,11 @@ scene_abort_before_replicate =
       parts = (node 1 ∷ node 2 ∷ []) ∷ (node 3 ∷ []) ∷ [];
       keys = record { names = key (codes "a") 1 ∷ key (codes "b") 2 ∷ []; texts = [] };
       sessions =
-        session 1 ((put 0 (pos 1) ∷ put 1 (pos 1) ∷ []) ∷ []) ∷
-        session 3 ((put 1 (pos 2) ∷ []) ∷ []) ∷
-        session 2 ((get 0 ∷ []) ∷ []) ∷ [];
+          session 1 ((put 0 (pos 1) ∷ put 1 (pos 1) ∷ []) ∷ []) ∷
+          session 3 ((put 1 (pos 2) ∷ []) ∷ []) ∷
+          session 2 ((get 0 ∷ []) ∷ []) ∷ [];
       schedule = c 1 10 ∷ c 1 0 ∷ c 1 0 ∷ c 1 0 ∷ c 2 20 ∷ c 2 0 ∷ c 2 0 ∷ d 2 ∷ d 3 ∷ d 4 ∷ d 1 ∷ d 1 ∷
-        c 3 30 ∷ c 3 0 ∷ [];
+          c 3 30 ∷ c 3 0 ∷ [];
       drain = true;
     }
 
@@ -45,8 +45,8 @@ scene_asked_early_journal =
       parts = (node 2 ∷ []) ∷ (node 3 ∷ []) ∷ [];
       keys = record { names = key (codes "a") 1 ∷ key (codes "b") 2 ∷ []; texts = [] };
       sessions =
-        session 1 ((put 0 (pos 1) ∷ []) ∷ []) ∷
-        session 1 ((get 0 ∷ put 1 (pos 7) ∷ []) ∷ []) ∷ [];
+          session 1 ((put 0 (pos 1) ∷ []) ∷ []) ∷
+          session 1 ((get 0 ∷ put 1 (pos 7) ∷ []) ∷ []) ∷ [];
       schedule = c 1 10 ∷ c 1 0 ∷ c 1 0 ∷ c 2 0 ∷ c 2 0 ∷ c 2 0 ∷ c 2 0 ∷ d 2 ∷ d 3 ∷ d 1 ∷ d 4 ∷ [];
       drain = true;
     }
@@ -73,8 +73,8 @@ scene_asked_early =
       parts = (node 2 ∷ []) ∷ (node 3 ∷ []) ∷ [];
       keys = record { names = key (codes "a") 1 ∷ key (codes "b") 2 ∷ []; texts = [] };
       sessions =
-        session 1 ((put 0 (pos 1) ∷ []) ∷ []) ∷
-        session 1 ((get 0 ∷ put 1 (pos 7) ∷ []) ∷ []) ∷ [];
+          session 1 ((put 0 (pos 1) ∷ []) ∷ []) ∷
+          session 1 ((get 0 ∷ put 1 (pos 7) ∷ []) ∷ []) ∷ [];
       schedule = c 1 10 ∷ c 1 0 ∷ c 1 0 ∷ c 2 0 ∷ c 2 0 ∷ c 2 0 ∷ c 2 0 ∷ d 2 ∷ d 3 ∷ d 1 ∷ d 4 ∷ [];
       drain = true;
     }
@@ -100,11 +100,11 @@ scene_asked_early_and_lost =
       parts = (node 2 ∷ []) ∷ (node 3 ∷ []) ∷ [];
       keys = record { names = key (codes "a") 1 ∷ key (codes "b") 2 ∷ []; texts = [] };
       sessions =
-        session 1 ((put 0 (pos 1) ∷ []) ∷ []) ∷
-        session 1 ((get 0 ∷ put 1 (pos 7) ∷ []) ∷ []) ∷
-        session 2 ((put 0 (pos 2) ∷ []) ∷ []) ∷ [];
+          session 1 ((put 0 (pos 1) ∷ []) ∷ []) ∷
+          session 1 ((get 0 ∷ put 1 (pos 7) ∷ []) ∷ []) ∷
+          session 2 ((put 0 (pos 2) ∷ []) ∷ []) ∷ [];
       schedule = c 1 10 ∷ c 1 0 ∷ c 1 0 ∷ c 2 0 ∷ c 2 0 ∷ c 2 0 ∷ c 2 0 ∷ d 2 ∷ c 3 20 ∷ c 3 0 ∷ c 3 0 ∷ d 1 ∷
-        d 4 ∷ [];
+          d 4 ∷ [];
       drain = true;
     }
 
@@ -129,8 +129,8 @@ scene_blind_puts =
       parts = (node 1 ∷ []) ∷ [];
       keys = record { names = key (codes "a") 1 ∷ []; texts = [] };
       sessions =
-        session 1 ((put 0 (pos 1) ∷ []) ∷ []) ∷
-        session 1 ((put 0 (pos 2) ∷ []) ∷ []) ∷ [];
+          session 1 ((put 0 (pos 1) ∷ []) ∷ []) ∷
+          session 1 ((put 0 (pos 2) ∷ []) ∷ []) ∷ [];
       schedule = c 1 10 ∷ c 2 20 ∷ [];
       drain = true;
     }
@@ -155,7 +155,7 @@ scene_byte_values =
       parts = (node 1 ∷ []) ∷ [];
       keys = record { names = key (codes "a") 1 ∷ []; texts = (104 ∷ 105 ∷ []) ∷ [] };
       sessions =
-        session 1 ((puts 0 0 ∷ []) ∷ (get 0 ∷ add 0 (pos 3) ∷ get 0 ∷ []) ∷ []) ∷ [];
+          session 1 ((puts 0 0 ∷ []) ∷ (get 0 ∷ add 0 (pos 3) ∷ get 0 ∷ []) ∷ []) ∷ [];
       schedule = c 1 10 ∷ [];
       drain = true;
     }

@@ -16,13 +16,13 @@ scene_cascade =
       parts = (node 1 ∷ []) ∷ [];
       keys = record { names = key (codes "a") 1 ∷ []; texts = [] };
       sessions =
-        session 1 ((put 0 (pos 1) ∷ []) ∷ []) ∷
-        session 2 ((put 0 (pos 2) ∷ []) ∷ []) ∷
-        session 2 ((add 0 (pos 10) ∷ []) ∷ []) ∷
-        session 2 ((add 0 (pos 10) ∷ []) ∷ []) ∷
-        session 2 ((get 0 ∷ []) ∷ []) ∷ [];
+          session 1 ((put 0 (pos 1) ∷ []) ∷ []) ∷
+          session 2 ((put 0 (pos 2) ∷ []) ∷ []) ∷
+          session 2 ((add 0 (pos 10) ∷ []) ∷ []) ∷
+          session 2 ((add 0 (pos 10) ∷ []) ∷ []) ∷
+          session 2 ((get 0 ∷ []) ∷ []) ∷ [];
       schedule = c 2 10 ∷ c 2 0 ∷ c 2 0 ∷ c 3 0 ∷ c 3 0 ∷ c 3 0 ∷ c 4 0 ∷ c 4 0 ∷ c 4 0 ∷ c 5 0 ∷ c 5 0 ∷ c 5 0 ∷
-        c 1 20 ∷ c 1 0 ∷ c 1 0 ∷ d 1 ∷ d 2 ∷ [];
+          c 1 20 ∷ c 1 0 ∷ c 1 0 ∷ d 1 ∷ d 2 ∷ [];
       drain = true;
     }
 
@@ -48,9 +48,9 @@ scene_conflict_and_eviction =
       parts = (node 1 ∷ node 2 ∷ []) ∷ [];
       keys = record { names = key (codes "a") 1 ∷ []; texts = [] };
       sessions =
-        session 1 ((put 0 (pos 1) ∷ []) ∷ []) ∷
-        session 2 ((put 0 (pos 2) ∷ []) ∷ []) ∷
-        session 1 ((put 0 (pos 3) ∷ []) ∷ []) ∷ [];
+          session 1 ((put 0 (pos 1) ∷ []) ∷ []) ∷
+          session 2 ((put 0 (pos 2) ∷ []) ∷ []) ∷
+          session 1 ((put 0 (pos 3) ∷ []) ∷ []) ∷ [];
       schedule = c 1 10 ∷ c 3 10 ∷ c 1 0 ∷ c 1 0 ∷ c 3 0 ∷ c 3 0 ∷ c 2 10 ∷ c 2 0 ∷ c 2 0 ∷ d 1 ∷ [];
       drain = true;
     }
@@ -76,11 +76,11 @@ scene_conflicting_pair_journal =
       parts = (node 1 ∷ []) ∷ (node 2 ∷ []) ∷ [];
       keys = record { names = key (codes "a") 1 ∷ key (codes "r") 2 ∷ key (codes "b") 2 ∷ []; texts = [] };
       sessions =
-        session 1 ((put 0 (pos 1) ∷ put 1 (pos 1) ∷ []) ∷ []) ∷
-        session 2 ((put 1 (pos 2) ∷ put 2 (pos 2) ∷ []) ∷ []) ∷
-        session 1 ((get 0 ∷ get 2 ∷ []) ∷ []) ∷ [];
+          session 1 ((put 0 (pos 1) ∷ put 1 (pos 1) ∷ []) ∷ []) ∷
+          session 2 ((put 1 (pos 2) ∷ put 2 (pos 2) ∷ []) ∷ []) ∷
+          session 1 ((get 0 ∷ get 2 ∷ []) ∷ []) ∷ [];
       schedule = c 1 10 ∷ c 1 0 ∷ c 1 0 ∷ c 1 0 ∷ c 2 20 ∷ c 2 0 ∷ c 2 0 ∷ c 2 0 ∷ c 3 30 ∷ c 3 0 ∷ c 3 0 ∷ d 2 ∷
-        d 3 ∷ c 3 0 ∷ d 1 ∷ d 4 ∷ [];
+          d 3 ∷ c 3 0 ∷ d 1 ∷ d 4 ∷ [];
       drain = true;
     }
 
@@ -107,11 +107,11 @@ scene_conflicting_pair =
       parts = (node 1 ∷ []) ∷ (node 2 ∷ []) ∷ [];
       keys = record { names = key (codes "a") 1 ∷ key (codes "r") 2 ∷ key (codes "b") 2 ∷ []; texts = [] };
       sessions =
-        session 1 ((put 0 (pos 1) ∷ put 1 (pos 1) ∷ []) ∷ []) ∷
-        session 2 ((put 1 (pos 2) ∷ put 2 (pos 2) ∷ []) ∷ []) ∷
-        session 1 ((get 0 ∷ get 2 ∷ []) ∷ []) ∷ [];
+          session 1 ((put 0 (pos 1) ∷ put 1 (pos 1) ∷ []) ∷ []) ∷
+          session 2 ((put 1 (pos 2) ∷ put 2 (pos 2) ∷ []) ∷ []) ∷
+          session 1 ((get 0 ∷ get 2 ∷ []) ∷ []) ∷ [];
       schedule = c 1 10 ∷ c 1 0 ∷ c 1 0 ∷ c 1 0 ∷ c 2 20 ∷ c 2 0 ∷ c 2 0 ∷ c 2 0 ∷ c 3 30 ∷ c 3 0 ∷ c 3 0 ∷ d 2 ∷
-        d 3 ∷ c 3 0 ∷ d 1 ∷ d 4 ∷ [];
+          d 3 ∷ c 3 0 ∷ d 1 ∷ d 4 ∷ [];
       drain = true;
     }
 
@@ -136,7 +136,7 @@ scene_empty =
       parts = (node 1 ∷ []) ∷ [];
       keys = record { names = []; texts = [] };
       sessions =
-        [];
+          [];
       schedule = [];
       drain = true;
     }
@@ -160,7 +160,7 @@ scene_falling_clock =
       parts = (node 1 ∷ []) ∷ [];
       keys = record { names = key (codes "a") 1 ∷ []; texts = [] };
       sessions =
-        session 1 ((put 0 (pos 5) ∷ []) ∷ (get 0 ∷ []) ∷ []) ∷ [];
+          session 1 ((put 0 (pos 5) ∷ []) ∷ (get 0 ∷ []) ∷ []) ∷ [];
       schedule = c 1 10 ∷ c 1 0 ∷ c 1 0 ∷ c 1 0 ∷ [];
       drain = true;
     }

@@ -16,9 +16,9 @@ scene_far_clock_on_cached_key =
       parts = (node 2 ∷ []) ∷ [];
       keys = record { names = key (codes "k") 1 ∷ []; texts = [] };
       sessions =
-        session 1 ((put 0 (pos 1) ∷ []) ∷ []) ∷
-        session 1 ((get 0 ∷ []) ∷ []) ∷
-        session 2 ((put 0 (pos 2) ∷ []) ∷ []) ∷ [];
+          session 1 ((put 0 (pos 1) ∷ []) ∷ []) ∷
+          session 1 ((get 0 ∷ []) ∷ []) ∷
+          session 2 ((put 0 (pos 2) ∷ []) ∷ []) ∷ [];
       schedule = c 1 10 ∷ c 1 0 ∷ c 1 0 ∷ c 2 1000 ∷ c 2 0 ∷ d 1 ∷ d 2 ∷ d 3 ∷ c 3 20 ∷ c 3 0 ∷ c 3 0 ∷ [];
       drain = true;
     }
@@ -44,11 +44,11 @@ scene_gate_delays_a_harmless_read_journal =
       parts = (node 1 ∷ []) ∷ (node 2 ∷ []) ∷ [];
       keys = record { names = key (codes "a") 1 ∷ key (codes "r") 2 ∷ key (codes "b") 2 ∷ []; texts = [] };
       sessions =
-        session 1 ((put 0 (pos 1) ∷ put 1 (pos 1) ∷ []) ∷ []) ∷
-        session 2 ((put 2 (pos 2) ∷ []) ∷ []) ∷
-        session 1 ((get 0 ∷ get 2 ∷ []) ∷ []) ∷ [];
+          session 1 ((put 0 (pos 1) ∷ put 1 (pos 1) ∷ []) ∷ []) ∷
+          session 2 ((put 2 (pos 2) ∷ []) ∷ []) ∷
+          session 1 ((get 0 ∷ get 2 ∷ []) ∷ []) ∷ [];
       schedule = c 1 10 ∷ c 1 0 ∷ c 1 0 ∷ c 1 0 ∷ c 2 20 ∷ c 2 0 ∷ c 2 0 ∷ c 3 30 ∷ c 3 0 ∷ c 3 0 ∷ d 2 ∷ d 3 ∷
-        c 3 0 ∷ d 1 ∷ d 4 ∷ [];
+          c 3 0 ∷ d 1 ∷ d 4 ∷ [];
       drain = false;
     }
 
@@ -75,11 +75,11 @@ scene_gate_delays_a_harmless_read =
       parts = (node 1 ∷ []) ∷ (node 2 ∷ []) ∷ [];
       keys = record { names = key (codes "a") 1 ∷ key (codes "r") 2 ∷ key (codes "b") 2 ∷ []; texts = [] };
       sessions =
-        session 1 ((put 0 (pos 1) ∷ put 1 (pos 1) ∷ []) ∷ []) ∷
-        session 2 ((put 2 (pos 2) ∷ []) ∷ []) ∷
-        session 1 ((get 0 ∷ get 2 ∷ []) ∷ []) ∷ [];
+          session 1 ((put 0 (pos 1) ∷ put 1 (pos 1) ∷ []) ∷ []) ∷
+          session 2 ((put 2 (pos 2) ∷ []) ∷ []) ∷
+          session 1 ((get 0 ∷ get 2 ∷ []) ∷ []) ∷ [];
       schedule = c 1 10 ∷ c 1 0 ∷ c 1 0 ∷ c 1 0 ∷ c 2 20 ∷ c 2 0 ∷ c 2 0 ∷ c 3 30 ∷ c 3 0 ∷ c 3 0 ∷ d 2 ∷ d 3 ∷
-        c 3 0 ∷ d 1 ∷ d 4 ∷ [];
+          c 3 0 ∷ d 1 ∷ d 4 ∷ [];
       drain = false;
     }
 
@@ -104,7 +104,7 @@ scene_greatest_reading =
       parts = (node 1 ∷ []) ∷ [];
       keys = record { names = key (codes "a") 1 ∷ []; texts = [] };
       sessions =
-        session 1 ((put 0 (pos 5) ∷ []) ∷ []) ∷ [];
+          session 1 ((put 0 (pos 5) ∷ []) ∷ []) ∷ [];
       schedule = c 1 18446744073709551615 ∷ [];
       drain = true;
     }
@@ -128,8 +128,8 @@ scene_held_answers =
       parts = (node 1 ∷ node 2 ∷ []) ∷ [];
       keys = record { names = key (codes "a") 1 ∷ []; texts = [] };
       sessions =
-        session 1 ((put 0 (pos 5) ∷ []) ∷ []) ∷
-        session 1 ((get 0 ∷ []) ∷ []) ∷ [];
+          session 1 ((put 0 (pos 5) ∷ []) ∷ []) ∷
+          session 1 ((get 0 ∷ []) ∷ []) ∷ [];
       schedule = c 1 10 ∷ c 1 0 ∷ c 1 0 ∷ c 2 0 ∷ c 2 0 ∷ c 2 0 ∷ [];
       drain = false;
     }
@@ -154,9 +154,9 @@ scene_late_dependency =
       parts = (node 1 ∷ node 2 ∷ []) ∷ [];
       keys = record { names = key (codes "a") 1 ∷ []; texts = [] };
       sessions =
-        session 1 ((put 0 (pos 5) ∷ []) ∷ []) ∷
-        session 1 ((get 0 ∷ []) ∷ []) ∷
-        session 2 ((get 0 ∷ []) ∷ []) ∷ [];
+          session 1 ((put 0 (pos 5) ∷ []) ∷ []) ∷
+          session 1 ((get 0 ∷ []) ∷ []) ∷
+          session 2 ((get 0 ∷ []) ∷ []) ∷ [];
       schedule = c 1 10 ∷ c 1 0 ∷ c 1 0 ∷ c 2 0 ∷ c 2 0 ∷ c 2 0 ∷ c 3 100 ∷ c 3 0 ∷ d 1 ∷ d 2 ∷ [];
       drain = true;
     }

@@ -16,8 +16,8 @@ scene_lost_update =
       parts = (node 1 ∷ []) ∷ [];
       keys = record { names = key (codes "a") 1 ∷ []; texts = [] };
       sessions =
-        session 1 ((add 0 (pos 1) ∷ []) ∷ []) ∷
-        session 1 ((add 0 (pos 1) ∷ []) ∷ []) ∷ [];
+          session 1 ((add 0 (pos 1) ∷ []) ∷ []) ∷
+          session 1 ((add 0 (pos 1) ∷ []) ∷ []) ∷ [];
       schedule = c 1 10 ∷ c 2 10 ∷ [];
       drain = true;
     }
@@ -42,7 +42,7 @@ scene_message_not_sent =
       parts = (node 1 ∷ []) ∷ [];
       keys = record { names = key (codes "a") 1 ∷ []; texts = [] };
       sessions =
-        session 1 ((put 0 (pos 5) ∷ []) ∷ (get 0 ∷ []) ∷ []) ∷ [];
+          session 1 ((put 0 (pos 5) ∷ []) ∷ (get 0 ∷ []) ∷ []) ∷ [];
       schedule = d 1 ∷ c 1 10 ∷ c 1 0 ∷ c 1 0 ∷ c 1 0 ∷ [];
       drain = true;
     }
@@ -67,9 +67,9 @@ scene_need_on_lost_dependency =
       parts = (node 1 ∷ []) ∷ [];
       keys = record { names = key (codes "a") 1 ∷ []; texts = [] };
       sessions =
-        session 1 ((put 0 (pos 9) ∷ []) ∷ []) ∷
-        session 2 ((put 0 (pos 0) ∷ []) ∷ []) ∷
-        session 2 ((need 0 (pos 5) ∷ []) ∷ []) ∷ [];
+          session 1 ((put 0 (pos 9) ∷ []) ∷ []) ∷
+          session 2 ((put 0 (pos 0) ∷ []) ∷ []) ∷
+          session 2 ((need 0 (pos 5) ∷ []) ∷ []) ∷ [];
       schedule = c 2 10 ∷ c 2 0 ∷ c 2 0 ∷ c 3 0 ∷ c 3 0 ∷ c 1 20 ∷ c 1 0 ∷ c 1 0 ∷ d 1 ∷ d 2 ∷ [];
       drain = true;
     }
@@ -95,7 +95,7 @@ scene_one_put_journal =
       parts = (node 1 ∷ []) ∷ [];
       keys = record { names = key (codes "a") 1 ∷ []; texts = [] };
       sessions =
-        session 1 ((put 0 (pos 5) ∷ []) ∷ []) ∷ [];
+          session 1 ((put 0 (pos 5) ∷ []) ∷ []) ∷ [];
       schedule = c 1 10 ∷ [];
       drain = true;
     }
@@ -119,8 +119,8 @@ scene_overlapping_puts =
       parts = (node 1 ∷ []) ∷ [];
       keys = record { names = key (codes "a") 1 ∷ []; texts = [] };
       sessions =
-        session 1 ((put 0 (pos 1) ∷ []) ∷ []) ∷
-        session 1 ((put 0 (pos 2) ∷ []) ∷ []) ∷ [];
+          session 1 ((put 0 (pos 1) ∷ []) ∷ []) ∷
+          session 1 ((put 0 (pos 2) ∷ []) ∷ []) ∷ [];
       schedule = c 1 10 ∷ c 2 10 ∷ [];
       drain = true;
     }
@@ -145,7 +145,7 @@ scene_parked_prepare =
       parts = (node 2 ∷ []) ∷ [];
       keys = record { names = key (codes "a") 1 ∷ []; texts = [] };
       sessions =
-        session 1 ((put 0 (pos 1) ∷ []) ∷ (put 0 (pos 2) ∷ []) ∷ []) ∷ [];
+          session 1 ((put 0 (pos 1) ∷ []) ∷ (put 0 (pos 2) ∷ []) ∷ []) ∷ [];
       schedule = c 1 10 ∷ c 1 0 ∷ c 1 0 ∷ d 1 ∷ d 2 ∷ c 1 0 ∷ c 1 0 ∷ c 1 0 ∷ d 4 ∷ d 3 ∷ [];
       drain = true;
     }

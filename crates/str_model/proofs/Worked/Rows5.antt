@@ -16,8 +16,8 @@ scene_prepare_overtakes_commit =
       parts = (node 2 ∷ []) ∷ [];
       keys = record { names = key (codes "a") 1 ∷ []; texts = [] };
       sessions =
-        session 1 ((put 0 (pos 1) ∷ []) ∷ []) ∷
-        session 1 ((put 0 (pos 2) ∷ []) ∷ []) ∷ [];
+          session 1 ((put 0 (pos 1) ∷ []) ∷ []) ∷
+          session 1 ((put 0 (pos 2) ∷ []) ∷ []) ∷ [];
       schedule = c 1 10 ∷ c 1 0 ∷ c 1 0 ∷ c 2 0 ∷ c 2 0 ∷ c 2 0 ∷ d 1 ∷ d 2 ∷ d 4 ∷ d 3 ∷ [];
       drain = true;
     }
@@ -42,8 +42,8 @@ scene_refused_by_master =
       parts = (node 2 ∷ []) ∷ [];
       keys = record { names = key (codes "a") 1 ∷ []; texts = [] };
       sessions =
-        session 1 ((put 0 (pos 1) ∷ []) ∷ []) ∷
-        session 2 ((put 0 (pos 2) ∷ []) ∷ []) ∷ [];
+          session 1 ((put 0 (pos 1) ∷ []) ∷ []) ∷
+          session 2 ((put 0 (pos 2) ∷ []) ∷ []) ∷ [];
       schedule = c 2 20 ∷ c 2 0 ∷ c 2 0 ∷ c 1 10 ∷ c 1 0 ∷ c 1 0 ∷ [];
       drain = true;
     }
@@ -68,8 +68,8 @@ scene_speculative_read_journal =
       parts = (node 1 ∷ node 2 ∷ []) ∷ [];
       keys = record { names = key (codes "a") 1 ∷ []; texts = [] };
       sessions =
-        session 1 ((put 0 (pos 5) ∷ []) ∷ []) ∷
-        session 1 ((get 0 ∷ []) ∷ []) ∷ [];
+          session 1 ((put 0 (pos 5) ∷ []) ∷ []) ∷
+          session 1 ((get 0 ∷ []) ∷ []) ∷ [];
       schedule = c 1 10 ∷ c 1 0 ∷ c 1 0 ∷ c 2 0 ∷ c 2 0 ∷ c 2 0 ∷ d 1 ∷ d 2 ∷ [];
       drain = true;
     }
@@ -95,8 +95,8 @@ scene_speculative_read =
       parts = (node 1 ∷ node 2 ∷ []) ∷ [];
       keys = record { names = key (codes "a") 1 ∷ []; texts = [] };
       sessions =
-        session 1 ((put 0 (pos 5) ∷ []) ∷ []) ∷
-        session 1 ((get 0 ∷ []) ∷ []) ∷ [];
+          session 1 ((put 0 (pos 5) ∷ []) ∷ []) ∷
+          session 1 ((get 0 ∷ []) ∷ []) ∷ [];
       schedule = c 1 10 ∷ c 1 0 ∷ c 1 0 ∷ c 2 0 ∷ c 2 0 ∷ c 2 0 ∷ d 1 ∷ d 2 ∷ [];
       drain = true;
     }
@@ -121,8 +121,8 @@ scene_transfer =
       parts = (node 1 ∷ node 2 ∷ []) ∷ (node 2 ∷ node 1 ∷ []) ∷ [];
       keys = record { names = key (codes "alice") 1 ∷ key (codes "bob") 2 ∷ []; texts = [] };
       sessions =
-        session 1 ((put 0 (pos 100) ∷ []) ∷ (need 0 (pos 30) ∷ add 0 (negsuc 29) ∷ add 1 (pos 30) ∷ []) ∷ []) ∷
-        session 2 ((get 0 ∷ get 1 ∷ []) ∷ []) ∷ [];
+          session 1 ((put 0 (pos 100) ∷ []) ∷ (need 0 (pos 30) ∷ add 0 (negsuc 29) ∷ add 1 (pos 30) ∷ []) ∷ []) ∷
+          session 2 ((get 0 ∷ get 1 ∷ []) ∷ []) ∷ [];
       schedule = c 1 1000 ∷ c 2 5000 ∷ [];
       drain = true;
     }
@@ -147,7 +147,7 @@ scene_wrapping_and_unmet_need =
       parts = (node 1 ∷ []) ∷ [];
       keys = record { names = key (codes "a") 1 ∷ key (codes "b") 1 ∷ []; texts = [] };
       sessions =
-        session 1 ((put 0 (pos 9223372036854775807) ∷ add 0 (pos 1) ∷ get 0 ∷ []) ∷ (need 1 (pos 1) ∷ put 1 (pos 5) ∷ []) ∷ []) ∷ [];
+          session 1 ((put 0 (pos 9223372036854775807) ∷ add 0 (pos 1) ∷ get 0 ∷ []) ∷ (need 1 (pos 1) ∷ put 1 (pos 5) ∷ []) ∷ []) ∷ [];
       schedule = c 1 10 ∷ [];
       drain = true;
     }

@@ -16,7 +16,7 @@ scene_write_and_read_from_afar =
       parts = (node 2 ∷ []) ∷ [];
       keys = record { names = key (codes "a") 1 ∷ []; texts = [] };
       sessions =
-        session 1 ((put 0 (pos 5) ∷ []) ∷ (get 0 ∷ []) ∷ []) ∷ [];
+          session 1 ((put 0 (pos 5) ∷ []) ∷ (get 0 ∷ []) ∷ []) ∷ [];
       schedule = c 1 10 ∷ [];
       drain = true;
     }
@@ -40,8 +40,8 @@ scene_write_skew =
       parts = (node 1 ∷ []) ∷ [];
       keys = record { names = key (codes "x") 1 ∷ key (codes "y") 1 ∷ []; texts = [] };
       sessions =
-        session 1 ((get 0 ∷ put 1 (pos 1) ∷ []) ∷ []) ∷
-        session 1 ((get 1 ∷ put 0 (pos 1) ∷ []) ∷ []) ∷ [];
+          session 1 ((get 0 ∷ put 1 (pos 1) ∷ []) ∷ []) ∷
+          session 1 ((get 1 ∷ put 0 (pos 1) ∷ []) ∷ []) ∷ [];
       schedule = c 1 10 ∷ c 2 10 ∷ c 1 0 ∷ c 2 0 ∷ [];
       drain = true;
     }

@@ -11,6 +11,6 @@ loop-answer-preserved g c =
       later = omega arith;
       keys = c.loop-answer.invariant.keys;
       written = one_answer _ _ _ (answer_line c.args.cluster.now.scene.keys) c.answers-answer-items.result.now c.loop-answer.answer-index c.answer-item.result c.as_slice.result.now
-        c.loop-answer-test.true c.answer-item.is (c.as_slice.ensures.value ∙ rw (c.in-Ok.ensures.ok, c.clear.ensures.items, c.loop-answer.invariant.keys) refl)
-        c.loop-answer.invariant.written c.in_ok-write_all.ensures.ok;
+          c.loop-answer-test.true c.answer-item.is (c.as_slice.ensures.value ∙ rw (c.in-Ok.ensures.ok, c.clear.ensures.items, c.loop-answer.invariant.keys) refl)
+          c.loop-answer.invariant.written c.in_ok-write_all.ensures.ok;
     }
