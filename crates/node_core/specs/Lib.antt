@@ -1,6 +1,3 @@
-
-
-
 pub mod FirstSteps
 pub mod FirstViews
 pub mod NodeStates

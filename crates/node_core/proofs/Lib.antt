@@ -1,0 +1,11 @@
+pub mod FirstActs
+pub mod FirstCounts
+pub mod FirstHere
+pub mod FirstKept
+pub mod FirstOpening
+pub mod FirstScripts
+pub mod Members
+pub mod Ordered
+pub mod Places
+pub mod Settling
+pub mod Writes
