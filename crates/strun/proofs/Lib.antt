@@ -1,2 +1,4 @@
 pub mod FirstRuns
 pub mod FirstDrains
+pub mod OneNodeLists
+pub mod OneNodeTurns
