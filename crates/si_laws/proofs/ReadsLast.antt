@@ -78,7 +78,8 @@ last_last scene all a b k u g si next sees guard l = record {
         inr (new_below h is_a own (guard h is_a le own))
     by_which x h is le w (inr (inr i)) = absurd i
 
-right_last : (scene : Scene) (all : List Answer) (a b : Answer) (k : KeyId) (v : Value) → SI scene all → IsNext scene all a → SeenNext scene all a → IsGuarded scene all a b k
+-- a read that is right stays so
+pub right_last : (scene : Scene) (all : List Answer) (a b : Answer) (k : KeyId) (v : Value) → SI scene all → IsNext scene all a → SeenNext scene all a → IsGuarded scene all a b k
     → IsRight scene all b k v → IsRight scene (all ++ a ∷ []) b k v
 right_last scene all a b k v si next sees guard (of_none e none) = of_none e (none_last scene all a b k sees guard none)
 right_last scene all a b k v si next sees guard (of_one u g l e) =

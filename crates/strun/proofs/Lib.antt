@@ -2,3 +2,5 @@ pub mod FirstRuns
 pub mod FirstDrains
 pub mod OneNodeLists
 pub mod OneNodeTurns
+pub mod OneNodeHolds
+pub mod OneNodeReads
