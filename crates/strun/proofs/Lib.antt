@@ -4,3 +4,5 @@ pub mod OneNodeLists
 pub mod OneNodeTurns
 pub mod OneNodeHolds
 pub mod OneNodeReads
+pub mod OneNodeNext
+pub mod OneNodeDecides

@@ -41,22 +41,23 @@ pub any_in : {A : Type 0} (p : A → Bool) (xs : List A) → list_any p xs ≡ t
 any_in p [] e = absurd cc
 any_in p (x ∷ xs) e = elim (or_cases (p x) (list_any p xs) e) [ inl h ↦ (x, inl refl, h) | inr h ↦ (let r = any_in p xs h in (r.0, inr r.1, r.2)) ]
 
+or_first : (a b : Bool) → a ≡ true → (a || b) ≡ true
+or_first true b e = refl
+or_first false b e = absurd cc
+
+-- the second of two tests
+pub or_second : (a b : Bool) → b ≡ true → (a || b) ≡ true
+or_second true b e = refl
+or_second false b e = e
+
 -- where one passes the test
 pub in_any : {A : Type 0} (p : A → Bool) (xs : List A) (x : A) → In x xs → p x ≡ true → list_any p xs ≡ true
 in_any p [] x h t = absurd h
 in_any p (y ∷ ys) x (inl q) t = or_first (p y) (list_any p ys) (ap p q ∙ t)
-  where
-    or_first : (a b : Bool) → a ≡ true → (a || b) ≡ true
-    or_first true b e = refl
-    or_first false b e = absurd cc
 in_any p (y ∷ ys) x (inr h) t = or_second (p y) (list_any p ys) (in_any p ys x h t)
-  where
-    or_second : (a b : Bool) → b ≡ true → (a || b) ≡ true
-    or_second true b e = refl
-    or_second false b e = e
 
--- a number is the same as itself
-same_self : (k : KeyId) → same_key k k ≡ true
+-- a key is the same as itself
+pub same_self : (k : KeyId) → same_key k k ≡ true
 same_self k = eq-eqb k.0 k.0 refl
 
 -- of writes of distinct keys each is found by its key
