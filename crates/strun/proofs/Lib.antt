@@ -6,3 +6,5 @@ pub mod OneNodeHolds
 pub mod OneNodeReads
 pub mod OneNodeNext
 pub mod OneNodeDecides
+pub mod OneNodeTimes
+pub mod OneNodeAnswers
