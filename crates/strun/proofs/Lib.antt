@@ -8,3 +8,5 @@ pub mod OneNodeNext
 pub mod OneNodeDecides
 pub mod OneNodeTimes
 pub mod OneNodeAnswers
+pub mod OneNodeWrites
+pub mod OneNodeScripts
