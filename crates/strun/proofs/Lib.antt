@@ -10,3 +10,4 @@ pub mod OneNodeTimes
 pub mod OneNodeAnswers
 pub mod OneNodeWrites
 pub mod OneNodeScripts
+pub mod OneNodeKept
