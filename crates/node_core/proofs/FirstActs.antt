@@ -66,6 +66,7 @@ pub record IsLast {A : Type 0} (p : A → Bool) (xs : List A) (i : ℕ) : Type 0
   pub passes : p item ≡ true
   pub count : count_by p xs ≡ count_by p (take i xs) + 1
 
+-- the last place, where there is one
 pub last_some : {A : Type 0} (p : A → Bool) (xs : List A) (i : ℕ) → last_index p xs ≡ Some i → IsLast p xs i
 last_some p [] i e = absurd (cc e)
 last_some {A} p (x ∷ xs) i e = by_rest (last_some p xs) (last_index p xs) refl e
@@ -239,6 +240,7 @@ module _ (scene : Scene) (v : View) (is : IsScene scene) (f : IsFirst scene) (h 
   visible_time : (k : KeyId) (rs : ℕ) (u : Version) → visible v.versions k rs ≡ Some u → u.ts.0 ≤ times_limit v
   visible_time k rs u e = let m = in_last (λ (z : Version). same_key z.key k && nat_le z.ts.0 rs) v.versions u e in let r = at_in v.versions u m in (h.versions r.0 u r.1).ts
 
+  -- an operation
   op_does : (i : ℕ) (x : Own) (op : Op) → Goes v i x → own_op (first_here scene) x ≡ Some op → Does scene v (first_op (first_here scene) i x op (starts v))
   op_does i x (Get k) g e = by_known (known x k)
     where
@@ -255,6 +257,7 @@ module _ (scene : Scene) (v : View) (is : IsScene scene) (f : IsFirst scene) (h 
   op_does i x (Need k n) g e = absurd (script_op scene x.place x.next (Need k n) is f e)
   op_does i x Stop g e = absurd (script_op scene x.place x.next Stop is f e)
 
+  -- the request to commit
   commit_does : (i : ℕ) (x : Own) → Goes v i x → Does scene v (first_commit (first_here scene) i x x.writes (starts v))
   commit_does i x g = by_writes x.writes refl
     where
@@ -266,6 +269,7 @@ module _ (scene : Scene) (v : View) (is : IsScene scene) (f : IsFirst scene) (h 
       by_writes [] e = closes i x g e
       by_writes (w ∷ ws) e = by_conflict (find (conflicts x.snap.rs) (met x.writes v.versions))
 
+  -- the next operation, or the request to commit
   own_does : (i : ℕ) (x : Own) → Goes v i x → Does scene v (first_own (first_here scene) i x (own_op (first_here scene) x) (starts v))
   own_does i x g = by_op (own_op (first_here scene) x) refl
     where
@@ -308,6 +312,7 @@ module _ (scene : Scene) (v : View) (is : IsScene scene) (f : IsFirst scene) (h 
   last_does s t text i x (Local lc) d q at_ z c e k = absurd (cc k)
   last_does s t text i x (Global lc) d q at_ z c e k = absurd (cc k)
 
+  -- the session's last transaction, or its first
   session_does : (s : SessionId) (t : ℕ) (text : Session) (d : Doing) → nth scene.sessions s.0 ≡ Some text
       → first_go_on_last (first_here scene) s t text (last_index (of_session s) v.own) (starts v) ≡ Some d → Does scene v d
   session_does s t text d q e = by_last (last_index (of_session s) v.own) refl e

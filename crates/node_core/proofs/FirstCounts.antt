@@ -76,6 +76,7 @@ hits : Own → ℕ → List Session → ℕ
 hits x n [] = 0
 hits x n (text ∷ rest) = one_if (of_session (numbered n) x) + hits x (n + 1) rest
 
+-- one more transaction
 begun-cons : (x : Own) (xs : List Own) (n : ℕ) (rest : List Session) → begun_from (x ∷ xs) n rest ≡ hits x n rest + begun_from xs n rest
 unfolding begun_from hits
 begun-cons x xs n [] = refl
@@ -84,6 +85,7 @@ begun-cons x xs n (text ∷ rest) =
     let r = begun-cons x xs (n + 1) rest in
     omega arith
 
+-- the transaction counts once at least
 hit_once : (x : Own) (n : ℕ) (rest : List Session) → n ≤ x.place.session.0 → x.place.session.0 < n + length rest → 1 ≤ hits x n rest
 unfolding hits numbered
 hit_once x n [] l m = absurd (omega arith)
@@ -94,6 +96,7 @@ hit_once x n (text ∷ rest) l m = by_test (λ a b. hit_once x (n + 1) rest a b)
     by_test rec true e = omega arith
     by_test rec false e = let k : x.place.session.0 ≢ n = λ q. cc (eq-eqb x.place.session.0 n q, e) in let r = rec (omega arith) (omega arith) in omega arith
 
+-- no session has begun more than its scripts
 begun_bound : (own : List Own) (n : ℕ) (rest : List Session) → ((j : ℕ) (text : Session) → slice_get rest j ≡ Some text → count_by (of_session (numbered (n + j))) own ≤ length text.txs)
     → begun_from own n rest ≤ sum_by (λ s. length s.txs) rest
 unfolding begun_from
@@ -104,6 +107,7 @@ begun_bound own n (text ∷ rest) h =
     let r = begun_bound own (n + 1) rest (λ j t e. subst (λ (k : ℕ). count_by (of_session (numbered k)) own ≤ length t.txs) (omega arith) (h (suc j) t e)) in
     omega arith
 
+-- each transaction counts at a session
 own_bound : (own : List Own) (rest : List Session) → ((i : ℕ) (x : Own) → slice_get own i ≡ Some x → Exists x.place.session.0 (length rest)) → length own ≤ begun_from own 1 rest
 own_bound [] rest h = omega arith
 own_bound (x ∷ xs) rest h =

@@ -206,6 +206,7 @@ module _ (scene : Scene) (v : View) (is : IsScene scene) (f : IsFirst scene) (h 
         done = do_ ∙ h.done;
       }
 
+  -- the marks as they were
   unmarked : AreMarks v v.marks
   unmarked = record { same_length = refl; times = h.mark_times }
 
@@ -325,6 +326,7 @@ module _ (scene : Scene) (v : View) (is : IsScene scene) (f : IsFirst scene) (h 
           let r = at_in v.versions w k in
           version_carried scene v u w (let b = more_times in omega arith) (λ d. decided_set v.own i (w.tx.seq - 1) x y g.at_ g.active d) (h.versions r.0 w r.1)
 
+  -- each action keeps what holds between steps
   pub does_kept : (d : Doing) → Does scene v d → IsFirstView scene d.view
   unfolding begun closed
   does_kept d (begins place t ops s n) = begun_kept place (max (min t reading_limit) v.floor) ops s n (let a = h.floor in omega arith)

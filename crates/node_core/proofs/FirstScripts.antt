@@ -81,6 +81,7 @@ IsFirstOp scene (Get k) = k.0 < length scene.keys.names
 IsFirstOp scene (Put k n) = k.0 < length scene.keys.names
 IsFirstOp scene _ = ⊥
 
+-- an operation of a scene that is a get or a put
 first_op_of : (scene : Scene) (version : ℕ) (op : Op) → is_get_or_put op ≡ true → IsOp version scene.keys op → IsFirstOp scene op
 first_op_of scene version (Get k) e h = h
 first_op_of scene version (Put k n) e h = h.0

@@ -1,8 +1,14 @@
 pub mod FirstActs
+pub mod FirstCommit
 pub mod FirstCounts
 pub mod FirstHere
+pub mod FirstIdle
 pub mod FirstKept
+pub mod FirstLeft
+pub mod FirstNeeds
 pub mod FirstOpening
+pub mod FirstPass
+pub mod FirstRules
 pub mod FirstScripts
 pub mod Members
 pub mod Ordered

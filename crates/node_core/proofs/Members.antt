@@ -1,5 +1,5 @@
 -- What is in a list that was made by the operations of the definitions.
-use Rattle.std.proofs.Common.{Bool, List, None, Option, Some, [], ap, false, filter, if◌then◌else◌, inl, inr, map, refl, slice_get, suc, sym, true, zero, ℕ, ◌++◌, ◌∙◌, ◌∷◌, ◌≡◌, ◌⊎◌}
+use Rattle.std.proofs.Common.{Bool, List, None, Option, Some, [], ap, false, filter, flat_map, if◌then◌else◌, inl, inr, map, refl, slice_get, suc, sym, true, zero, ℕ, ◌++◌, ◌∙◌, ◌∷◌, ◌≡◌, ◌⊎◌}
 use Rattle.std.specs.List.{last_or}
 use Rattle.str_base.specs.declared.names.Version.{Version}
 use Rattle.str_base.specs.Versions.{insert_all, insert_version, is_before}
@@ -105,3 +105,8 @@ in_last_or o (y ∷ xs) x e = elim (in_last_or (Some y) xs x e) [ inl q ↦ inr 
 -- the last of those that a test lets through
 pub in_last : {A : Type 0} (test : A → Bool) (xs : List A) (x : A) → last_or None (filter test xs) ≡ Some x → In x xs
 in_last test xs x e = elim (in_last_or None (filter test xs) x e) [ inl q ↦ absurd (cc q) | inr h ↦ (in_filter test xs x h).0 ]
+
+-- a member of one of the lists
+pub in_flat_map : {A B : Type 0} (f : A → List B) (xs : List A) (y : B) → In y (flat_map f xs) → (x : A) × (In x xs) × (In y (f x))
+in_flat_map f [] y h = absurd h
+in_flat_map f (z ∷ xs) y h = elim (in_append (f z) (flat_map f xs) y h) [ inl k ↦ (z, inl refl, k) | inr k ↦ (let r = in_flat_map f xs y k in (r.0, inr r.1, r.2)) ]

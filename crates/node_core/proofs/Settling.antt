@@ -7,6 +7,7 @@ use Rattle.node_core.proofs.Ordered.{Apart, Sorted, apart_back, before_one, befo
 
 -- ---- insertions in another order
 
+-- of two versions the second one may be inserted last
 insert_ordered : (v w : Version) (us : List Version) → is_before v w ≡ true → is_before w v ≡ false → insert_version v (insert_version w us) ≡ insert_version w (insert_version v us)
 insert_ordered v w [] e f = simp (e, f)
 insert_ordered v w (u ∷ us) e f = by_tests (is_before w u) refl (is_before v u) refl (insert_ordered v w us e f)
@@ -89,6 +90,7 @@ filter_none test (v ∷ vs) f = rw (f v (inl refl)) (filter_none test vs (λ x h
 abbrev pub Keeps : (Version → Version) → Type 0
 Keeps f = (v w : Version) → Apart v w → Apart (f v) (f w)
 
+-- a version that is put in order, then changed with the others
 settled_insert : (f : Version → Version) → Keeps f → (v : Version) (as' vs : List Version) → ApartAll v as'
     → insert_all (map f (insert_version v as')) vs ≡ insert_version (f v) (insert_all (map f as') vs)
 settled_insert f k v [] vs n = refl

@@ -34,6 +34,7 @@ in_set_write w (u ∷ us) x h = by_test (in_set_write w us x) (same_key u.key w.
 abbrev pub keys_of : List Write → List KeyId
 keys_of ws = map (λ w. w.key) ws
 
+-- neither of two tests is passed
 or_false : (p q : Bool) → p ≡ false → q ≡ false → (p || q) ≡ false
 or_false true q e f = absurd (cc e)
 or_false false q e f = f
