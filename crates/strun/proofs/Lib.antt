@@ -11,3 +11,4 @@ pub mod OneNodeAnswers
 pub mod OneNodeWrites
 pub mod OneNodeScripts
 pub mod OneNodeKept
+pub mod OneNode
