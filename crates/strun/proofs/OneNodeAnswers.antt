@@ -37,9 +37,11 @@ answers_begun scene all own y p h = record {
     none_more s = ap one_if (and_fails (of_session s y) (is_decided y.phase) (ap is_decided p))
 
 module _ (scene : Scene) (all : List Answer) (own : List Own) (i : ℕ) (x y : Own) (at_ : slice_get own i ≡ Some x) (active : x.phase ≡ Active) (h : AreAnswers scene all own) where
+  -- an active transaction is undecided
   undecided : is_decided x.phase ≡ true → ⊥
   undecided d = let q : is_decided x.phase ≡ false = ap is_decided active in cc (d, q)
 
+  -- it does not count before
   none_before : (s : SessionId) → one_if (is_decided_of s x) ≡ 0
   none_before s = ap one_if (and_fails (of_session s x) (is_decided x.phase) (ap is_decided active))
 

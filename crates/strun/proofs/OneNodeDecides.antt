@@ -21,12 +21,13 @@ use Rattle.str_scene.specs.Scenes.{Scene}
 use Rattle.node_core.proofs.FirstActs.{Goes, next_time}
 use Rattle.node_core.proofs.FirstHere.{first_here}
 use Rattle.node_core.proofs.FirstScripts.{flat_map_in}
+use Rattle.node_core.proofs.Ordered.{Compared, compared, less, more, same}
 use Rattle.node_core.proofs.Writes.{key_is}
 use Rattle.si_laws.proofs.CommitOrder.{named}
 use Rattle.si_laws.proofs.ReadsSeen.{IsAbove, reads_seen}
 use Rattle.str_model.proofs.Members.{In}
 use Rattle.strun.proofs.OneNodeHolds.{Holds}
-use Rattle.strun.proofs.OneNodeLists.{Side, earlier, filter_in, find_none, later, side, together, within_greatest}
+use Rattle.strun.proofs.OneNodeLists.{filter_in, find_none, within_greatest}
 use Rattle.strun.proofs.OneNodeNext.{IsDecision, given_answer}
 use Rattle.strun.proofs.OneNodeReads.{any_in, done_of, or_second, own_reads, same_self}
 
@@ -80,7 +81,7 @@ module _ (scene : Scene) (all : List Answer) (v : View) (first : IsFirstView sce
       seen_it = seen_new (Commits (Some (stamp (next_time v x))) x.gets) e (λ f c. (let q = at_time f c in omega arith))
 
       free_ : (w : Version) → In w v.versions → wrote_key w.key x.writes ≡ true → w.ts.0 ≤ x.snap.rs
-      free_ w m t = by_side (side x.snap.rs w.ts.0)
+      free_ w m t = by_order (compared x.snap.rs w.ts.0)
         where
           there : In w (met x.writes v.versions)
           there =
@@ -89,10 +90,10 @@ module _ (scene : Scene) (all : List Answer) (v : View) (first : IsFirstView sce
               flat_map_in (λ (z : Write). chain z.key v.versions) x.writes r.0 w r.1
               (filter_in (λ (y : Version). same_key y.key r.0.key) v.versions w m (subst (λ (k : KeyId). same_key w.key k ≡ true) (sym q) (same_self w.key)))
 
-          by_side : Side x.snap.rs w.ts.0 → w.ts.0 ≤ x.snap.rs
-          by_side (later l) = omega arith
-          by_side (together q) = omega arith
-          by_side (earlier l) =
+          by_order : Compared x.snap.rs w.ts.0 → w.ts.0 ≤ x.snap.rs
+          by_order (more l) = omega arith
+          by_order (same q) = omega arith
+          by_order (less l) =
               absurd (find_none (conflicts x.snap.rs) (met x.writes v.versions) w none there (or_second (is_pre w.kind) (nat_lt x.snap.rs w.ts.0) (lt-ltb x.snap.rs w.ts.0 l)))
 
       over_ : (f : ℕ) → IsCommittedAt (given_answer scene i x (Commits (Some (stamp (next_time v x))) x.gets)) f → (k : KeyId) → wrote_key k x.writes ≡ true → mark_of v.marks k < f

@@ -127,6 +127,7 @@ pub record ReadsHold (scene : Scene) (all : List Answer) (marks : List ℕ) (x :
 
 -- ---- all of it
 
+-- what holds between two events
 pub record Holds (scene : Scene) (all : List Answer) (v : View) : Type 0 where
   pub answers : AreAnswers scene all v.own
   pub times : AreInTime v.own v.floor
@@ -138,8 +139,13 @@ pub record Holds (scene : Scene) (all : List Answer) (v : View) : Type 0 where
 pub holds_first : (scene : Scene) → Holds scene [] (opening_view scene)
 holds_first scene = record {
   answers = record { answered = λ b h. absurd h; given = λ i x e d. absurd (cc e); counted = λ s. refl };
-  times = record { rises = λ i j x y l e f. absurd (cc e); low = λ i x e. absurd (cc e); final_low = λ i x e. absurd (cc e);
-    earlier_decided = λ i j x y l e f s. absurd (cc e); earlier_final = λ i j x y l e f s. absurd (cc e) };
+  times = record {
+    rises = λ i j x y l e f. absurd (cc e);
+    low = λ i x e. absurd (cc e);
+    final_low = λ i x e. absurd (cc e);
+    earlier_decided = λ i j x y l e f s. absurd (cc e);
+    earlier_final = λ i j x y l e f s. absurd (cc e);
+  };
   writes = record { writer = λ w h. absurd h; written = λ i x e. absurd (cc e) };
   ended = λ i x e. absurd (cc e);
   read = λ i x e. absurd (cc e);

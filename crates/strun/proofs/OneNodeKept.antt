@@ -1,7 +1,6 @@
 -- Each action of the only node keeps what holds, and its answer lets the run of the snapshot isolation machine go on.
 use Rattle.std.proofs.Common.{List, None, Option, Some, [], ap, append-nil, arith, inl, inr, length, map, max, min, refl, slice_get, slice_set, subst, sym, true, ℕ, ◌++◌, ◌<◌, ◌∙◌, ◌∷◌, ◌≡◌, ◌≢◌, ◌≤◌, ◌⊎◌}
 use Rattle.std.proofs.Math.Seq.{take-length}
-use Rattle.str_base.specs.declared.names.Cause.{Cause}
 use Rattle.str_base.specs.declared.names.Cause.TheVariants.{Conflict as ByConflict}
 use Rattle.str_base.specs.declared.names.KeyId.{KeyId}
 use Rattle.str_base.specs.declared.names.Value.TheVariants.{Absent, Num}
@@ -112,9 +111,6 @@ module _ (scene : Scene) (all : List Answer) (v : View) (is : IsScene scene) (on
     read = λ j z e. read_ j z (got_set v.own i j (in_phase p x) z e);
   }
     where
-      a : Answer
-      a = answer_at scene i (in_phase p x)
-
       next : IsNext scene all (answer_at scene i (in_phase p x))
       next = decision_next scene all v is only first h si i x g (outcome_of p x.gets) d
 
@@ -170,7 +166,6 @@ module _ (scene : Scene) (all : List Answer) (v : View) (is : IsScene scene) (on
   turn_kept d run (conflicts_ i x by k g) =
       let si : SI scene all = subst (SI scene) (take-length all) (run (length all)) in
       let n = conflict_decides scene all v first h si i x g by k (first_here scene).node in
-      let cause : Cause = ByConflict by k (first_here scene).node in
       one_kept (aborted_at_once (first_here scene) i (ByConflict by k (first_here scene).node) x (starts v)) (answer_at scene i (in_phase (Aborted None (ByConflict by k (first_here scene).node)) x)) refl run
       (decision_next scene all v is only first h si i x g (Aborts (ByConflict by k (first_here scene).node)) n)
       (decided_holds i x (Aborted None (ByConflict by k (first_here scene).node)) v.versions v.floor g si refl n (omega arith) tt (λ q. cc q)

@@ -111,18 +111,6 @@ drop_none [] (suc i) e = refl
 drop_none (y ∷ ys) zero e = absurd cc
 drop_none (y ∷ ys) (suc i) e = drop_none ys i e
 
--- of two places: which is first
-pub data Side (m n : ℕ) : Type 0 where
-  earlier : m < n → Side m n
-  together : m ≡ n → Side m n
-  later : n < m → Side m n
-
-pub side : (m n : ℕ) → Side m n
-side zero zero = together refl
-side zero (suc n) = earlier (omega arith)
-side (suc m) zero = later (omega arith)
-side (suc m) (suc n) = elim (side m n) [ earlier h ↦ earlier (omega arith) | together e ↦ together (ap suc e) | later h ↦ later (omega arith) ]
-
 -- what two places hold
 pub one_place : {A : Type 0} (xs : List A) (i j : ℕ) (x y : A) → slice_get xs i ≡ Some x → slice_get xs j ≡ Some y → i ≡ j → x ≡ y
 one_place xs i j x y e f q = let r : slice_get xs i ≡ Some y = ap (λ n. slice_get xs n) q ∙ f in let s : Some x ≡ Some y = sym e ∙ r in cc s

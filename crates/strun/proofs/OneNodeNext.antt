@@ -24,6 +24,7 @@ use Rattle.str_scene.specs.Scenes.{Scene, Session, nth}
 use Rattle.node_core.proofs.FirstActs.{Goes}
 use Rattle.node_core.proofs.FirstCounts.{in_session_is, index_within}
 use Rattle.node_core.proofs.FirstHere.{first_here}
+use Rattle.node_core.proofs.Ordered.{Compared, compared, less, more, same}
 use Rattle.node_core.proofs.Places.{count-cons, one_if}
 use Rattle.si_laws.proofs.CommitOrder.{named}
 use Rattle.si_laws.proofs.NextAnswer.{IsNext, Keeps}
@@ -31,7 +32,7 @@ use Rattle.si_laws.proofs.ReadsSeen.{reads_keep}
 use Rattle.str_model.proofs.Members.{In, in_at}
 use Rattle.strun.proofs.FirstRuns.{only_one}
 use Rattle.strun.proofs.OneNodeHolds.{Holds, IsEnded, IsFinalBelow, is_of_session, outcome_of}
-use Rattle.strun.proofs.OneNodeLists.{Side, earlier, later, one_place, side, together}
+use Rattle.strun.proofs.OneNodeLists.{one_place}
 use Rattle.strun.proofs.OneNodeReads.{above_all, commit_own, commit_own_at, commit_reads, commit_version, done_of}
 
 -- ---- counts
@@ -80,6 +81,7 @@ count_before p q (z ∷ zs) (suc i) x e f before_ after_ =
 abbrev pub given_answer : Scene → ℕ → Own → Outcome → Answer
 given_answer scene i x o = answer_of (first_here scene) i x o
 
+-- what the answer of a decision has to meet
 pub record IsDecision (scene : Scene) (all : List Answer) (v : View) (i : ℕ) (x : Own) (o : Outcome) : Type 0 where
   -- a commit is seen to give what the transaction got and wrote
   pub sees : (f : ℕ) → IsCommittedAt (given_answer scene i x o) f → seen scene all (given_answer scene i x o) ≡ done_of x
@@ -97,13 +99,14 @@ module _ (scene : Scene) (all : List Answer) (v : View) (is : IsScene scene) (on
 
   -- a decided one of the session stands before it
   not_later : (j : ℕ) (y : Own) → slice_get v.own j ≡ Some y → is_decided y.phase ≡ true → y.place.session ≡ x.place.session → j < i
-  not_later j y e d s = by_side (side j i)
+  not_later j y e d s = by_order (compared j i)
     where
-      by_side : Side j i → j < i
-      by_side (earlier l) = l
-      by_side (together q) = absurd (undecided (ap (λ (z : Own). is_decided z.phase) (sym (one_place v.own j i y x e g.at_ q)) ∙ d))
-      by_side (later l) = absurd (undecided (h.times.earlier_decided i j x y l g.at_ e (sym s)))
+      by_order : Compared j i → j < i
+      by_order (less l) = l
+      by_order (same q) = absurd (undecided (ap (λ (z : Own). is_decided z.phase) (sym (one_place v.own j i y x e g.at_ q)) ∙ d))
+      by_order (more l) = absurd (undecided (h.times.earlier_decided i j x y l g.at_ e (sym s)))
 
+  -- its place is in the scene
   own_placed : (o : Outcome) → IsPlaced scene (given_answer scene i x o)
   own_placed o = by_session (nth scene.sessions x.place.session.0) refl
     where
@@ -128,21 +131,24 @@ module _ (scene : Scene) (all : List Answer) (v : View) (is : IsScene scene) (on
         index = ((let q = k.index in omega arith), index_within scene x.place text e k.script);
       }
 
+  -- it is the next one of its session
   own_order : x.place.index ≡ 1 + count_by (is_of_session x.place.session) all
   own_order =
       let c = h.answers.counted x.place.session in
       let d = count_before (of_session x.place.session) (λ (z : Own). is_decided z.phase) v.own i x g.at_ (ap is_decided g.active)
-          (λ j y l e t. h.times.earlier_decided j i y x l e g.at_ (in_session_is x.place.session y t))
-          (λ j y l e t. undecided (h.times.earlier_decided i j x y l g.at_ e (sym (in_session_is x.place.session y t)))) in
+      (λ j y l e t. h.times.earlier_decided j i y x l e g.at_ (in_session_is x.place.session y t))
+      (λ j y l e t. undecided (h.times.earlier_decided i j x y l g.at_ e (sym (in_session_is x.place.session y t)))) in
       let k = (first.own i x g.at_).index in
       omega arith
 
+  -- its name is new
   own_fresh : (b : Answer) → In b all → b.tx ≢ name_of (first_here scene) i
   own_fresh b m q =
       let a = h.answers.answered b m in
       let r : a.place + 1 ≡ i + 1 = ap (λ (z : Answer). z.tx.seq) (sym a.is) ∙ ap (λ (t : TxId). t.seq) q in
       undecided (ap (λ (z : Own). is_decided z.phase) (sym (one_place v.own a.place i a.item x a.at_ g.at_ (omega arith))) ∙ a.decided)
 
+  -- its snapshot is at or above those of its session's answers
   own_session_rs : (b : Answer) → In b all → b.place.session ≡ x.place.session → b.rs.0 ≤ x.snap.rs
   own_session_rs b m s =
       let a = h.answers.answered b m in
@@ -150,6 +156,7 @@ module _ (scene : Scene) (all : List Answer) (v : View) (is : IsScene scene) (on
       let l = h.times.rises a.place i a.item x (not_later a.place a.item a.at_ a.decided (ap (λ (z : Answer). z.place.session) (sym a.is) ∙ s)) a.at_ g.at_ in
       omega arith
 
+  -- and at or above their final timestamps
   own_session_fc : (b : Answer) (f : ℕ) → In b all → b.place.session ≡ x.place.session → IsCommittedAt b f → f ≤ x.snap.rs
   own_session_fc b f m s c =
       let a = commit_own_at scene all v.own b f h.answers m c in
@@ -157,6 +164,7 @@ module _ (scene : Scene) (all : List Answer) (v : View) (is : IsScene scene) (on
       subst (λ (p : Phase). IsFinalBelow p x.snap.rs) a.phase
       (h.times.earlier_final a.place i a.item x (not_later a.place a.item a.at_ (ap is_decided a.phase) q) a.at_ g.at_ q)
 
+  -- and at or above those of earlier transactions
   own_earlier : (b : Answer) → In b all → b.tx.seq < i + 1 → b.rs.0 ≤ x.snap.rs
   own_earlier b m l =
       let a = h.answers.answered b m in
@@ -165,6 +173,7 @@ module _ (scene : Scene) (all : List Answer) (v : View) (is : IsScene scene) (on
       let k = h.times.rises a.place i a.item x (omega arith) a.at_ g.at_ in
       omega arith
 
+  -- and at or below those of later ones
   own_later : (b : Answer) → In b all → i + 1 < b.tx.seq → x.snap.rs ≤ b.rs.0
   own_later b m l =
       let a = h.answers.answered b m in
@@ -191,6 +200,7 @@ module _ (scene : Scene) (all : List Answer) (v : View) (is : IsScene scene) (on
       by_phase y (Global lc) gets d k q = cc d
 
   module _ (o : Outcome) (d : IsDecision scene all v i x o) where
+    -- of it and an earlier commit that wrote one key the earlier one is final at or below its snapshot
     own_apart : (f k : ℕ) (b : Answer) (key : KeyId) → In b all → IsCommittedAt (given_answer scene i x o) f → IsCommittedAt b k
         → wrote_key key (seen scene all (given_answer scene i x o)).writes ≡ true → wrote_key key (seen scene all b).writes ≡ true → (f ≤ b.rs.0) ⊎ (k ≤ x.snap.rs)
     own_apart f k b key m c e s t =
@@ -200,6 +210,7 @@ module _ (scene : Scene) (all : List Answer) (v : View) (is : IsScene scene) (on
         let q : r.0.ts.0 ≡ k = r.3 in
         inr (omega arith)
 
+    -- what an earlier commit saw stays
     own_keeps : (f : ℕ) (b : Answer) (p : Option Ts) (gets : List Got) → In b all → IsCommittedAt (given_answer scene i x o) f → b.outcome ≡ Commits p gets → f ≤ b.rs.0
         → Keeps scene all (given_answer scene i x o) f b
     own_keeps f b p gets m c e l =
@@ -207,11 +218,11 @@ module _ (scene : Scene) (all : List Answer) (v : View) (is : IsScene scene) (on
         let r = commit_reads scene all v first h si b a.0 a.1 in
         reads_keep scene all (given_answer scene i x o) b f (done_of a.1.item) (named all si.placed.names) (above_all scene all v first h si b m) r.0
         (λ z n w. absurd (
-          let u : wrote_key z.key x.writes ≡ true = subst (λ (y : Evaluated). wrote_key z.key y.writes ≡ true) (d.sees f c) w in
-          let j = d.over f c z.key u in
-          let k = (h.read a.1.place a.1.item a.1.at_).marked_ z (r.1 z n) in
-          let q : b.rs.0 ≡ a.1.item.snap.rs = ap (λ (y : Answer). y.rs.0) a.1.is in
-          omega arith))
+        let u : wrote_key z.key x.writes ≡ true = subst (λ (y : Evaluated). wrote_key z.key y.writes ≡ true) (d.sees f c) w in
+        let j = d.over f c z.key u in
+        let k = (h.read a.1.place a.1.item a.1.at_).marked_ z (r.1 z n) in
+        let q : b.rs.0 ≡ a.1.item.snap.rs = ap (λ (y : Answer). y.rs.0) a.1.is in
+        omega arith))
 
     -- the answer may follow
     pub decision_next : IsNext scene all (given_answer scene i x o)

@@ -41,6 +41,7 @@ pub any_in : {A : Type 0} (p : A → Bool) (xs : List A) → list_any p xs ≡ t
 any_in p [] e = absurd cc
 any_in p (x ∷ xs) e = elim (or_cases (p x) (list_any p xs) e) [ inl h ↦ (x, inl refl, h) | inr h ↦ (let r = any_in p xs h in (r.0, inr r.1, r.2)) ]
 
+-- the first of two tests
 or_first : (a b : Bool) → a ≡ true → (a || b) ≡ true
 or_first true b e = refl
 or_first false b e = absurd cc
@@ -95,12 +96,14 @@ done_of x = record { gets = x.gets; writes = x.writes; stop = AtEnd }
 -- the reads of a transaction that has done its whole script
 pub own_reads : (scene : Scene) (all : List Answer) (marks : List ℕ) (i : ℕ) (x : Own) (o : Outcome) → ReadsHold scene all marks x → own_op (first_here scene) x ≡ None
     → (r : Reads scene all (answer_of (first_here scene) i x o) (done_of x)) × ((z : ReadDone) → In z r.reads → In z x.reads)
-own_reads scene all marks i x o h e =
-    (record {
-      reads = x.reads;
-      right = λ r m. right_at scene all (probe x.snap.rs) (answer_of (first_here scene) i x o) r.key r.value refl (h.right r m);
-      gives = λ look agrees. sym (h.gives look agrees) ∙ ap (λ ops. eval_from look ops x.writes x.gets) (drop_none (script_at scene x.place) x.next e);
-    }, λ z m. m)
+own_reads scene all marks i x o h e = (
+  record {
+    reads = x.reads;
+    right = λ r m. right_at scene all (probe x.snap.rs) (answer_of (first_here scene) i x o) r.key r.value refl (h.right r m);
+    gives = λ look agrees. sym (h.gives look agrees) ∙ ap (λ ops. eval_from look ops x.writes x.gets) (drop_none (script_at scene x.place) x.next e);
+  },
+  λ z m. m,
+)
 
 -- ---- commits
 
@@ -127,6 +130,7 @@ phase_of (Closing w) o gets gs d e = absurd (cc d)
 phase_of (Local lc) o gets gs d e = absurd (cc d)
 phase_of (Global lc) o gets gs d e = absurd (cc d)
 
+-- a committed answer is that of such a transaction
 pub commit_own : (scene : Scene) (all : List Answer) (own : List Own) (b : Answer) (o : Option Ts) (gets : List Got) → AreAnswers scene all own → In b all → b.outcome ≡ Commits o gets
     → (fc : Option ℕ) × (IsCommit scene own b fc) × (o ≡ option_map stamp fc)
 commit_own scene all own b o gets h m e =
@@ -134,6 +138,7 @@ commit_own scene all own b o gets h m e =
     let r = phase_of a.item.phase o a.item.gets gets a.decided (sym (ap (λ (z : Answer). z.outcome) a.is) ∙ e) in
     (r.1, record { place = a.place; item = a.item; lc = r.0; at_ = a.at_; phase = r.2; is = a.is }, r.3)
 
+-- the same of a commit with a final timestamp
 pub commit_own_at : (scene : Scene) (all : List Answer) (own : List Own) (b : Answer) (g : ℕ) → AreAnswers scene all own → In b all → IsCommittedAt b g → IsCommit scene own b (Some g)
 commit_own_at scene all own b g h m c =
     let r = commit_own scene all own b (Some (stamp g)) c.0 h m c.1 in by_fc r.0 r.1 r.2
@@ -176,6 +181,7 @@ module _ (scene : Scene) (all : List Answer) (v : View) (first : IsFirstView sce
     pub wrote_ : wrote_key w.key (seen scene all answer).writes ≡ true
     pub value : w.value ≡ write_or (find (λ z. same_key z.key w.key) (seen scene all answer).writes) Absent
 
+  -- each version has such a commit
   pub version_commit : (w : Version) → In w v.versions → IsCommitOf w
   version_commit w m = let r = h.writes.writer w m in subst IsCommitOf r.is (of_writer r.place r.item r.fc r.write r.at_ r.phase r.wrote_)
     where
@@ -203,6 +209,7 @@ module _ (scene : Scene) (all : List Answer) (v : View) (first : IsFirstView sce
   value_or None = Absent
   value_or (Some w) = w.value
 
+  -- a version of the key at or below the snapshot passes
   passes : (k : KeyId) (n : ℕ) (w : Version) → w.key ≡ k → w.ts.0 ≤ n → (same_key w.key k && nat_le w.ts.0 n) ≡ true
   passes k n w q l = and_true (same_key w.key k) (nat_le w.ts.0 n) (eq-eqb w.key.0 k.0 (ap (λ (z : KeyId). z.0) q)) (le-leb w.ts.0 n l)
 
@@ -227,7 +234,7 @@ module _ (scene : Scene) (all : List Answer) (v : View) (first : IsFirstView sce
               let t : r.0.ts.0 ≡ g = r.3 in
               let p = filter_in (λ (y : Version). same_key y.key k && nat_le y.ts.0 n) v.versions r.0 r.1 (passes k n r.0 r.2 (omega arith)) in
               let s = last_sorted None (filter (λ (y : Version). same_key y.key k && nat_le y.ts.0 n) v.versions) w r.0
-                  (filter_sorted (λ (y : Version). same_key y.key k && nat_le y.ts.0 n) v.versions (in_order_sorted v.versions first.order)) e p in
+              (filter_sorted (λ (y : Version). same_key y.key k && nat_le y.ts.0 n) v.versions (in_order_sorted v.versions first.order)) e p in
               let u : r.0.ts.0 ≤ w.ts.0 = elim s [ inl a ↦ (let y : r.0.ts.0 ≡ w.ts.0 = ap (λ (z : Version). z.ts.0) a in omega arith) | inr a ↦ before_time r.0 w (r.2 ∙ sym q) a ] in
               top_of scene all k c.answer b w.ts.0 g si c.within c.committed wrote_k i d z (omega arith)
 

@@ -31,6 +31,7 @@ pair_push xs y i j a b l e f = (first_one (got_push xs i y a e) (got_push xs j y
     second_one (inl k) = inl k.1
     second_one (inr k) = inr k
 
+-- one begins
 pub times_begun : (own : List Own) (floor rs : ℕ) (place : TxPlace) → AreInTime own floor → floor ≤ rs
     → ((j : ℕ) (y : Own) → slice_get own j ≡ Some y → of_session place.session y ≡ true → is_decided y.phase ≡ true) → AreInTime (own ++ fresh place rs ∷ []) rs
 times_begun own floor rs place t l d = record {
@@ -74,6 +75,7 @@ record Was (own : List Own) (i : ℕ) (x y : Own) (j : ℕ) (z : Own) : Type 0 w
   pub rs : z.snap.rs ≡ item.snap.rs
   pub which : (z ≡ item) ⊎ ((item ≡ x) × (z ≡ y))
 
+-- there was such a one
 was : (own : List Own) (i : ℕ) (x y : Own) (j : ℕ) (z : Own) → slice_get own i ≡ Some x → y.place ≡ x.place → y.snap.rs ≡ x.snap.rs → slice_get (slice_set own i y) j ≡ Some z → Was own i x y j z
 was own i x y j z at_ p r e = by_place (got_set own i j y z e)
   where
@@ -87,6 +89,7 @@ was own i x y j z at_ p r e = by_place (got_set own i j y z e)
     }
     by_place (inr q) = record { item = z; at_ = q.1; session = refl; rs = refl; which = inl refl }
 
+-- one goes on or is decided
 pub times_set : (own : List Own) (floor higher i : ℕ) (x y : Own) → AreInTime own floor → slice_get own i ≡ Some x → x.phase ≡ Active → y.place ≡ x.place → y.snap.rs ≡ x.snap.rs
     → floor ≤ higher → IsFinalBelow y.phase higher → AreInTime (slice_set own i y) higher
 times_set own floor higher i x y t at_ active p r l f = record {

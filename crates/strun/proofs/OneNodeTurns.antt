@@ -28,8 +28,9 @@ use Rattle.node_core.proofs.FirstActs.{Goes, IsLast, last_none, last_some, next_
 use Rattle.node_core.proofs.FirstCounts.{in_session_is}
 use Rattle.node_core.proofs.FirstHere.{first_here}
 use Rattle.node_core.proofs.FirstScripts.{HasScript, script_op}
+use Rattle.node_core.proofs.Ordered.{Compared, compared, less, more, same}
 use Rattle.node_core.proofs.Places.{count-cons, one_if}
-use Rattle.strun.proofs.OneNodeLists.{Side, earlier, later, one_place, side, together}
+use Rattle.strun.proofs.OneNodeLists.{one_place}
 
 -- the actions of a client step
 pub data Turn (scene : Scene) (v : View) : Doing → Type 0 where
@@ -67,11 +68,12 @@ count_apart p (z ∷ xs) (suc i) zero x y l e f s t = absurd (omega arith)
 count_apart p (z ∷ xs) (suc i) (suc j) x y l e f s t =
     let c = count-cons p z xs in let d = count-cons p z (take i xs) in let r = count_apart p xs i j x y (omega arith) e f s t in omega arith
 
--- a transaction before that is decided, where it is not the last of its session
+-- all but the last transaction of a session are decided
 abbrev pub Earlier : View → Type 0
 Earlier v = (i j : ℕ) (x y : Own) → i < j → slice_get v.own i ≡ Some x → slice_get v.own j ≡ Some y → x.place.session ≡ y.place.session → is_decided x.phase ≡ true
 
 module _ (scene : Scene) (v : View) (is : IsScene scene) (f : IsFirst scene) (early : Earlier v) where
+  -- an operation
   op_turns : (i : ℕ) (x : Own) (op : Op) → Goes v i x → own_op (first_here scene) x ≡ Some op → Turn scene v (first_op (first_here scene) i x op (starts v))
   op_turns i x (Get k) g e = by_known (known x k) refl
     where
@@ -85,6 +87,7 @@ module _ (scene : Scene) (v : View) (is : IsScene scene) (f : IsFirst scene) (ea
   op_turns i x (Need k n) g e = absurd (script_op scene x.place x.next (Need k n) is f e)
   op_turns i x Stop g e = absurd (script_op scene x.place x.next Stop is f e)
 
+  -- the request to commit
   commit_turns : (i : ℕ) (x : Own) → Goes v i x → own_op (first_here scene) x ≡ None → Turn scene v (first_commit (first_here scene) i x x.writes (starts v))
   commit_turns i x g e = by_writes x.writes refl
     where
@@ -96,6 +99,7 @@ module _ (scene : Scene) (v : View) (is : IsScene scene) (f : IsFirst scene) (ea
       by_writes [] q = closes i x g e q
       by_writes (w ∷ ws) q = by_conflict (λ r. (let k : w ∷ ws ≡ [] = sym q ∙ r in cc k)) (find (conflicts x.snap.rs) (met x.writes v.versions)) refl
 
+  -- the next operation, or the request to commit
   own_turns : (i : ℕ) (x : Own) → Goes v i x → Turn scene v (first_own (first_here scene) i x (own_op (first_here scene) x) (starts v))
   own_turns i x g = by_op (own_op (first_here scene) x) refl
     where
@@ -118,12 +122,12 @@ module _ (scene : Scene) (v : View) (is : IsScene scene) (f : IsFirst scene) (ea
   -- the last one is decided, so all of the session are
   all_decided : (s : SessionId) (i : ℕ) (x : Own) → slice_get v.own i ≡ Some x → of_session s x ≡ true → count_by (of_session s) v.own ≡ count_by (of_session s) (take i v.own) + 1
       → is_decided x.phase ≡ true → (j : ℕ) (y : Own) → slice_get v.own j ≡ Some y → of_session s y ≡ true → is_decided y.phase ≡ true
-  all_decided s i x at_ z c d j y e t = by_order (side j i)
+  all_decided s i x at_ z c d j y e t = by_order (compared j i)
     where
-      by_order : Side j i → is_decided y.phase ≡ true
-      by_order (earlier l) = early j i y x l e at_ (in_session_is s y t ∙ sym (in_session_is s x z))
-      by_order (together q) = ap (λ (u : Own). is_decided u.phase) (one_place v.own j i y x e at_ q) ∙ d
-      by_order (later l) = (let k = count_apart (of_session s) v.own i j x y l at_ e z t in absurd (omega arith))
+      by_order : Compared j i → is_decided y.phase ≡ true
+      by_order (less l) = early j i y x l e at_ (in_session_is s y t ∙ sym (in_session_is s x z))
+      by_order (same q) = ap (λ (u : Own). is_decided u.phase) (one_place v.own j i y x e at_ q) ∙ d
+      by_order (more l) = (let k = count_apart (of_session s) v.own i j x y l at_ e z t in absurd (omega arith))
 
   -- the session's last transaction
   last_turns : (s : SessionId) (t : ℕ) (text : Session) (i : ℕ) (x : Own) (p : Phase) (d : Doing) → nth scene.sessions s.0 ≡ Some text → slice_get v.own i ≡ Some x → of_session s x ≡ true
@@ -141,12 +145,13 @@ module _ (scene : Scene) (v : View) (is : IsScene scene) (f : IsFirst scene) (ea
   last_turns s t text i x (Local lc) d q at_ z c e k = absurd (cc k)
   last_turns s t text i x (Global lc) d q at_ z c e k = absurd (cc k)
 
+  -- the session's last transaction, where there is one
   session_turns : (s : SessionId) (t : ℕ) (text : Session) (d : Doing) → nth scene.sessions s.0 ≡ Some text
       → first_go_on_last (first_here scene) s t text (last_index (of_session s) v.own) (starts v) ≡ Some d → Turn scene v d
   session_turns s t text d q e = by_last (last_index (of_session s) v.own) refl e
     where
       by_item : (i : ℕ) → IsLast (of_session s) v.own i → (o : Option Own) → slice_get v.own i ≡ o → first_go_on_at (first_here scene) s t text i o (starts v) ≡ Some d → Turn scene v d
-      by_item i l None m k = absurd (cc k)
+      by_item i l None m k = absurd cc
       by_item i l (Some x) m k =
           let r : l.item ≡ x = (let z : Some l.item ≡ Some x = sym l.at_ ∙ m in cc z) in
           last_turns s t text i x x.phase d q m (ap (of_session s) (sym r) ∙ l.passes) l.count refl k
