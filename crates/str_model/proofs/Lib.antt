@@ -1,1 +1,15 @@
 pub mod Worked
+pub mod Lists
+pub mod Members
+pub mod Gaining
+pub mod Acting
+pub mod Operating
+pub mod Ruling
+pub mod Along
+pub mod Everywhere
+pub mod Owning
+pub mod Sorted
+pub mod AtMoments
+pub mod LastMoment
+pub mod Resting
+pub mod Telling

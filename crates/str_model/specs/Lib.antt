@@ -18,3 +18,4 @@ pub mod Drains
 pub mod Lines
 pub mod Traces
 pub mod Evaluation
+pub mod Owned

@@ -4,3 +4,15 @@ pub mod FirstDrained
 pub mod Failing
 pub mod FirstEvents
 pub mod Written
+pub mod OneNodeLists
+pub mod OneNodeTurns
+pub mod OneNodeHolds
+pub mod OneNodeReads
+pub mod OneNodeNext
+pub mod OneNodeDecides
+pub mod OneNodeTimes
+pub mod OneNodeAnswers
+pub mod OneNodeWrites
+pub mod OneNodeScripts
+pub mod OneNodeKept
+pub mod OneNode

@@ -1,0 +1,47 @@
+-- A decided transaction stays, and the answers grow at their end.
+use Rattle.std.proofs.Common.{List, Some, [], ap, append-nil, append_assoc, false, slice_get, sym, true, ℕ, ◌++◌, ◌∙◌, ◌≡◌, ◌≢◌}
+use Rattle.str_model.specs.declared.messages.Answer.{Answer}
+use Rattle.str_model.specs.declared.messages.Input.{Input}
+use Rattle.si_laws.specs.Laws.Lasting.{AnswersGrow, DecidedStay, IsPrefixOf}
+use Rattle.str_model.specs.Owned.{Owns}
+use Rattle.str_model.specs.Runs.{opening, run}
+use Rattle.str_scene.specs.Scenes.{Scene}
+use Rattle.str_model.specs.Views.{Doing, Own, View, is_decided}
+use Rattle.str_model.proofs.Acting.{Act, Where}
+use Rattle.str_model.proofs.Everywhere.{IsSeen, Stage, at_place, during, ever_after, run-append, stays_at}
+use Rattle.str_model.proofs.Lists.{get_push, get_set_other}
+use Rattle.str_model.proofs.Owning.{Becomes, OwnStep, aborts, certifies, closes, commits, goes_on, own_step, rests, starts_one, turns_one}
+
+becomes-open : (v : View) (f g : ℕ) (x y : Own) → Becomes v f g x y → is_decided x.phase ≡ false
+becomes-open v f g x y (goes_on r e) = r.was_open
+becomes-open v f g x y (certifies lc o n p q s l e) = o
+becomes-open v f g x y (commits lc fc o l le q e) = o
+becomes-open v f g x y (closes o n q e) = o
+becomes-open v f g x y (aborts cause o q e) = o
+
+decided-step : (i : ℕ) (x : Own) (d e : View) → is_decided x.phase ≡ true → OwnStep d e → Owns d i x → Owns e i x
+decided-step i x d e dec (rests o f) h = rw o h
+decided-step i x d e dec (starts_one place rs le o f) h = rw o (get_push d.own i _ x h)
+decided-step i x d e dec (turns_one n x' y' own o b) h = rw o (get_set_other d.own n i y' other ∙ h)
+  where
+    other : i ≢ n
+    other q =
+        let k : Some x ≡ Some x' = sym h ∙ (ap (λ m. slice_get d.own m) q ∙ own) in
+        let same : x ≡ x' = cc k in
+        cc (ap (λ z. is_decided z.phase) same, dec, becomes-open d d.floor e.floor x' y' b)
+
+pub decided_stay : DecidedStay
+decided_stay scene ok early late n i v x is own dec =
+    let P : View → Type 0 = λ v. Owns v i x in
+    let h = stays_at scene ok P (λ here good input w d e a o. decided-step i x d.view e.view dec (own_step here input w d e a) o) n (run scene early) v late is own in
+    (h.view, rw (run-append scene (opening scene) early late) h.there, h.fact)
+
+grows-keeps : (scene : Scene) (old : List Answer) (s : Stage) (i : ℕ) (v : View) (input : Input) (w : Where) (d e : Doing) → slice_get s.nodes i ≡ Some v → IsSeen s input
+    → IsPrefixOf old s.answers → Act (at_place scene i) input w d e → IsPrefixOf old (during s i d).answers → IsPrefixOf old (during s i e).answers
+grows-keeps scene old s i v input w d e is seen h a h' = (h.0 ++ e.released, sym (append_assoc old h.0 e.released) ∙ ap (λ xs. xs ++ e.released) h.1)
+
+pub answers_grow : AnswersGrow
+answers_grow scene ok early late =
+    let old : List Answer = (run scene early).answers in
+    rw (run-append scene (opening scene) early late)
+    (ever_after scene (λ s. IsPrefixOf old s.answers) (grows-keeps scene old) (run scene early) late ([], append-nil old))

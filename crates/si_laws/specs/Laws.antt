@@ -1,0 +1,7 @@
+-- Laws of every run, over the definitions alone.
+
+pub mod Times
+pub mod Lasting
+pub mod Asking
+pub mod Session
+pub mod Stages

@@ -1,0 +1,5 @@
+pub mod Commits
+pub mod SnapshotIsolation
+pub mod Numbers
+pub mod Standing
+pub mod Laws

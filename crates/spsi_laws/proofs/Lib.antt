@@ -1,0 +1,4 @@
+pub mod Owners
+pub mod Depending
+pub mod Beneath
+pub mod Standing

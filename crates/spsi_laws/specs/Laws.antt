@@ -1,0 +1,3 @@
+-- Laws of every run, over the definitions alone.
+
+pub mod Dependencies

@@ -1,0 +1,2 @@
+pub mod SpeculativeIsolation
+pub mod Laws

@@ -1,0 +1,166 @@
+-- A step as a chain of single changes, each under the facts at which it is made. A law over runs looks at each
+-- change once, and never at the order in which a step makes them.
+use Rattle.std.proofs.Common.{List, None, Option, Some, [], false, nat_lt, slice_get, true, ℕ, ◌++◌, ◌+◌, ◌∷◌, ◌≡◌, ◌≤◌}
+use Rattle.partition_map.specs.declared.rows.Asked.{Asked}
+use Rattle.str_base.specs.declared.names.Cause.{Cause}
+use Rattle.str_base.specs.declared.names.Cause.TheVariants.{Conflict as ByConflict, Late as IsLate, Lost as IsLost, Wish}
+use Rattle.str_base.specs.declared.names.KeyId.{KeyId}
+use Rattle.str_model.specs.declared.names.KeyMark.{KeyMark}
+use Rattle.str_base.specs.declared.names.NodeId.{NodeId}
+use Rattle.str_scene.specs.declared.names.Op.{Op}
+use Rattle.str_base.specs.declared.names.PartId.{PartId}
+use Rattle.str_base.specs.declared.names.Ts.{Ts}
+use Rattle.str_base.specs.declared.names.TxId.{TxId}
+use Rattle.str_scene.specs.declared.names.TxPlace.{TxPlace}
+use Rattle.str_base.specs.declared.names.Value.{Value}
+use Rattle.str_base.specs.declared.names.Write.{Write}
+use Rattle.str_model.specs.declared.messages.Arrived.{Arrived}
+use Rattle.str_model.specs.declared.messages.Body.{Body}
+use Rattle.str_model.specs.declared.messages.Body.TheVariants.{Abort, Ack, Commit, Prepare, ReadReq, Refuse as Refusal, Replicate}
+use Rattle.str_model.specs.declared.messages.Input.{Input}
+use Rattle.str_model.specs.declared.messages.Input.TheVariants.{Deliver}
+use Rattle.str_model.specs.declared.messages.Message.{Message}
+use Rattle.str_model.specs.declared.messages.Waiter.{Waiter}
+use Rattle.str_model.specs.declared.messages.Waiter.TheVariants.{Held, Read}
+use Rattle.str_model.specs.Acts.{abort_came, aborted, accepted, acked, asked, begun, certified, closed, commit_came, committed, in_phase, marked, pre_version, refused, replied, requested, taken, waits, with_waiters}
+use Rattle.str_model.specs.Clients.{last_index, of_session}
+use Rattle.str_model.specs.Gates.{Ask, CommitAt, gate_of}
+use Rattle.str_model.specs.Proposals.{Accept, Refuse, is_known, is_parked, master_turn, proposed, ts_limit}
+use Rattle.str_model.specs.Returns.{with_ack}
+use Rattle.str_scene.specs.Scenes.{Here, Session, nth}
+use Rattle.dependency_set.specs.Snapshots.{Snap}
+use Rattle.str_model.specs.Steps.{decides, drop_held}
+use Rattle.str_model.specs.Strange.{is_valid}
+use Rattle.str_model.specs.Turns.{Certified, Conflict, Give, Late, Lost, cert_turn, dep_turn, serve_turn}
+use Rattle.str_base.specs.Versions.{same_node, stamp}
+use Rattle.str_model.specs.Views.{Closing, Doing, Global, Own, Remote, View, is_decided, lc_of, put}
+use Rattle.str_model.proofs.Gaining.{Extends}
+use Rattle.str_model.proofs.Members.{In}
+
+-- where in a step a change is made: in the rule, in the turn of the i-th own transaction, or among those who wait
+pub data Where : Type 0 where
+  InRule : Where
+  InTurn : ℕ → Where
+  InWait : Where
+
+-- a turn touches its own transaction alone, and those who wait touch none
+abbrev pub Touches : Where → ℕ → Type 0
+Touches InRule i = Unit {0}
+Touches (InTurn j) i = i ≡ j
+Touches InWait i = ⊥
+
+abbrev pub IsOwn : Where → Doing → ℕ → Own → Type 0
+IsOwn w d i x = (slice_get d.view.own i ≡ Some x) × Touches w i
+
+-- the message is the one that the step is given, and it is not strange
+abbrev pub Comes : Here → Input → NodeId → Body → Type 0
+Comes here input from body = (m : Message) × (input ≡ Deliver m) × (m.sender ≡ from) × (m.body ≡ body) × (is_valid here m ≡ true)
+
+-- an undecided transaction goes on: what never changes of it
+pub record GoesOn (v : View) (x y : Own) : Type 0 where
+  pub was_open : is_decided x.phase ≡ false
+  pub is_open : is_decided y.phase ≡ false
+  pub same_place : y.place ≡ x.place
+  pub snap : Extends v x.snap y.snap
+  pub same_lc : lc_of y.phase ≡ lc_of x.phase
+
+-- why a transaction aborts
+pub data Why (here : Here) (input : Input) (d : Doing) (i : ℕ) (x : Own) : Cause → Type 0 where
+  by_script : Why here input d i x Wish
+  by_lost : (q : ℕ) → dep_turn d.view.own x.snap ≡ Lost q → Why here input d i x (IsLost (record { node = here.node; seq = q }))
+  by_late : (q fc : ℕ) → dep_turn d.view.own x.snap ≡ Late q fc → Why here input d i x (IsLate (record { node = here.node; seq = q }) (stamp fc))
+  by_certification : (u : TxId) (k : KeyId) → cert_turn here d.view x.snap x.writes ≡ Conflict u k → Why here input d i x (ByConflict u k here.node)
+  by_eviction : (from : NodeId) (a : Arrived) (w : Write) → Comes here input from (Replicate a.tx a.part a.rs a.lc a.writes) → Why here input d i x (ByConflict a.tx w.key here.node)
+  by_refusal : (from : NodeId) (t : TxId) (p : PartId) (u : TxId) (k : KeyId) → Comes here input from (Refusal t p u k) → Why here input d i x (ByConflict u k from)
+
+-- a Prepare is here: it comes for the first time, or it is held
+pub data IsHere (here : Here) (input : Input) (d : Doing) (a : Arrived) : Type 0 where
+  it_comes : (from : NodeId) → Comes here input from (Prepare a.tx a.part a.rs a.lc a.writes) → is_known d.view a.tx a.part ≡ false → is_parked d.view a.tx a.part ≡ false
+      → IsHere here input d a
+  it_waits : (kept rest : List Waiter) → d.view.waiters ≡ kept ++ Held a ∷ rest → IsHere here input d a
+
+-- one who begins to wait has just come
+pub data Arrives (here : Here) (input : Input) (d : Doing) : Waiter → Type 0 where
+  a_read : (from : NodeId) (tx : TxId) (k : KeyId) (rs : Ts) → Comes here input from (ReadReq tx k rs) → Arrives here input d (Read tx k rs)
+  a_prepare : (from : NodeId) (a : Arrived) → Comes here input from (Prepare a.tx a.part a.rs a.lc a.writes) → is_known d.view a.tx a.part ≡ false → is_parked d.view a.tx a.part ≡ false
+      → Arrives here input d (Held a)
+
+-- one who has waited is answered: a read by its reply, a parked Prepare by a refusal or by the versions that it asked for
+pub data Served (v : View) : Waiter → Type 0 where
+  s_read : (tx : TxId) (k : KeyId) (rs : Ts) → Served v (Read tx k rs)
+  s_refused : (a : Arrived) → In (a.tx, a.part) v.done → Served v (Held a)
+  s_accepted : (a : Arrived) (ts : ℕ) → ((w : Write) → In w a.writes → In (pre_version a ts w) v.versions) → Served v (Held a)
+
+-- one who is answered waits no more
+pub record Leaves (v : View) (kept rest : List Waiter) (r : Waiter) : Type 0 where
+  pub waiters : v.waiters ≡ kept ++ r ∷ rest
+  pub served : Served v r
+
+-- the place is that of the session's next transaction: the first one, or the one after the last that began, which is decided
+pub data NextPlace (own : List Own) (place : TxPlace) : Type 0 where
+  is_first : last_index (of_session place.session) own ≡ None → place.index ≡ 1 → NextPlace own place
+  is_next : (i : ℕ) (x : Own) → last_index (of_session place.session) own ≡ Some i → slice_get own i ≡ Some x → is_decided x.phase ≡ true
+      → place.index ≡ x.place.index + 1 → NextPlace own place
+
+-- a transaction may begin: the session is one of this node, the place is its next one, and the timestamp is at least the floor
+pub record Begins (here : Here) (place : TxPlace) (rs : ℕ) (d : Doing) : Type 0 where
+  pub above : d.view.floor ≤ rs
+  pub text : Session
+  pub session : nth here.scene.sessions place.session.0 ≡ Some text
+  pub node : same_node text.node here.node ≡ true
+  pub ops : List Op
+  pub script : nth text.txs place.index ≡ Some ops
+  pub next : NextPlace d.view.own place
+
+pub data Act (here : Here) (input : Input) (w : Where) : Doing → Doing → Type 0 where
+  act_begin : (place : TxPlace) (rs : ℕ) (d : Doing) → w ≡ InRule → Begins here place rs d → Act here input w d (begun place rs d)
+  act_mark : (k : KeyId) (t : ℕ) (d : Doing) → Act here input w d (marked k t d)
+  act_put : (i : ℕ) (x y : Own) (d : Doing) → IsOwn w d i x → GoesOn d.view x y → Act here input w d (put i y d)
+  act_request : (i : ℕ) (k : KeyId) (master : NodeId) (x : Own) (d : Doing) → IsOwn w d i x → GoesOn d.view x (in_phase (Remote k) x) → Act here input w d (requested here i k master x d)
+  act_certify : (i lc : ℕ) (snap : Snap) (x : Own) (d : Doing) → IsOwn w d i x → is_decided x.phase ≡ false → lc_of x.phase ≡ None
+      → cert_turn here d.view x.snap x.writes ≡ Certified lc snap → Act here input w d (certified here i lc snap x d)
+  act_ask : (i lc : ℕ) (p : PartId) (x : Own) (d : Doing) → IsOwn w d i x → is_decided x.phase ≡ false → lc_of x.phase ≡ Some lc
+      → gate_of here d.view lc x ≡ Ask p → Act here input w d (asked here i lc p x d)
+  act_ack : (i lc : ℕ) (from : NodeId) (tx : TxId) (p : PartId) (ts : Ts) (parts : List Asked) (x : Own) (d : Doing) → IsOwn w d i x → Comes here input from (Ack tx p ts)
+      → x.phase ≡ Global lc → with_ack x.parts p from ts.0 ≡ Some parts → Act here input w d (acked i parts x d)
+  act_abort : (i : ℕ) (cause : Cause) (x : Own) (d : Doing) → IsOwn w d i x → is_decided x.phase ≡ false → Why here input d i x cause
+      → Act here input w d (aborted here i cause x d)
+  act_commit : (i lc fc : ℕ) (x : Own) (d : Doing) → IsOwn w d i x → lc_of x.phase ≡ Some lc → x.snap.deps ≡ [] → lc ≤ fc
+      → is_decided x.phase ≡ false → gate_of here d.view lc x ≡ CommitAt fc → Act here input w d (committed here i lc fc x d)
+  act_close : (i : ℕ) (x : Own) (d : Doing) → IsOwn w d i x → x.phase ≡ Closing false → x.snap.deps ≡ [] → Act here input w d (closed here i x d)
+  act_accept : (a : Arrived) (ts : ℕ) (d : Doing) → IsHere here input d a → master_turn d.view a ≡ Accept ts → Act here input w d (accepted here a ts d)
+  act_refuse : (a : Arrived) (by : TxId) (k : KeyId) (d : Doing) → IsHere here input d a → master_turn d.view a ≡ Refuse by k
+      → Act here input w d (refused here a by k d)
+  act_take : (from : NodeId) (a : Arrived) (d : Doing) → Comes here input from (Replicate a.tx a.part a.rs a.lc a.writes)
+      → nat_lt (proposed d.view a) ts_limit ≡ true → Act here input w d (taken here a (proposed d.view a) d)
+  act_wait : (r : Waiter) (d : Doing) → Arrives here input d r → Act here input w d (waits r d)
+  act_unwait : (kept rest : List Waiter) (r : Waiter) (d : Doing) → Leaves d.view kept rest r → Act here input w d (with_waiters (kept ++ rest) d)
+  act_reply : (tx : TxId) (k : KeyId) (rs : ℕ) (v : Value) (by : Option TxId) (fc : ℕ) (d : Doing) → serve_turn d.view.versions k rs ≡ Give v by fc
+      → Act here input w d (replied here tx k v by fc d)
+  act_commit_came : (from : NodeId) (tx : TxId) (p : PartId) (fc : Ts) (ms : List KeyMark) (d : Doing) → Comes here input from (Commit tx p fc ms)
+      → decides here tx p d.view ≡ true → Act here input w d (commit_came tx p fc.0 ms d)
+  act_abort_came : (from : NodeId) (tx : TxId) (p : PartId) (d : Doing) → Comes here input from (Abort tx p)
+      → decides here tx p d.view ≡ true → Act here input w d (abort_came tx p (drop_held tx p d.view.waiters) d)
+
+pub data Path (here : Here) (input : Input) (w : Where) : Doing → Doing → Type 0 where
+  stay : (d : Doing) → Path here input w d d
+  more : (d e f : Doing) → Path here input w d e → Act here input w e f → Path here input w d f
+
+pub one : {here : Here} {input : Input} {w : Where} {d e : Doing} → Act here input w d e → Path here input w d e
+one {d = d} {e = e} a = more d d e (stay d) a
+
+pub and_then : {here : Here} {input : Input} {w : Where} (d e f : Doing) → Path here input w d e → Path here input w e f → Path here input w d f
+and_then d e f p (stay e') = p
+and_then d e f p (more e' g f' q a) = more d g f (and_then d e g p q) a
+
+-- a path to a state, where there is one
+abbrev pub PathTo : Here → Input → Where → Doing → Option Doing → Type 0
+PathTo here input w d None = Unit {0}
+PathTo here input w d (Some e) = Path here input w d e
+
+-- ---- the principle: what each change keeps, a whole path keeps
+
+module _ (here : Here) (input : Input) (w : Where) (I : Doing → Type 0) (keeps : (d e : Doing) → Act here input w d e → I d → I e) where
+  pub along : (d e : Doing) → Path here input w d e → I d → I e
+  along d e (stay e') i = i
+  along d e (more d' m e' p a) i = keeps m e a (along d m p i)

@@ -1,0 +1,208 @@
+-- What an own transaction does with its script and its snapshot is a path of single changes.
+use Rattle.std.proofs.Common.{Bool, List, None, Option, Some, [], ap, arith, false, find, if◌then◌else◌, inl, inr, is_some, map, max, nat_lt, not, refl, slice_get, subst, sym, true, ℕ, ◌-◌, ◌||◌, ◌∙◌, ◌∷◌, ◌≡◌, ◌≤◌}
+use Rattle.partition_map.specs.declared.rows.Asked.{Asked}
+use Rattle.dependency_set.specs.declared.names.Dep.{Dep}
+use Rattle.str_base.specs.declared.names.KeyId.{KeyId}
+use Rattle.str_scene.specs.declared.names.Op.{Op}
+use Rattle.str_scene.specs.declared.names.Op.TheVariants.{Abort as Stop, Add, Del, Get, Need, Put, Puts}
+use Rattle.str_base.specs.declared.names.TxId.{TxId}
+use Rattle.str_base.specs.declared.names.Value.{Value}
+use Rattle.str_base.specs.declared.names.Value.TheVariants.{Absent}
+use Rattle.str_base.specs.declared.names.Write.{Write}
+use Rattle.str_model.specs.declared.messages.Arrived.{Arrived}
+use Rattle.str_model.specs.declared.messages.Input.{Input}
+use Rattle.str_model.specs.Acts.{in_phase, marked}
+use Rattle.str_model.specs.Gates.{CommitAt, DepParts, gate_turn}
+use Rattle.str_model.specs.Gates
+use Rattle.str_model.specs.Proposals.{MasterTurn, master_turn}
+use Rattle.str_model.specs.Proposals
+use Rattle.str_scene.specs.Scenes.{Here}
+use Rattle.str_model.specs.Scripts.{ask_commit, cert_done, certify_now, do_op, finish, finish_next, known, need_value, noted, op_or_commit, own_op, read_done, read_now, with_value}
+use Rattle.str_model.specs.Scripts
+use Rattle.dependency_set.specs.Snapshots.{Snap}
+use Rattle.str_model.specs.Turns.{Away, CertTurn, Certified, Conflict, DepTurn, Keep, Late, Lost, Plain, ReadTurn, Speculative, Wait, WaitGate, cert_turn, dep_turn, greatest, read_turn}
+use Rattle.str_model.specs.Turns
+use Rattle.str_model.specs.Views.{CertWait, Closing, Doing, Own, Phase, ReadWait, Remote, View, is_decided, lc_of, put}
+use Rattle.str_model.proofs.Acting.{GoesOn, IsOwn, Path, Touches, Where, act_abort, act_certify, act_mark, act_put, act_request, and_then, by_certification, by_script, one, stay}
+use Rattle.str_model.proofs.Gaining.{Extends, Gains, TurnGood, extends_self, gains_it, gains_of, if_elim, read_turn-good}
+use Rattle.str_model.proofs.Members.{In}
+
+pub nor_left : (a b : Bool) → not (a || b) ≡ true → a ≡ false
+nor_left true b e = absurd cc
+nor_left false b e = refl
+
+pub nor_right : (a b : Bool) → not (a || b) ≡ true → b ≡ false
+nor_right true b e = absurd cc
+nor_right false true e = absurd cc
+nor_right false false e = refl
+
+-- a Prepare that is judged is new at its master
+pub record IsFresh (d : Doing) (a : Arrived) (turn : MasterTurn) : Type 0 where
+  pub is : master_turn d.view a ≡ turn
+  pub unknown : Proposals.is_known d.view a.tx a.part ≡ false
+  pub unparked : Proposals.is_parked d.view a.tx a.part ≡ false
+
+-- a gate that commits has no dependency left, and commits at or above the local commit timestamp
+pub gate_commits : (snap : Snap) (lc : ℕ) (parts : List Asked) (wrote : List DepParts) (fc : ℕ) → gate_turn snap lc parts wrote ≡ CommitAt fc → (snap.deps ≡ []) × (lc ≤ fc)
+unfolding gate_turn
+gate_commits snap lc parts wrote fc e = by_ask (find (Gates.may_ask wrote) parts) e
+  where
+    by_ack : (o : Option Asked) → Gates.gate_acks lc parts o ≡ CommitAt fc → lc ≤ fc
+    by_ack (Some a) e = absurd (cc e)
+    by_ack None e = let q : max lc (greatest (map Gates.ack_or_zero parts)) ≡ fc = cc e in omega (arith, q)
+
+    by_deps : (ds : List Dep) → Gates.gate_deps lc parts ds ≡ CommitAt fc → (ds ≡ []) × (lc ≤ fc)
+    by_deps [] e = (refl, by_ack (find (λ a. not (is_some a.ack)) parts) e)
+    by_deps (d ∷ ds) e = absurd (cc e)
+
+    by_ask : (o : Option Asked) → Gates.gate_asks snap lc parts o ≡ CommitAt fc → (snap.deps ≡ []) × (lc ≤ fc)
+    by_ask (Some a) e = absurd (cc e)
+    by_ask None e = by_deps snap.deps e
+
+-- ---- scripts
+
+pub finish-goes : (u : View) (op : Op) (v : Value) (x y : Own) → GoesOn u x y → lc_of y.phase ≡ None → GoesOn u x (finish op v y)
+finish-goes u (Get k) v x y g n = record { was_open = g.was_open; is_open = refl; same_place = g.same_place; snap = g.snap; same_lc = sym n ∙ g.same_lc }
+finish-goes u (Put k m) v x y g n = record { was_open = g.was_open; is_open = refl; same_place = g.same_place; snap = g.snap; same_lc = sym n ∙ g.same_lc }
+finish-goes u (Puts k t) v x y g n = record { was_open = g.was_open; is_open = refl; same_place = g.same_place; snap = g.snap; same_lc = sym n ∙ g.same_lc }
+finish-goes u (Add k m) v x y g n = record { was_open = g.was_open; is_open = refl; same_place = g.same_place; snap = g.snap; same_lc = sym n ∙ g.same_lc }
+finish-goes u (Del k) v x y g n = record { was_open = g.was_open; is_open = refl; same_place = g.same_place; snap = g.snap; same_lc = sym n ∙ g.same_lc }
+finish-goes u (Need k m) v x y g n =
+    if_elim (GoesOn u x) _ _ _
+    (λ e. record { was_open = g.was_open; is_open = refl; same_place = g.same_place; snap = g.snap; same_lc = sym n ∙ g.same_lc })
+    (λ e. record { was_open = g.was_open; is_open = refl; same_place = g.same_place; snap = g.snap; same_lc = sym n ∙ g.same_lc })
+finish-goes u Stop v x y g n = g
+
+pub finish_next-goes : (u : View) (o : Option Op) (v : Value) (x y : Own) → GoesOn u x y → lc_of y.phase ≡ None → GoesOn u x (finish_next o v y)
+finish_next-goes u None v x y g n = g
+finish_next-goes u (Some op) v x y g n = finish-goes u op v x y g n
+
+-- what is known of a transaction that is at its script
+pub record IsFree (w : Where) (d : Doing) (i : ℕ) (x : Own) : Type 0 where
+  pub own : IsOwn w d i x
+  pub open_ : is_decided x.phase ≡ false
+  pub no_lc : lc_of x.phase ≡ None
+
+pub free_at : (w : Where) (d : Doing) (i : ℕ) (x : Own) (p : Phase) → IsOwn w d i x → x.phase ≡ p → is_decided p ≡ false → lc_of p ≡ None → IsFree w d i x
+free_at w d i x p own e o n = record { own = own; open_ = ap is_decided e ∙ o; no_lc = ap lc_of e ∙ n }
+
+pub phase-goes : (w : Where) (d : Doing) (i : ℕ) (x : Own) (p : Phase) → IsFree w d i x → is_decided p ≡ false → lc_of p ≡ None → GoesOn d.view x (in_phase p x)
+phase-goes w d i x p f o n = record { was_open = f.open_; is_open = o; same_place = refl; snap = extends_self d.view x.snap; same_lc = n ∙ sym f.no_lc }
+
+pub free_marked : (w : Where) (k : KeyId) (t : ℕ) (d : Doing) (i : ℕ) (x : Own) → IsFree w d i x → IsFree w (marked k t d) i x
+unfolding marked
+free_marked w k t d i x f = record { own = f.own; open_ = f.open_; no_lc = f.no_lc }
+
+pub extends_marked : (k : KeyId) (x : Own) (d : Doing) (snap : Snap) → Extends d.view x.snap snap → Extends (marked k x.snap.rs d).view x.snap snap
+unfolding marked
+extends_marked k x d snap h =
+    record { rs = h.rs; deps = λ y i. elim (h.deps y i) [ inl a ↦ inl a | inr g ↦ inr (gains_marked y g) ] }
+  where
+    gains_marked : (y : Dep) → Gains d.view x.snap.rs y → Gains (marked k x.snap.rs d).view x.snap.rs y
+    gains_marked y (gains_it v u i l le o q) = gains_it v u i l le o q
+    gains_marked y (gains_of v u i l le o q) = gains_of v u i l le o q
+
+-- marks change nothing that a turn looks at
+pub read_marked : (here : Here) (k : KeyId) (x : Own) (d : Doing) (turn : ReadTurn) → TurnGood d.view x.snap turn → TurnGood (marked k x.snap.rs d).view x.snap turn
+read_marked here k x d (Plain v by fc snap) h = extends_marked k x d snap h
+read_marked here k x d (Speculative v by snap) h = extends_marked k x d snap h
+read_marked here k x d (Wait by) h = tt
+read_marked here k x d (Away n) h = tt
+
+-- what is left of dependencies that were resolved
+pub resolve_all-sub : (own : List Own) (rs : ℕ) (ds : List Dep) (ffc f : ℕ) (es : List Dep) → Turns.resolve_all own rs ds ffc ≡ Keep f es → (x : Dep) → In x es → In x ds
+resolve_all-sub own rs [] ffc f es e x h = let q : [] ≡ es = cc e in subst (In x) (sym q) h
+resolve_all-sub own rs (d ∷ ds) ffc f es e x h =
+    by_fate-sub (Turns.own_fate (slice_get own (d.seq - 1))) (λ g es' e' h'. inr (resolve_all-sub own rs ds g f es' e' x h')) e h
+  where
+    by_fate-sub : (t : Turns.Fate) → ((g : ℕ) (es' : List Dep) → Turns.resolve_all own rs ds g ≡ Keep f es' → In x es' → In x (d ∷ ds))
+        → Turns.by_fate rs d ffc (λ g. Turns.resolve_all own rs ds g) t ≡ Keep f es → In x es → In x (d ∷ ds)
+    by_fate-sub Turns.Open rec q k = kept_also (Turns.resolve_all own rs ds ffc) refl q k
+      where
+        kept_also : (r : DepTurn) → Turns.resolve_all own rs ds ffc ≡ r → Turns.keep_also d r ≡ Keep f es → In x es → In x (d ∷ ds)
+        kept_also (Lost a) p q k = absurd (cc q)
+        kept_also (Late a b) p q k = absurd (cc q)
+        kept_also (Keep a bs) p q k =
+            let same : d ∷ bs ≡ es = cc q in
+            let f' : a ≡ f = cc q in
+            elim (subst (In x) (sym same) k) [ inl z ↦ inl z | inr z ↦ rec ffc bs (p ∙ ap (λ n. Keep n bs) f') z ]
+    by_fate-sub Turns.Gone rec q k = absurd (cc q)
+    by_fate-sub (Turns.CommittedAt fc) rec q k = by_test (nat_lt rs fc) q k
+      where
+        by_test : (b : Bool) → (if b then Late d.seq fc else Turns.resolve_all own rs ds (max ffc fc)) ≡ Keep f es → In x es → In x (d ∷ ds)
+        by_test true q k = absurd (cc q)
+        by_test false q k = rec (max ffc fc) es q k
+
+pub resolved-extends : (own : List Own) (x : Own) (ffc : ℕ) (ds : List Dep) (d : Doing) → dep_turn own x.snap ≡ Keep ffc ds
+    → Extends d.view x.snap (record (x.snap) { ffc = ffc; deps = ds })
+unfolding dep_turn
+resolved-extends own x ffc ds d e = record { rs = refl; deps = λ y h. inl (resolve_all-sub own x.snap.rs x.snap.deps x.snap.ffc ffc ds e y h) }
+
+module _ (here : Here) (input : Input) (w : Where) where
+  pub with_value-path : (i : ℕ) (k : KeyId) (v : Value) (by : Option TxId) (snap : Snap) (x : Own) (d : Doing)
+      → IsFree w d i x → Extends d.view x.snap snap → Path here input w d (with_value here i k v by snap x d)
+  with_value-path i k v by snap x d f e =
+      one (act_put i x _ d f.own (finish_next-goes d.view (own_op here x) v x (noted k v by snap x) (record { was_open = f.open_; is_open = f.open_; same_place = refl; snap = e; same_lc = refl }) f.no_lc))
+
+  pub read_done-path : (i : ℕ) (k : KeyId) (x : Own) (turn : ReadTurn) (d : Doing)
+      → IsFree w d i x → TurnGood d.view x.snap turn → Path here input w d (read_done here i k x turn d)
+  read_done-path i k x (Plain v by fc snap) d f e = with_value-path i k v by snap x d f e
+  read_done-path i k x (Speculative v by snap) d f e = with_value-path i k v (Some by) snap x d f e
+  read_done-path i k x (Wait by) d f e = one (act_put i x _ d f.own (phase-goes w d i x (ReadWait k) f refl refl))
+  read_done-path i k x (Away n) d f e = one (act_request i k n x d f.own (phase-goes w d i x (Remote k) f refl refl))
+
+  pub read_now-path : (i : ℕ) (k : KeyId) (x : Own) (d : Doing) → IsFree w d i x → Path here input w d (read_now here i k x d)
+  unfolding read_now
+  read_now-path i k x d f =
+      and_then d (marked k x.snap.rs d) _ (one (act_mark k x.snap.rs d))
+      (read_done-path i k x (read_turn here d.view x.snap k) (marked k x.snap.rs d) (free_marked w k x.snap.rs d i x f) (read_marked here k x d (read_turn here d.view x.snap k) (read_turn-good here d.view x.snap k)))
+
+  pub cert_done-path : (i : ℕ) (x : Own) (turn : CertTurn) (d : Doing) → IsFree w d i x → cert_turn here d.view x.snap x.writes ≡ turn
+      → Path here input w d (cert_done here i x turn d)
+  cert_done-path i x (Certified lc snap) d f e = one (act_certify i lc snap x d f.own f.open_ f.no_lc e)
+  cert_done-path i x (Conflict u k) d f e = one (act_abort i _ x d f.own f.open_ (by_certification u k e))
+  cert_done-path i x (WaitGate by) d f e = one (act_put i x _ d f.own (phase-goes w d i x CertWait f refl refl))
+
+  pub certify_now-path : (i : ℕ) (x : Own) (d : Doing) → IsFree w d i x → Path here input w d (certify_now here i x d)
+  unfolding certify_now
+  certify_now-path i x d f = cert_done-path i x (cert_turn here d.view x.snap x.writes) d f refl
+
+  pub finish-path : (i : ℕ) (op : Op) (v : Value) (x : Own) (d : Doing) → IsFree w d i x → Path here input w d (put i (finish op v x) d)
+  finish-path i op v x d f =
+      one (act_put i x _ d f.own (finish-goes d.view op v x x (record { was_open = f.open_; is_open = f.open_; same_place = refl; snap = extends_self d.view x.snap; same_lc = refl }) f.no_lc))
+
+  pub need_value-path : (i : ℕ) (op : Op) (k : KeyId) (x : Own) (o : Option Value) (d : Doing) → IsFree w d i x → Path here input w d (need_value here i op k x o d)
+  need_value-path i op k x (Some v) d f = finish-path i op v x d f
+  need_value-path i op k x None d f = read_now-path i k x d f
+
+  pub do_op-path : (i : ℕ) (x : Own) (op : Op) (d : Doing) → IsFree w d i x → Path here input w d (do_op here i x op d)
+  do_op-path i x (Get k) d f = need_value-path i (Get k) k x (known x k) d f
+  do_op-path i x (Put k n) d f = finish-path i (Put k n) Absent x d f
+  do_op-path i x (Puts k t) d f = finish-path i (Puts k t) Absent x d f
+  do_op-path i x (Add k n) d f = need_value-path i (Add k n) k x (known x k) d f
+  do_op-path i x (Del k) d f = finish-path i (Del k) Absent x d f
+  do_op-path i x (Need k n) d f = need_value-path i (Need k n) k x (known x k) d f
+  do_op-path i x Stop d f = one (act_abort i _ x d f.own f.open_ by_script)
+
+  pub ask_commit-path : (i : ℕ) (x : Own) (ws : List Write) (d : Doing) → IsFree w d i x → Path here input w d (ask_commit here i x ws d)
+  ask_commit-path i x [] d f = one (act_put i x _ d f.own (phase-goes w d i x (Closing false) f refl refl))
+  ask_commit-path i x (w ∷ ws) d f = certify_now-path i x d f
+
+  pub op_or_commit-path : (i : ℕ) (x : Own) (o : Option Op) (d : Doing) → IsFree w d i x → Path here input w d (op_or_commit here i x o d)
+  op_or_commit-path i x (Some op) d f = do_op-path i x op d f
+  op_or_commit-path i x None d f = ask_commit-path i x x.writes d f
+
+  -- ---- own transactions as they stand
+
+  pub unless_decided-path : (b : Bool) (f : Doing → Doing) (d : Doing) → (b ≡ false → Path here input w d (f d)) → Path here input w d (Scripts.unless_decided b f d)
+  unless_decided-path true f d h = stay d
+  unless_decided-path false f d h = h refl
+
+  pub of_own-path : (i : ℕ) (f : Own → Doing → Doing) (o : Option Own) (d : Doing) → Touches w i → slice_get d.view.own i ≡ o
+      → ((x : Own) → IsOwn w d i x → is_decided x.phase ≡ false → Path here input w d (f x d)) → Path here input w d (Scripts.of_own f o d)
+  of_own-path i f None d t e h = stay d
+  of_own-path i f (Some x) d t e h = unless_decided-path (is_decided x.phase) (f x) d (h x (e, t))
+
+  pub at_own-path : (i : ℕ) (f : Own → Doing → Doing) (d : Doing) → Touches w i
+      → ((x : Own) → IsOwn w d i x → is_decided x.phase ≡ false → Path here input w d (f x d)) → Path here input w d (Scripts.at_own i f d)
+  at_own-path i f d t h = of_own-path i f (slice_get d.view.own i) d t refl h
