@@ -16,3 +16,4 @@ pub mod OneNodeWrites
 pub mod OneNodeScripts
 pub mod OneNodeKept
 pub mod OneNode
+pub mod Isolated

@@ -1,6 +1,7 @@
 -- What the top call promises.
 use Rattle.std.specs.Io.KnownBytes.{Appends, Consumes, IsAtEnd}
 use Rattle.std.specs.Prelude.{List, Option, [], codes, length, ℕ, ◌∷◌, ◌≡◌, ◌⊎◌}
+use Rattle.si_laws.specs.SnapshotIsolation.{SIRun}
 use Rattle.str_model.specs.Drains.{cluster_run}
 use Rattle.str_model.specs.Lines.{render}
 use Rattle.str_scene.specs.FirstScenes.{IsFirstText}
@@ -10,7 +11,8 @@ use Rattle.str_scene.specs.Scenes.{Scene}
 abbrev pub IsRunWords : List (List ℕ) → Type 0
 IsRunWords words = words ≡ codes "run" ∷ []
 
--- the source was read to its end, its bytes are the text of one first scene, and the rendering of its run was written
+-- the source was read to its end, its bytes are the text of one first scene, the rendering of its run was written, and the
+-- answers of that run are a run of the snapshot isolation machine
 pub record Ran (left left' held held' : Option (List ℕ)) : Type 0 where
   pub bytes : List ℕ
   pub scene : Scene
@@ -18,6 +20,7 @@ pub record Ran (left left' held held' : Option (List ℕ)) : Type 0 where
   pub ended : IsAtEnd left'
   pub text : IsFirstText bytes scene
   pub written : Appends held held' (render scene (cluster_run scene))
+  pub isolated : SIRun scene (cluster_run scene).answers
 
 -- the source was read to its end or to 1,048,577 bytes, and what was read is the text of no first scene
 pub record IsRefused (left left' : Option (List ℕ)) : Type 0 where

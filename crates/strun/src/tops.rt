@@ -2,6 +2,7 @@
 ghost use Rattle.std.specs.Prelude.{◌≡◌, ◌↔◌, ◌≤◌, flat_map, map, IsTrue, OnOk, IfOk, IsErrOf};
 ghost use Rattle.std.specs.String.{string_bytes};
 ghost use Rattle.std.specs.Io.KnownBytes.{Appends};
+ghost use Rattle.si_laws.specs.SnapshotIsolation.{SIRun};
 ghost use Rattle.str_model.specs.Drains.{cluster_run};
 ghost use Rattle.str_model.specs.Lines.{answer_line, render};
 ghost use Rattle.str_outer.specs.Causes.{Rose};
@@ -98,6 +99,7 @@ fn write_run<K: Sink>(alloc: Global, scene: &Scene, out: &mut K) -> Result<(), S
     requires limits { IsScene scene.now }
     requires first { IsFirst scene.now }
     ensures written { OnOk result (Appends (K.held out.old) (K.held out.new) (render scene.now (cluster_run scene.now))) }
+    ensures isolated { SIRun scene.now (cluster_run scene.now).answers }
     ensures failed { IsErrOf result Stopped.Failed → Rose (K.faults out.old) (K.faults out.new) }
 {
     let cluster = match run_cluster(alloc, scene) {
@@ -132,7 +134,7 @@ fn write_answers<K: Sink>(alloc: Global, cluster: &Cluster, out: &mut K) -> Resu
     Ok(())
 }
 
-/// Writes the status's line. A refusal changes nothing.
-fn report<E: Sink>(err: &mut E, status: Status) {
+/// Writes the line of a status. A refusal is dropped.
+pub fn report<E: Sink>(err: &mut E, status: Status) {
     let _ = write_all(err, status.line());
 }

@@ -1,4 +1,5 @@
 use Rattle.std.proofs.Common.{refl, ◌++◌, ◌∙◌}
+use Rattle.strun.proofs.Isolated.{first_isolated}
 use Rattle.strun.proofs.Written.{all_written}
 use Rattle.strun.proofs.tops.write_run.Goals as goal
 
@@ -7,3 +8,15 @@ returns-clause-written g c =
     all_written c.args.scene.now _ _ _ _ _ _ _ _ c.write_all.result c.in-Ok.ensures.scene c.in-Ok.ensures.world c.counts.ensures
     (c.as_slice.ensures.value ∙ rw (c.in-Ok-push_end.ensures.ok, c.new-line.ensures.items) refl)
     c.in_ok-write_answers.ensures.written c.write_all.ensures.ok
+
+pub returns-in-Err-clause-isolated : goal.returns-in-Err-clause-isolated
+returns-in-Err-clause-isolated g c = first_isolated c.args.scene.now c.requires.limits c.requires.first
+
+pub returns-in_err-write_answers-clause-isolated : goal.returns-in_err-write_answers-clause-isolated
+returns-in_err-write_answers-clause-isolated g c = first_isolated c.args.scene.now c.requires.limits c.requires.first
+
+pub returns-in-Err-push_end-clause-isolated : goal.returns-in-Err-push_end-clause-isolated
+returns-in-Err-push_end-clause-isolated g c = first_isolated c.args.scene.now c.requires.limits c.requires.first
+
+pub returns-clause-isolated : goal.returns-clause-isolated
+returns-clause-isolated g c = first_isolated c.args.scene.now c.requires.limits c.requires.first
