@@ -16,3 +16,4 @@ pub mod SessionLaw
 pub mod SessionAnswers
 pub mod Stages
 pub mod Acks
+pub mod WorkedLists

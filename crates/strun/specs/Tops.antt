@@ -1,11 +1,16 @@
 -- What the top call promises.
 use Rattle.std.specs.Io.KnownBytes.{Appends, Consumes, IsAtEnd}
-use Rattle.std.specs.Prelude.{List, Option, [], codes, length, ℕ, ◌∷◌, ◌≡◌, ◌⊎◌}
+use Rattle.std.specs.Prelude.{List, Option, [], codes, length, ℕ, ⊤, ◌∷◌, ◌≡◌, ◌⊎◌}
+use Rattle.strun.specs.declared.status.Status.{Status}
+use Rattle.strun.specs.declared.status.Status.TheVariants.{ReadFault, Refused, Usage}
 use Rattle.si_laws.specs.SnapshotIsolation.{SIRun}
 use Rattle.str_model.specs.Drains.{cluster_run}
 use Rattle.str_model.specs.Lines.{render}
+use Rattle.str_outer.specs.Causes.{Rose}
+use Rattle.str_outer.specs.Pieces.{AppendsPrefix}
 use Rattle.str_scene.specs.FirstScenes.{IsFirstText}
 use Rattle.str_scene.specs.Scenes.{Scene}
+use Rattle.strun.specs.Statuses.{line_of}
 
 -- the words ask for a run
 abbrev pub IsRunWords : List (List ℕ) → Type 0
@@ -28,3 +33,15 @@ pub record IsRefused (left left' : Option (List ℕ)) : Type 0 where
   pub consumed : Consumes left left' bytes
   pub whole : (length bytes ≡ 1048577) ⊎ IsAtEnd left'
   pub refused : (scene : Scene) → ¬ IsFirstText bytes scene
+
+-- the status is one with which nothing is written on the output
+abbrev pub IsQuiet : Status → Type 0
+IsQuiet Usage = ⊤
+IsQuiet Refused = ⊤
+IsQuiet ReadFault = ⊤
+IsQuiet _ = ⊥
+
+-- standard error grew by the line of the status, or by a prefix of it where one of its counts rose
+abbrev pub Tells : Option (List ℕ) → Option (List ℕ) → ℕ → ℕ → ℕ → ℕ → Status → Type 0
+Tells held held' faults faults' wants wants' status =
+    Appends held held' (line_of status) ⊎ (AppendsPrefix held held' (line_of status) × (Rose faults faults' ⊎ Rose wants wants'))

@@ -4,6 +4,8 @@
 mod cluster;
 mod lines;
 mod status;
+#[cfg(test)]
+mod tests;
 mod tops;
 
 use status::Status;

@@ -8,7 +8,7 @@ ghost use Rattle.str_model.specs.Lines.{answer_line, render};
 ghost use Rattle.str_outer.specs.Causes.{Rose};
 ghost use Rattle.str_scene.specs.FirstScenes.{IsFirst};
 ghost use Rattle.str_scene.specs.SceneLimits.{IsScene};
-ghost use Rattle.strun.specs.Tops.{IsRunWords, Ran, IsRefused};
+ghost use Rattle.strun.specs.Tops.{IsQuiet, IsRefused, IsRunWords, Ran, Tells};
 
 use crate::cluster::Cluster;
 use crate::lines::{push_end, push_line};
@@ -33,6 +33,8 @@ pub fn top<S: Source, K: Sink, E: Sink>(
     ensures refused { result ≡ Status.Refused → IsRefused (S.left src.old) (S.left src.new) }
     ensures read_fault { result ≡ Status.ReadFault → Rose (S.faults src.old) (S.faults src.new) }
     ensures write_fault { result ≡ Status.WriteFault → Rose (K.faults out.old) (K.faults out.new) }
+    ensures quiet { IsQuiet result → K.held out.new ≡ K.held out.old }
+    ensures told { Tells (E.held err.old) (E.held err.new) (E.faults err.old) (E.faults err.new) (E.wants err.old) (E.wants err.new) result }
 {
     let status = if is_run(words) {
         run(alloc, src, out)
@@ -60,6 +62,7 @@ fn run<S: Source, K: Sink>(alloc: Global, src: &mut S, out: &mut K) -> Status
     ensures refused { result ≡ Status.Refused → IsRefused (S.left src.old) (S.left src.new) }
     ensures read_fault { result ≡ Status.ReadFault → Rose (S.faults src.old) (S.faults src.new) }
     ensures write_fault { result ≡ Status.WriteFault → Rose (K.faults out.old) (K.faults out.new) }
+    ensures quiet { IsQuiet result → K.held out.new ≡ K.held out.old }
 {
     let text = match read_all(alloc, src) {
         Ok(text) => text,
@@ -135,6 +138,11 @@ fn write_answers<K: Sink>(alloc: Global, cluster: &Cluster, out: &mut K) -> Resu
 }
 
 /// Writes the line of a status. A refusal is dropped.
-pub fn report<E: Sink>(err: &mut E, status: Status) {
-    let _ = write_all(err, status.line());
+pub fn report<E: Sink>(err: &mut E, status: Status)
+    ensures { Tells (E.held err.old) (E.held err.new) (E.faults err.old) (E.faults err.new) (E.wants err.old) (E.wants err.new) status }
+{
+    match write_all(err, status.line()) {
+        Ok(()) => {}
+        Err(_) => {}
+    }
 }

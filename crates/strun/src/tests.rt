@@ -1,0 +1,115 @@
+//! Whole calls of the program over a source and sinks in memory.
+
+use crate::status::Status;
+use crate::tops::top;
+use std::alloc::{AllocError, Global};
+use std::process::Abort;
+use std::test::Fail;
+use str_outer::{MemSink, MemSource};
+
+const EMPTY: &[u8] = b"str 1\nnodes 1\npart 1 1\nschedule\ndrain\nend\n";
+
+const EMPTY_END: &[u8] = b"end commits=0 aborts=0 held=0 unbegun=0 messages=0\n";
+
+const OVERLAP: &[u8] =
+    b"str 1\nnodes 1\npart 1 1\nsession 1\ntx\nput a@1 1\nsession 1\ntx\nput a@1 2\nschedule\nc 1 10\nc 2 10\ndrain\nend\n";
+
+const OVERLAP_LINES: &[u8] =
+    b"1.1 s1/1 commit rs=10 fc=11\n1.2 s2/1 abort rs=10 conflict 1.1 a@1 at=1\nend commits=1 aborts=1 held=0 unbegun=0 messages=0\n";
+
+/// A call: its word, its input, which read and which write are to fail (0: none), and what comes of it.
+#[derive(Clone, Copy)]
+struct Call {
+    word: &'static str,
+    text: &'static [u8],
+    failing_read: u64,
+    failing_write: u64,
+    status: Status,
+    out: &'static [u8],
+    err: &'static [u8],
+}
+
+/// A one-element list, or none where the number is 0.
+fn failing(alloc: Global, call: u64) -> Result<Vec<u64>, AllocError> {
+    let mut calls = Vec::new(alloc);
+    if call > 0 {
+        calls.push(call)?;
+    }
+    Ok(calls)
+}
+
+fn check(rt: &(impl Abort + AllocGlobal), call: &Call) -> Result<(), Fail> {
+    let mut words = Vec::new(rt.alloc());
+    words.push(String::from_str(rt.alloc(), call.word)?)?;
+    let text = call.text.to_vec(rt.alloc())?;
+    let mut src = MemSource::new(text, failing(rt.alloc(), call.failing_read)?, 8);
+    let mut out = MemSink::new(rt.alloc(), failing(rt.alloc(), call.failing_write)?, 16);
+    let mut err = MemSink::new(rt.alloc(), Vec::new(rt.alloc()), 16);
+    let status = top(rt.alloc(), words.as_slice(), &mut src, &mut out, &mut err);
+    assert_eq!(rt; status, call.status);
+    assert_eq!(rt; out.bytes(), call.out);
+    assert_eq!(rt; err.bytes(), call.err);
+    Ok(())
+}
+
+#[test]
+fn whole_calls(rt: HostRuntime) -> Result<(), Fail> {
+    let plain = Call {
+        word: "run",
+        text: EMPTY,
+        failing_read: 0,
+        failing_write: 0,
+        status: Status::Ok,
+        out: EMPTY_END,
+        err: b"",
+    };
+    check(&rt, &plain)?;
+    check(
+        &rt,
+        &Call {
+            text: OVERLAP,
+            out: OVERLAP_LINES,
+            ..plain
+        },
+    )?;
+    check(
+        &rt,
+        &Call {
+            word: "walk",
+            status: Status::Usage,
+            out: b"",
+            err: b"strun: usage\n",
+            ..plain
+        },
+    )?;
+    check(
+        &rt,
+        &Call {
+            text: b"str 1\nnodes 2\n",
+            status: Status::Refused,
+            out: b"",
+            err: b"strun: not built\n",
+            ..plain
+        },
+    )?;
+    check(
+        &rt,
+        &Call {
+            failing_read: 2,
+            status: Status::ReadFault,
+            out: b"",
+            err: b"strun: read fault\n",
+            ..plain
+        },
+    )?;
+    check(
+        &rt,
+        &Call {
+            failing_write: 1,
+            status: Status::WriteFault,
+            out: b"",
+            err: b"strun: write fault\n",
+            ..plain
+        },
+    )
+}
