@@ -17,3 +17,4 @@ pub mod OneNodeScripts
 pub mod OneNodeKept
 pub mod OneNode
 pub mod Isolated
+pub mod Completing

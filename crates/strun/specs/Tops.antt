@@ -1,8 +1,8 @@
 -- What the top call promises.
 use Rattle.std.specs.Io.KnownBytes.{Appends, Consumes, IsAtEnd}
-use Rattle.std.specs.Prelude.{List, Option, [], codes, length, ℕ, ⊤, ◌∷◌, ◌≡◌, ◌⊎◌}
+use Rattle.std.specs.Prelude.{List, Option, Some, [], codes, length, ℕ, ⊤, ◌∷◌, ◌≡◌, ◌⊎◌}
 use Rattle.strun.specs.declared.status.Status.{Status}
-use Rattle.strun.specs.declared.status.Status.TheVariants.{ReadFault, Refused, Usage}
+use Rattle.strun.specs.declared.status.Status.TheVariants.{NoMemory, Ok as StatusOk, ReadFault, Refused, Usage}
 use Rattle.si_laws.specs.SnapshotIsolation.{SIRun}
 use Rattle.str_model.specs.Drains.{cluster_run}
 use Rattle.str_model.specs.Lines.{render}
@@ -45,3 +45,9 @@ IsQuiet _ = ⊥
 abbrev pub Tells : Option (List ℕ) → Option (List ℕ) → ℕ → ℕ → ℕ → ℕ → Status → Type 0
 Tells held held' faults faults' wants wants' status =
     Appends held held' (line_of status) ⊎ (AppendsPrefix held held' (line_of status) × (Rose faults faults' ⊎ Rose wants wants'))
+
+-- completeness: where the source tells the text of a first scene and neither count rose, the status is Ok or want of memory
+abbrev pub Completes : Option (List ℕ) → ℕ → ℕ → ℕ → ℕ → Status → Type 0
+Completes left read read' write write' status =
+    (bytes : List ℕ) (scene : Scene) → left ≡ Some bytes → IsFirstText bytes scene → ¬ Rose read read' → ¬ Rose write write'
+    → (status ≡ StatusOk) ⊎ (status ≡ NoMemory)

@@ -8,7 +8,7 @@ ghost use Rattle.str_model.specs.Lines.{answer_line, render};
 ghost use Rattle.str_outer.specs.Causes.{Rose};
 ghost use Rattle.str_scene.specs.FirstScenes.{IsFirst};
 ghost use Rattle.str_scene.specs.SceneLimits.{IsScene};
-ghost use Rattle.strun.specs.Tops.{IsQuiet, IsRefused, IsRunWords, Ran, Tells};
+ghost use Rattle.strun.specs.Tops.{Completes, IsQuiet, IsRefused, IsRunWords, Ran, Tells};
 
 use crate::cluster::Cluster;
 use crate::lines::{push_end, push_line};
@@ -34,6 +34,7 @@ pub fn top<S: Source, K: Sink, E: Sink>(
     ensures read_fault { result ≡ Status.ReadFault → Rose (S.faults src.old) (S.faults src.new) }
     ensures write_fault { result ≡ Status.WriteFault → Rose (K.faults out.old) (K.faults out.new) }
     ensures quiet { IsQuiet result → K.held out.new ≡ K.held out.old }
+    ensures complete { IsRunWords (map string_bytes words.now) → Completes (S.left src.old) (S.faults src.old) (S.faults src.new) (K.faults out.old) (K.faults out.new) result }
     ensures told { Tells (E.held err.old) (E.held err.new) (E.faults err.old) (E.faults err.new) (E.wants err.old) (E.wants err.new) result }
 {
     let status = if is_run(words) {
@@ -63,6 +64,7 @@ fn run<S: Source, K: Sink>(alloc: Global, src: &mut S, out: &mut K) -> Status
     ensures read_fault { result ≡ Status.ReadFault → Rose (S.faults src.old) (S.faults src.new) }
     ensures write_fault { result ≡ Status.WriteFault → Rose (K.faults out.old) (K.faults out.new) }
     ensures quiet { IsQuiet result → K.held out.new ≡ K.held out.old }
+    ensures complete { Completes (S.left src.old) (S.faults src.old) (S.faults src.new) (K.faults out.old) (K.faults out.new) result }
 {
     let text = match read_all(alloc, src) {
         Ok(text) => text,

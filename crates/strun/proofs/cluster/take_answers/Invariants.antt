@@ -1,4 +1,4 @@
-use Rattle.std.proofs.Common.{◌≡◌, ◌+◌, ◌++◌, length, take, vec_capacity, vec_len}
+use Rattle.std.proofs.Common.{◌≡◌, ◌+◌, ◌++◌, take, vec_capacity, vec_len}
 use Rattle.strun.proofs.cluster.take_answers.Given as goal
 
 abbrev pub invariant-loop-answer : goal.invariant-loop-answer

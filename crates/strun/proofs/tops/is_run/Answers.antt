@@ -1,5 +1,4 @@
-use Rattle.std.proofs.Common.{ap, arith, nat_eq, ◌∙◌}
-use Rattle.std.specs.Cmp.Lexicographic.{pointwise}
+use Rattle.std.proofs.Common.{arith}
 use Rattle.std.specs.Prelude.{codes}
 use Rattle.std.specs.String.{string_bytes}
 use Rattle.strun.proofs.Written.{one_word}

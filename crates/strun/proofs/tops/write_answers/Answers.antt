@@ -1,4 +1,4 @@
-use Rattle.std.proofs.Common.{ap, arith, refl, ◌++◌, ◌∙◌}
+use Rattle.std.proofs.Common.{arith, refl, ◌∙◌}
 use Rattle.str_model.specs.Lines.{answer_line}
 use Rattle.strun.proofs.Written.{one_answer}
 use Rattle.strun.proofs.tops.write_answers.Goals as goal

@@ -1,4 +1,4 @@
-use Rattle.std.proofs.Common.{refl, ◌++◌, ◌∙◌}
+use Rattle.std.proofs.Common.{refl, ◌∙◌}
 use Rattle.strun.proofs.Isolated.{first_isolated}
 use Rattle.strun.proofs.Written.{all_written}
 use Rattle.strun.proofs.tops.write_run.Goals as goal

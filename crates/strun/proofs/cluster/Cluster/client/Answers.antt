@@ -1,5 +1,5 @@
-use Rattle.std.proofs.Common.{arith, refl}
-use Rattle.strun.proofs.FirstEvents.{Stepped, client_stepped}
+use Rattle.std.proofs.Common.{arith}
+use Rattle.strun.proofs.FirstEvents.{client_stepped}
 use Rattle.strun.proofs.cluster.Cluster.client.Goals as goal
 
 pub take_answers-answers-requires-clause-few : goal.take_answers-answers-requires-clause-few

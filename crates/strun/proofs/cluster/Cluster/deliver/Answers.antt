@@ -1,4 +1,4 @@
-use Rattle.std.proofs.Common.{refl, sym}
+use Rattle.std.proofs.Common.{sym}
 use Rattle.strun.proofs.FirstRuns.{happens-deliver}
 use Rattle.strun.proofs.cluster.Cluster.deliver.Goals as goal
 

@@ -1,5 +1,5 @@
-use Rattle.std.proofs.Common.{arith, false, refl, sym, true, ◌<◌, ◌∙◌, ◌+◌, ◌≡◌, length}
-use Rattle.str_model.specs.Drains.{moves, next_session}
+use Rattle.std.proofs.Common.{false, sym, true, ◌<◌, ◌∙◌, ◌+◌, ◌≡◌, length}
+use Rattle.str_model.specs.Drains.{moves}
 use Rattle.strun.proofs.FirstEvents.{find_next, find_start, moves_is}
 use Rattle.strun.proofs.cluster.Cluster.lowest_session.Goals as goal
 

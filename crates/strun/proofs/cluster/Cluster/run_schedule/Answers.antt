@@ -1,4 +1,4 @@
-use Rattle.std.proofs.Common.{length, ◌<◌, ◌≡◌, ◌∙◌}
+use Rattle.std.proofs.Common.{length, ◌<◌, ◌∙◌}
 use Rattle.strun.proofs.FirstEvents.{one_more}
 use Rattle.strun.proofs.cluster.Cluster.run_schedule.Goals as goal
 

@@ -1,0 +1,18 @@
+-- Where words and input are valid and no count rose, the status is Ok or want of memory.
+use Rattle.std.proofs.Common.{List, None, Option, Some, ap, append-nil, arith, inl, inr, length, length-append, subst, ℕ, ◌++◌, ◌+◌, ◌∙◌, ◌≡◌, ◌≤◌, ◌⊎◌}
+use Rattle.std.specs.Io.KnownBytes.{IsAtEnd}
+use Rattle.str_scene.specs.FirstScenes.{IsFirstText}
+use Rattle.str_scene.specs.Scenes.{Scene}
+use Rattle.strun.specs.Tops.{IsRefused}
+
+-- what was refused isn't a first scene that the source told
+pub refused_not : (bytes : List ℕ) (left' : Option (List ℕ)) (scene : Scene) → IsRefused (Some bytes) left' → IsFirstText bytes scene → ⊥
+refused_not bytes None scene r text = absurd r.consumed
+refused_not bytes (Some rest) scene r text = by_whole r.whole
+  where
+    whole : bytes ≡ r.bytes ++ rest
+    whole = r.consumed
+
+    by_whole : (length r.bytes ≡ 1048577) ⊎ IsAtEnd (Some rest) → ⊥
+    by_whole (inl n) = let m : length bytes ≡ length r.bytes + length rest = ap length whole ∙ length-append r.bytes rest in let s : length bytes ≤ 1048576 = text.short in omega arith
+    by_whole (inr e) = r.refused scene (subst (λ (bs : List ℕ). IsFirstText bs scene) (whole ∙ (ap (λ (xs : List ℕ). r.bytes ++ xs) e ∙ append-nil r.bytes)) text)
