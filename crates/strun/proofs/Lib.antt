@@ -18,3 +18,4 @@ pub mod OneNodeKept
 pub mod OneNode
 pub mod Isolated
 pub mod Completing
+pub mod Partial

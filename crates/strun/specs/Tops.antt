@@ -2,7 +2,7 @@
 use Rattle.std.specs.Io.KnownBytes.{Appends, Consumes, IsAtEnd}
 use Rattle.std.specs.Prelude.{List, Option, Some, [], codes, length, ℕ, ⊤, ◌∷◌, ◌≡◌, ◌⊎◌}
 use Rattle.strun.specs.declared.status.Status.{Status}
-use Rattle.strun.specs.declared.status.Status.TheVariants.{NoMemory, Ok as StatusOk, ReadFault, Refused, Usage}
+use Rattle.strun.specs.declared.status.Status.TheVariants.{NoMemory, Ok as StatusOk, ReadFault, Refused, Usage, WriteFault}
 use Rattle.si_laws.specs.SnapshotIsolation.{SIRun}
 use Rattle.str_model.specs.Drains.{cluster_run}
 use Rattle.str_model.specs.Lines.{render}
@@ -51,3 +51,21 @@ abbrev pub Completes : Option (List ℕ) → ℕ → ℕ → ℕ → ℕ → Sta
 Completes left read read' write write' status =
     (bytes : List ℕ) (scene : Scene) → left ≡ Some bytes → IsFirstText bytes scene → ¬ Rose read read' → ¬ Rose write write'
     → (status ≡ StatusOk) ⊎ (status ≡ NoMemory)
+
+-- the status is one with which a part may have been written
+abbrev pub IsStopped : Status → Type 0
+IsStopped WriteFault = ⊤
+IsStopped NoMemory = ⊤
+IsStopped _ = ⊥
+
+-- the source gave the text of a first scene, and a prefix of the rendering of its run was written
+pub record PartlyRan (left left' held held' : Option (List ℕ)) : Type 0 where
+  pub bytes : List ℕ
+  pub scene : Scene
+  pub consumed : Consumes left left' bytes
+  pub text : IsFirstText bytes scene
+  pub written : AppendsPrefix held held' (render scene (cluster_run scene))
+
+-- nothing was written, or a prefix of the rendering
+abbrev pub IsPartial : Option (List ℕ) → Option (List ℕ) → Option (List ℕ) → Option (List ℕ) → Type 0
+IsPartial left left' held held' = (held' ≡ held) ⊎ PartlyRan left left' held held'

@@ -1,14 +1,15 @@
 //! The top call of the program.
-ghost use Rattle.std.specs.Prelude.{◌≡◌, ◌↔◌, ◌≤◌, flat_map, map, IsTrue, OnOk, IfOk, IsErrOf};
+ghost use Rattle.std.specs.Prelude.{◌≡◌, ◌↔◌, ◌≤◌, flat_map, map, IsTrue, OnErr, OnOk, IfOk, IsErrOf};
 ghost use Rattle.std.specs.String.{string_bytes};
 ghost use Rattle.std.specs.Io.KnownBytes.{Appends};
 ghost use Rattle.si_laws.specs.SnapshotIsolation.{SIRun};
 ghost use Rattle.str_model.specs.Drains.{cluster_run};
 ghost use Rattle.str_model.specs.Lines.{answer_line, render};
 ghost use Rattle.str_outer.specs.Causes.{Rose};
+ghost use Rattle.str_outer.specs.Pieces.{AppendsPrefix};
 ghost use Rattle.str_scene.specs.FirstScenes.{IsFirst};
 ghost use Rattle.str_scene.specs.SceneLimits.{IsScene};
-ghost use Rattle.strun.specs.Tops.{Completes, IsQuiet, IsRefused, IsRunWords, Ran, Tells};
+ghost use Rattle.strun.specs.Tops.{Completes, IsPartial, IsQuiet, IsRefused, IsRunWords, IsStopped, Ran, Tells};
 
 use crate::cluster::Cluster;
 use crate::lines::{push_end, push_line};
@@ -34,6 +35,7 @@ pub fn top<S: Source, K: Sink, E: Sink>(
     ensures read_fault { result ≡ Status.ReadFault → Rose (S.faults src.old) (S.faults src.new) }
     ensures write_fault { result ≡ Status.WriteFault → Rose (K.faults out.old) (K.faults out.new) }
     ensures quiet { IsQuiet result → K.held out.new ≡ K.held out.old }
+    ensures partial { IsStopped result → IsPartial (S.left src.old) (S.left src.new) (K.held out.old) (K.held out.new) }
     ensures complete { IsRunWords (map string_bytes words.now) → Completes (S.left src.old) (S.faults src.old) (S.faults src.new) (K.faults out.old) (K.faults out.new) result }
     ensures told { Tells (E.held err.old) (E.held err.new) (E.faults err.old) (E.faults err.new) (E.wants err.old) (E.wants err.new) result }
 {
@@ -64,6 +66,7 @@ fn run<S: Source, K: Sink>(alloc: Global, src: &mut S, out: &mut K) -> Status
     ensures read_fault { result ≡ Status.ReadFault → Rose (S.faults src.old) (S.faults src.new) }
     ensures write_fault { result ≡ Status.WriteFault → Rose (K.faults out.old) (K.faults out.new) }
     ensures quiet { IsQuiet result → K.held out.new ≡ K.held out.old }
+    ensures partial { IsStopped result → IsPartial (S.left src.old) (S.left src.new) (K.held out.old) (K.held out.new) }
     ensures complete { Completes (S.left src.old) (S.faults src.old) (S.faults src.new) (K.faults out.old) (K.faults out.new) result }
 {
     let text = match read_all(alloc, src) {
@@ -104,6 +107,7 @@ fn write_run<K: Sink>(alloc: Global, scene: &Scene, out: &mut K) -> Result<(), S
     requires limits { IsScene scene.now }
     requires first { IsFirst scene.now }
     ensures written { OnOk result (Appends (K.held out.old) (K.held out.new) (render scene.now (cluster_run scene.now))) }
+    ensures partial { OnErr result (AppendsPrefix (K.held out.old) (K.held out.new) (render scene.now (cluster_run scene.now))) }
     ensures isolated { SIRun scene.now (cluster_run scene.now).answers }
     ensures failed { IsErrOf result Stopped.Failed → Rose (K.faults out.old) (K.faults out.new) }
 {
@@ -123,6 +127,7 @@ fn write_run<K: Sink>(alloc: Global, scene: &Scene, out: &mut K) -> Result<(), S
 /// Writes the answers of a cluster, a line each.
 fn write_answers<K: Sink>(alloc: Global, cluster: &Cluster, out: &mut K) -> Result<(), Stopped>
     ensures written { OnOk result (Appends (K.held out.old) (K.held out.new) (flat_map (answer_line cluster.now.scene.keys) cluster.now.world.answers)) }
+    ensures partial { OnErr result (AppendsPrefix (K.held out.old) (K.held out.new) (flat_map (answer_line cluster.now.scene.keys) cluster.now.world.answers)) }
     ensures later { K.faults out.old ≤ K.faults out.new }
     ensures failed { IsErrOf result Stopped.Failed → Rose (K.faults out.old) (K.faults out.new) }
 {

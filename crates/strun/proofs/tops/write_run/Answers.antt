@@ -1,5 +1,7 @@
 use Rattle.std.proofs.Common.{refl, ◌∙◌}
 use Rattle.strun.proofs.Isolated.{first_isolated}
+use Rattle.strun.proofs.Failing.{on_err}
+use Rattle.strun.proofs.Partial.{answers_partly, answers_whole, line_partly}
 use Rattle.strun.proofs.Written.{all_written}
 use Rattle.strun.proofs.tops.write_run.Goals as goal
 
@@ -20,3 +22,18 @@ returns-in-Err-push_end-clause-isolated g c = first_isolated c.args.scene.now c.
 
 pub returns-clause-isolated : goal.returns-clause-isolated
 returns-clause-isolated g c = first_isolated c.args.scene.now c.requires.limits c.requires.first
+
+pub returns-in_err-write_answers-clause-partial :
+    goal.returns-in_err-write_answers-clause-partial
+returns-in_err-write_answers-clause-partial g c =
+    on_err c.from_residual.result (answers_partly c.args.scene.now _ _ _ _ _ c.in-Ok.ensures.scene c.in-Ok.ensures.world c.in_err-write_answers.ensures.partial)
+
+pub returns-in-Err-push_end-clause-partial : goal.returns-in-Err-push_end-clause-partial
+returns-in-Err-push_end-clause-partial g c =
+    answers_whole c.args.scene.now _ _ _ _ _ c.in-Ok.ensures.scene c.in-Ok.ensures.world c.in_ok-write_answers.ensures.written
+
+pub returns-clause-partial : goal.returns-clause-partial
+returns-clause-partial g c =
+    line_partly c.args.scene.now _ _ _ _ _ _ _ _ c.write_all.result c.in-Ok.ensures.scene c.in-Ok.ensures.world c.counts.ensures
+    (c.as_slice.ensures.value ∙ rw (c.in-Ok-push_end.ensures.ok, c.new-line.ensures.items) refl)
+    c.in_ok-write_answers.ensures.written c.write_all.ensures.err
