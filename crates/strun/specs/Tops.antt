@@ -69,3 +69,8 @@ pub record PartlyRan (left left' held held' : Option (List ℕ)) : Type 0 where
 -- nothing was written, or a prefix of the rendering
 abbrev pub IsPartial : Option (List ℕ) → Option (List ℕ) → Option (List ℕ) → Option (List ℕ) → Type 0
 IsPartial left left' held held' = (held' ≡ held) ⊎ PartlyRan left left' held held'
+
+-- where the source tells bytes that are the text of no first scene and its count didn't rise, they are refused, or memory was wanting
+abbrev pub Refuses : Option (List ℕ) → ℕ → ℕ → Status → Type 0
+Refuses left read read' status =
+    (bytes : List ℕ) → left ≡ Some bytes → ((scene : Scene) → ¬ IsFirstText bytes scene) → ¬ Rose read read' → (status ≡ Refused) ⊎ (status ≡ NoMemory)

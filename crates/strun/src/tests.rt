@@ -113,3 +113,46 @@ fn whole_calls(rt: HostRuntime) -> Result<(), Fail> {
         },
     )
 }
+
+#[test]
+fn each_read_fails_in_turn(rt: HostRuntime) -> Result<(), Fail> {
+    // Six reads give the text, and the seventh is at its end.
+    for failing_read in 1..=8 {
+        let fails = failing_read < 8;
+        let call = Call {
+            word: "run",
+            text: EMPTY,
+            failing_read,
+            failing_write: 0,
+            status: if fails { Status::ReadFault } else { Status::Ok },
+            out: if fails { b"" } else { EMPTY_END },
+            err: if fails { b"strun: read fault\n" } else { b"" },
+        };
+        check(&rt, &call)?;
+    }
+    Ok(())
+}
+
+#[test]
+fn each_write_fails_in_turn(rt: HostRuntime) -> Result<(), Fail> {
+    // Three writes take 16 bytes, and the fourth takes the rest.
+    for (failing_write, held) in [(1, 0), (2, 16), (3, 32), (4, 48), (5, 51)] {
+        let fails = failing_write < 5;
+        assert!(rt; held <= EMPTY_END.len());
+        let call = Call {
+            word: "run",
+            text: EMPTY,
+            failing_read: 0,
+            failing_write,
+            status: if fails {
+                Status::WriteFault
+            } else {
+                Status::Ok
+            },
+            out: &EMPTY_END[..held],
+            err: if fails { b"strun: write fault\n" } else { b"" },
+        };
+        check(&rt, &call)?;
+    }
+    Ok(())
+}

@@ -9,7 +9,7 @@ ghost use Rattle.str_outer.specs.Causes.{Rose};
 ghost use Rattle.str_outer.specs.Pieces.{AppendsPrefix};
 ghost use Rattle.str_scene.specs.FirstScenes.{IsFirst};
 ghost use Rattle.str_scene.specs.SceneLimits.{IsScene};
-ghost use Rattle.strun.specs.Tops.{Completes, IsPartial, IsQuiet, IsRefused, IsRunWords, IsStopped, Ran, Tells};
+ghost use Rattle.strun.specs.Tops.{Completes, IsPartial, IsQuiet, IsRefused, IsRunWords, IsStopped, Ran, Refuses, Tells};
 
 use crate::cluster::Cluster;
 use crate::lines::{push_end, push_line};
@@ -37,6 +37,7 @@ pub fn top<S: Source, K: Sink, E: Sink>(
     ensures quiet { IsQuiet result → K.held out.new ≡ K.held out.old }
     ensures partial { IsStopped result → IsPartial (S.left src.old) (S.left src.new) (K.held out.old) (K.held out.new) }
     ensures complete { IsRunWords (map string_bytes words.now) → Completes (S.left src.old) (S.faults src.old) (S.faults src.new) (K.faults out.old) (K.faults out.new) result }
+    ensures refuses { IsRunWords (map string_bytes words.now) → Refuses (S.left src.old) (S.faults src.old) (S.faults src.new) result }
     ensures told { Tells (E.held err.old) (E.held err.new) (E.faults err.old) (E.faults err.new) (E.wants err.old) (E.wants err.new) result }
 {
     let status = if is_run(words) {
@@ -68,6 +69,7 @@ fn run<S: Source, K: Sink>(alloc: Global, src: &mut S, out: &mut K) -> Status
     ensures quiet { IsQuiet result → K.held out.new ≡ K.held out.old }
     ensures partial { IsStopped result → IsPartial (S.left src.old) (S.left src.new) (K.held out.old) (K.held out.new) }
     ensures complete { Completes (S.left src.old) (S.faults src.old) (S.faults src.new) (K.faults out.old) (K.faults out.new) result }
+    ensures refuses { Refuses (S.left src.old) (S.faults src.old) (S.faults src.new) result }
 {
     let text = match read_all(alloc, src) {
         Ok(text) => text,
