@@ -5,3 +5,8 @@ pub mod Lasting
 pub mod Asking
 pub mod Session
 pub mod Stages
+pub mod Presence
+pub mod Marks
+pub mod Apart
+pub mod Prefix
+pub mod Reasons

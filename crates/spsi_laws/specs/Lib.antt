@@ -1,2 +1,2 @@
-pub mod SpeculativeIsolation
 pub mod Laws
+pub mod Headline

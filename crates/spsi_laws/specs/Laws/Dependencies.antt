@@ -2,7 +2,7 @@
 use Rattle.std.specs.Prelude.{Some, false, slice_get, ℕ, ◌+◌, ◌<◌, ◌≡◌, ◌≤◌}
 use Rattle.dependency_set.specs.declared.names.Dep.{Dep}
 use Rattle.str_model.specs.Owned.{Always, OfEachState, Owns}
-use Rattle.spsi_laws.specs.SpeculativeIsolation.{IsLive, OfEachOpen}
+use Rattle.si_laws.specs.SpeculativeIsolation.{IsLive, OfEachOpen}
 use Rattle.str_base.specs.Versions.{stamp}
 use Rattle.str_model.specs.Views.{Own, View, is_decided, lc_of}
 
