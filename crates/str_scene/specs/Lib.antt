@@ -6,3 +6,4 @@ pub mod TextLines
 pub mod Keys
 pub mod Building
 pub mod Keeping
+pub mod Drafts

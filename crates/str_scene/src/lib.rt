@@ -2,12 +2,14 @@
 #![tactic(auto)]
 
 mod build;
+pub mod faults;
 pub mod first;
 pub mod keys;
 pub mod lines;
 pub mod names;
 pub mod scenes;
 
+pub use faults::{SceneFault, Why};
 pub use first::{FirstFault, first_scene};
 pub use keys::{ByteText, KeyTable, Name};
 pub use lines::Line;
