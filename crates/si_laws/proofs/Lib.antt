@@ -17,3 +17,4 @@ pub mod SessionAnswers
 pub mod Stages
 pub mod Acks
 pub mod WorkedLists
+pub mod Cut

@@ -10,3 +10,4 @@ pub mod Marks
 pub mod Apart
 pub mod Prefix
 pub mod Reasons
+pub mod Cut

@@ -1,6 +1,7 @@
 //! Laws of every run: functions without effect, each of which carries one law.
 ghost use Rattle.si_laws.specs.Laws.Times.{TimesHold};
 ghost use Rattle.si_laws.specs.Laws.Lasting.{AnswersGrow, DecidedStay};
+ghost use Rattle.si_laws.specs.Laws.Cut.{CutHolds};
 ghost use Rattle.si_laws.specs.Laws.Asking.{PresAsked};
 ghost use Rattle.si_laws.specs.Laws.Session.{SessionHolds};
 ghost use Rattle.si_laws.specs.Laws.Stages.{AcksKnown, StagesForward};
@@ -38,4 +39,9 @@ pub fn stages_forward()
 /// Where a node sent an Ack, the pair's versions stand there, or the pair is done.
 pub fn acks_known()
     ensures { AcksKnown }
+{}
+
+/// A run that is cut off has a beginning of the journal and of the answers.
+pub fn cut_holds()
+    ensures { CutHolds }
 {}
