@@ -54,3 +54,9 @@ abbrev pub RefusesWith : List ℕ → Failure → Type 0
 RefusesWith text (Refused said) = said.items ≡ text
 RefusesWith text Memory = ⊤
 RefusesWith text _ = ⊥
+
+-- no words came: one is no UTF-8, or memory was wanting
+abbrev pub IsWithoutWords : Failure → Type 0
+IsWithoutWords Usage = ⊤
+IsWithoutWords Memory = ⊤
+IsWithoutWords _ = ⊥
