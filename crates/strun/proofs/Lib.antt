@@ -1,7 +1,6 @@
 pub mod FirstRuns
 pub mod FirstDrains
 pub mod FirstDrained
-pub mod Failing
 pub mod FirstEvents
 pub mod Written
 pub mod OneNodeLists
@@ -17,5 +16,5 @@ pub mod OneNodeScripts
 pub mod OneNodeKept
 pub mod OneNode
 pub mod Isolated
-pub mod Completing
 pub mod Partial
+pub mod Said

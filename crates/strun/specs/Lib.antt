@@ -1,4 +1,3 @@
 pub mod ClusterStates
 pub mod Tops
 pub mod Printing
-pub mod Statuses

@@ -1,8 +1,6 @@
 -- What the top call promises.
 use Rattle.std.specs.Io.KnownBytes.{Appends, Consumes, IsAtEnd}
 use Rattle.std.specs.Prelude.{List, Option, Some, [], codes, length, ℕ, ⊤, ◌∷◌, ◌≡◌, ◌⊎◌}
-use Rattle.strun.specs.declared.status.Status.{Status}
-use Rattle.strun.specs.declared.status.Status.TheVariants.{NoMemory, Ok as StatusOk, ReadFault, Refused, Usage, WriteFault}
 use Rattle.si_laws.specs.SnapshotIsolation.{SIRun}
 use Rattle.str_model.specs.Drains.{cluster_run}
 use Rattle.str_model.specs.Lines.{render}
@@ -10,7 +8,18 @@ use Rattle.str_outer.specs.Causes.{Rose}
 use Rattle.str_outer.specs.Pieces.{AppendsPrefix}
 use Rattle.str_scene.specs.FirstScenes.{IsFirstText}
 use Rattle.str_scene.specs.Scenes.{Scene}
-use Rattle.strun.specs.Statuses.{line_of}
+use Rattle.top_status.specs.declared.failure.Failure.{Failure}
+use Rattle.top_status.specs.declared.failure.Failure.TheVariants.{Memory, Read, Refused as Refusal, Usage, Write}
+use Rattle.top_status.specs.declared.status.Status.{Status}
+use Rattle.top_status.specs.declared.status.Status.TheVariants.{NoMemory, Ok as StatusOk, Refused}
+
+-- the program's name
+abbrev pub own_name : List ℕ
+own_name = codes "strun"
+
+-- what is said of a refused input
+abbrev pub not_built : List ℕ
+not_built = codes "not built"
 
 -- the words ask for a run
 abbrev pub IsRunWords : List (List ℕ) → Type 0
@@ -34,35 +43,12 @@ pub record IsRefused (left left' : Option (List ℕ)) : Type 0 where
   pub whole : (length bytes ≡ 1048577) ⊎ IsAtEnd left'
   pub refused : (scene : Scene) → ¬ IsFirstText bytes scene
 
--- the status is one with which nothing is written on the output
-abbrev pub IsQuiet : Status → Type 0
-IsQuiet Usage = ⊤
-IsQuiet Refused = ⊤
-IsQuiet ReadFault = ⊤
-IsQuiet _ = ⊥
-
--- standard error grew by the line of the status, or by a prefix of it where one of its counts rose
-abbrev pub Tells : Option (List ℕ) → Option (List ℕ) → ℕ → ℕ → ℕ → ℕ → Status → Type 0
-Tells held held' faults faults' wants wants' status =
-    Appends held held' (line_of status) ⊎ (AppendsPrefix held held' (line_of status) × (Rose faults faults' ⊎ Rose wants wants'))
-
--- completeness: where the source tells the text of a first scene and neither count rose, the status is Ok or want of memory
-abbrev pub Completes : Option (List ℕ) → ℕ → ℕ → ℕ → ℕ → Status → Type 0
-Completes left read read' write write' status =
-    (bytes : List ℕ) (scene : Scene) → left ≡ Some bytes → IsFirstText bytes scene → ¬ Rose read read' → ¬ Rose write write'
-    → (status ≡ StatusOk) ⊎ (status ≡ NoMemory)
-
--- the status is one with which a part may have been written
-abbrev pub IsStopped : Status → Type 0
-IsStopped WriteFault = ⊤
-IsStopped NoMemory = ⊤
-IsStopped _ = ⊥
-
 -- the source gave the text of a first scene, and a prefix of the rendering of its run was written
 pub record PartlyRan (left left' held held' : Option (List ℕ)) : Type 0 where
   pub bytes : List ℕ
   pub scene : Scene
   pub consumed : Consumes left left' bytes
+  pub whole : (length bytes ≡ 1048577) ⊎ IsAtEnd left'
   pub text : IsFirstText bytes scene
   pub written : AppendsPrefix held held' (render scene (cluster_run scene))
 
@@ -70,7 +56,27 @@ pub record PartlyRan (left left' held held' : Option (List ℕ)) : Type 0 where
 abbrev pub IsPartial : Option (List ℕ) → Option (List ℕ) → Option (List ℕ) → Option (List ℕ) → Type 0
 IsPartial left left' held held' = (held' ≡ held) ⊎ PartlyRan left left' held held'
 
+-- completeness: where the source tells the text of a first scene and neither count rose, the status is Ok or want of memory
+abbrev pub Completes : Option (List ℕ) → ℕ → ℕ → ℕ → ℕ → Status → Type 0
+Completes left read read' write write' status =
+    (bytes : List ℕ) (scene : Scene) → left ≡ Some bytes → IsFirstText bytes scene → ¬ Rose read read' → ¬ Rose write write'
+    → (status ≡ StatusOk) ⊎ (status ≡ NoMemory)
+
 -- where the source tells bytes that are the text of no first scene and its count didn't rise, they are refused, or memory was wanting
 abbrev pub Refuses : Option (List ℕ) → ℕ → ℕ → Status → Type 0
 Refuses left read read' status =
     (bytes : List ℕ) → left ≡ Some bytes → ((scene : Scene) → ¬ IsFirstText bytes scene) → ¬ Rose read read' → (status ≡ Refused) ⊎ (status ≡ NoMemory)
+
+-- a text that is refused is that of no first scene
+abbrev pub RefusesText : List ℕ → Failure → Type 0
+RefusesText text (Refusal said) = (said.items ≡ not_built) × ((scene : Scene) → ¬ IsFirstText text scene)
+RefusesText text Memory = ⊤
+RefusesText text _ = ⊥
+
+-- why a run failed, and what was written until then
+abbrev pub RunFails : Option (List ℕ) → Option (List ℕ) → ℕ → ℕ → Option (List ℕ) → Option (List ℕ) → ℕ → ℕ → Failure → Type 0
+RunFails left left' read read' held held' write write' Usage = ⊥
+RunFails left left' read read' held held' write write' (Refusal said) = (said.items ≡ not_built) × IsRefused left left' × (held' ≡ held)
+RunFails left left' read read' held held' write write' Read = Rose read read' × (held' ≡ held)
+RunFails left left' read read' held held' write write' Write = Rose write write' × PartlyRan left left' held held'
+RunFails left left' read read' held held' write write' Memory = IsPartial left left' held held'

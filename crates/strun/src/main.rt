@@ -3,30 +3,14 @@
 
 mod cluster;
 mod lines;
-mod status;
 #[cfg(test)]
 mod tests;
 mod tops;
 
-use status::Status;
-use std::env::{self, Env};
-use std::io::ErrorKind;
 use std::process::ExitCode;
 use str_outer::{StdSink, StdSource};
+use top_status::words_of;
 use tops::{report, top};
-
-/// The words after the program's name. One that is no UTF-8 is no word of the program.
-fn words_of(rt: &(impl Env + AllocGlobal)) -> Result<Vec<String>, Status> {
-    let words = match env::args(rt) {
-        Ok(words) => words,
-        Err(error) if error.kind() == ErrorKind::OutOfMemory => return Err(Status::NoMemory),
-        Err(_) => return Err(Status::Usage),
-    };
-    match words.skip(1).collect(rt.alloc()) {
-        Ok(words) => Ok(words),
-        Err(_) => Err(Status::NoMemory),
-    }
-}
 
 fn main(rt: HostRuntime) -> ExitCode {
     let mut src = StdSource::new(rt.stdin());
@@ -34,10 +18,7 @@ fn main(rt: HostRuntime) -> ExitCode {
     let mut err = StdSink::new(rt.stderr());
     let status = match words_of(&rt) {
         Ok(words) => top(rt.alloc(), words.as_slice(), &mut src, &mut out, &mut err),
-        Err(status) => {
-            report(&mut err, status);
-            status
-        }
+        Err(failure) => report(&mut err, Err(failure)),
     };
     ExitCode::from(status.code())
 }

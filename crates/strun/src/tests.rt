@@ -1,11 +1,11 @@
 //! Whole calls of the program over a source and sinks in memory.
 
-use crate::status::Status;
 use crate::tops::top;
 use std::alloc::{AllocError, Global};
 use std::process::Abort;
 use std::test::Fail;
 use str_outer::{MemSink, MemSource};
+use top_status::Status;
 
 const EMPTY: &[u8] = b"str 1\nnodes 1\npart 1 1\nschedule\ndrain\nend\n";
 

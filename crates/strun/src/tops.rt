@@ -1,5 +1,5 @@
 //! The top call of the program.
-ghost use Rattle.std.specs.Prelude.{◌≡◌, ◌↔◌, ◌≤◌, flat_map, map, IsTrue, OnErr, OnOk, IfOk, IsErrOf};
+ghost use Rattle.std.specs.Prelude.{◌≡◌, ◌↔◌, ◌≤◌, flat_map, map, IsTrue, OnErr, OnOk, IfErr, IfOk};
 ghost use Rattle.std.specs.String.{string_bytes};
 ghost use Rattle.std.specs.Io.KnownBytes.{Appends};
 ghost use Rattle.si_laws.specs.SnapshotIsolation.{SIRun};
@@ -7,16 +7,19 @@ ghost use Rattle.str_model.specs.Drains.{cluster_run};
 ghost use Rattle.str_model.specs.Lines.{answer_line, render};
 ghost use Rattle.str_outer.specs.Causes.{Rose};
 ghost use Rattle.str_outer.specs.Pieces.{AppendsPrefix};
-ghost use Rattle.str_scene.specs.FirstScenes.{IsFirst};
+ghost use Rattle.str_scene.specs.FirstScenes.{IsFirst, IsFirstText};
 ghost use Rattle.str_scene.specs.SceneLimits.{IsScene};
-ghost use Rattle.strun.specs.Tops.{Completes, IsPartial, IsQuiet, IsRefused, IsRunWords, IsStopped, Ran, Refuses, Tells};
+ghost use Rattle.strun.specs.Tops.{Completes, IsPartial, IsRefused, IsRunWords, Ran, Refuses, RefusesText, RunFails, not_built, own_name};
+ghost use Rattle.top_status.specs.Failures.{HasWriteCause, refusal_of, status_of};
+ghost use Rattle.top_status.specs.Statuses.{IsQuiet, IsStopped, line_of};
+ghost use Rattle.top_status.specs.Telling.{Tells};
 
 use crate::cluster::Cluster;
 use crate::lines::{push_end, push_line};
-use crate::status::Status;
 use std::alloc::{AllocError, Global};
-use str_outer::{ReadError, Sink, Source, Stopped, read_all, write_all};
+use str_outer::{Sink, Source};
 use str_scene::{FirstFault, Scene, first_scene};
+use top_status::{Failure, Status, answer, read_input, refuse, write_piece};
 
 /// Does what the words ask for: `run` reads a scene, runs it, and writes the answers and the end line.
 ///
@@ -38,15 +41,14 @@ pub fn top<S: Source, K: Sink, E: Sink>(
     ensures partial { IsStopped result → IsPartial (S.left src.old) (S.left src.new) (K.held out.old) (K.held out.new) }
     ensures complete { IsRunWords (map string_bytes words.now) → Completes (S.left src.old) (S.faults src.old) (S.faults src.new) (K.faults out.old) (K.faults out.new) result }
     ensures refuses { IsRunWords (map string_bytes words.now) → Refuses (S.left src.old) (S.faults src.old) (S.faults src.new) result }
-    ensures told { Tells (E.held err.old) (E.held err.new) (E.faults err.old) (E.faults err.new) (E.wants err.old) (E.wants err.new) result }
+    ensures told { Tells (line_of own_name not_built result) (E.held err.old) (E.held err.new)
+        (E.faults err.old) (E.faults err.new) (E.wants err.old) (E.wants err.new) }
 {
-    let status = if is_run(words) {
-        run(alloc, src, out)
-    } else {
-        Status::Usage
-    };
-    report(err, status);
-    status
+    if !is_run(words) {
+        return report(err, Err(Failure::Usage));
+    }
+    let done = run(alloc, src, out);
+    report(err, done)
 }
 
 /// Whether the words are exactly `run`.
@@ -60,31 +62,25 @@ fn is_run(words: &[String]) -> bool
 }
 
 /// Reads a scene, runs it, and writes what its run renders.
-fn run<S: Source, K: Sink>(alloc: Global, src: &mut S, out: &mut K) -> Status
-    ensures ran { result ≡ Status.Ok → Ran (S.left src.old) (S.left src.new) (K.held out.old) (K.held out.new) }
-    ensures used { (result ≡ Status.Usage) → ⊥ }
-    ensures refused { result ≡ Status.Refused → IsRefused (S.left src.old) (S.left src.new) }
-    ensures read_fault { result ≡ Status.ReadFault → Rose (S.faults src.old) (S.faults src.new) }
-    ensures write_fault { result ≡ Status.WriteFault → Rose (K.faults out.old) (K.faults out.new) }
-    ensures quiet { IsQuiet result → K.held out.new ≡ K.held out.old }
-    ensures partial { IsStopped result → IsPartial (S.left src.old) (S.left src.new) (K.held out.old) (K.held out.new) }
-    ensures complete { Completes (S.left src.old) (S.faults src.old) (S.faults src.new) (K.faults out.old) (K.faults out.new) result }
-    ensures refuses { Refuses (S.left src.old) (S.faults src.old) (S.faults src.new) result }
+fn run<S: Source, K: Sink>(alloc: Global, src: &mut S, out: &mut K) -> Result<(), Failure>
+    ensures ran { OnOk result (Ran (S.left src.old) (S.left src.new) (K.held out.old) (K.held out.new)) }
+    ensures failed { IfErr result (RunFails (S.left src.old) (S.left src.new) (S.faults src.old) (S.faults src.new)
+        (K.held out.old) (K.held out.new) (K.faults out.old) (K.faults out.new)) }
 {
-    let text = match read_all(alloc, src) {
-        Ok(text) => text,
-        Err(ReadError::Memory) => return Status::NoMemory,
-        Err(ReadError::Failed) => return Status::ReadFault,
-    };
-    let scene = match first_scene(alloc, text.as_slice()) {
-        Ok(scene) => scene,
-        Err(FirstFault::Memory) => return Status::NoMemory,
-        Err(FirstFault::NotBuilt) => return Status::Refused,
-    };
-    match write_run(alloc, &scene, out) {
-        Ok(()) => Status::Ok,
-        Err(Stopped::Failed) => Status::WriteFault,
-        Err(Stopped::Memory) => Status::NoMemory,
+    let text = read_input(alloc, src)?;
+    let scene = accept(alloc, text.as_slice())?;
+    write_run(alloc, &scene, out)
+}
+
+/// The scene of a text that is accepted. Every other text is refused.
+fn accept(alloc: Global, text: &[u8]) -> Result<Scene, Failure>
+    ensures accepted { IfOk result (λ scene. IsFirstText text.now scene) }
+    ensures refused { IfErr result (RefusesText text.now) }
+{
+    match first_scene(alloc, text) {
+        Ok(scene) => Ok(scene),
+        Err(FirstFault::NotBuilt) => Err(refuse(alloc, b"not built")),
+        Err(FirstFault::Memory) => Err(Failure::Memory),
     }
 }
 
@@ -105,53 +101,43 @@ fn run_cluster(alloc: Global, scene: &Scene) -> Result<Cluster, AllocError>
 }
 
 /// Runs a scene and writes its answers and the end line.
-fn write_run<K: Sink>(alloc: Global, scene: &Scene, out: &mut K) -> Result<(), Stopped>
+fn write_run<K: Sink>(alloc: Global, scene: &Scene, out: &mut K) -> Result<(), Failure>
     requires limits { IsScene scene.now }
     requires first { IsFirst scene.now }
     ensures written { OnOk result (Appends (K.held out.old) (K.held out.new) (render scene.now (cluster_run scene.now))) }
     ensures partial { OnErr result (AppendsPrefix (K.held out.old) (K.held out.new) (render scene.now (cluster_run scene.now))) }
     ensures isolated { SIRun scene.now (cluster_run scene.now).answers }
-    ensures failed { IsErrOf result Stopped.Failed → Rose (K.faults out.old) (K.faults out.new) }
+    ensures failed { IfErr result (HasWriteCause (K.faults out.old) (K.faults out.new)) }
 {
-    let cluster = match run_cluster(alloc, scene) {
-        Ok(cluster) => cluster,
-        Err(_) => return Err(Stopped::Memory),
-    };
+    let cluster = run_cluster(alloc, scene)?;
     write_answers(alloc, &cluster, out)?;
     let mut line = Vec::new(alloc);
-    match push_end(&cluster.counts(), &mut line) {
-        Ok(()) => {}
-        Err(_) => return Err(Stopped::Memory),
-    }
-    write_all(out, line.as_slice())
+    push_end(&cluster.counts(), &mut line)?;
+    write_piece(out, line.as_slice())
 }
 
 /// Writes the answers of a cluster, a line each.
-fn write_answers<K: Sink>(alloc: Global, cluster: &Cluster, out: &mut K) -> Result<(), Stopped>
+fn write_answers<K: Sink>(alloc: Global, cluster: &Cluster, out: &mut K) -> Result<(), Failure>
     ensures written { OnOk result (Appends (K.held out.old) (K.held out.new) (flat_map (answer_line cluster.now.scene.keys) cluster.now.world.answers)) }
     ensures partial { OnErr result (AppendsPrefix (K.held out.old) (K.held out.new) (flat_map (answer_line cluster.now.scene.keys) cluster.now.world.answers)) }
     ensures later { K.faults out.old ≤ K.faults out.new }
-    ensures failed { IsErrOf result Stopped.Failed → Rose (K.faults out.old) (K.faults out.new) }
+    ensures failed { IfErr result (HasWriteCause (K.faults out.old) (K.faults out.new)) }
 {
     let keys = cluster.scene().keys();
     let mut line = Vec::new(alloc);
     for answer in cluster.answers() {
         line.clear();
-        match push_line(answer, keys, &mut line) {
-            Ok(()) => {}
-            Err(_) => return Err(Stopped::Memory),
-        }
-        write_all(out, line.as_slice())?;
+        push_line(answer, keys, &mut line)?;
+        write_piece(out, line.as_slice())?;
     }
     Ok(())
 }
 
-/// Writes the line of a status. A refusal is dropped.
-pub fn report<E: Sink>(err: &mut E, status: Status)
-    ensures { Tells (E.held err.old) (E.held err.new) (E.faults err.old) (E.faults err.new) (E.wants err.old) (E.wants err.new) status }
+/// Ends the call: says the line of a failure, and gives the status. A refusal of `err` is dropped.
+pub fn report<E: Sink>(err: &mut E, done: Result<(), Failure>) -> Status
+    ensures status { result ≡ status_of done }
+    ensures told { Tells (line_of own_name (refusal_of done) result) (E.held err.old) (E.held err.new)
+        (E.faults err.old) (E.faults err.new) (E.wants err.old) (E.wants err.new) }
 {
-    match write_all(err, status.line()) {
-        Ok(()) => {}
-        Err(_) => {}
-    }
+    answer(err, b"strun", done)
 }

@@ -1,5 +1,5 @@
 use Rattle.str_scene.proofs.KeepingLemmas.{keeps_start}
-use Rattle.strun.proofs.Failing.{on_err}
+use Rattle.top_status.proofs.Failing.{on_err}
 use Rattle.strun.proofs.lines.push_gets.Goals as goal
 
 pub returns-in_err-push_get-clause-err : goal.returns-in_err-push_get-clause-err

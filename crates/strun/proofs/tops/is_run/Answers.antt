@@ -1,7 +1,7 @@
 use Rattle.std.proofs.Common.{arith}
 use Rattle.std.specs.Prelude.{codes}
 use Rattle.std.specs.String.{string_bytes}
-use Rattle.strun.proofs.Written.{one_word}
+use Rattle.top_status.proofs.WordLists.{one_word}
 use Rattle.strun.proofs.tops.is_run.Goals as goal
 
 pub returns-in-len1 : goal.returns-in-len1

@@ -1,24 +1,24 @@
 use Rattle.std.proofs.Common.{refl, ◌∙◌}
 use Rattle.strun.proofs.Isolated.{first_isolated}
-use Rattle.strun.proofs.Failing.{on_err}
+use Rattle.top_status.proofs.Failing.{on_err}
 use Rattle.strun.proofs.Partial.{answers_partly, answers_whole, line_partly}
 use Rattle.strun.proofs.Written.{all_written}
 use Rattle.strun.proofs.tops.write_run.Goals as goal
 
 pub returns-clause-written : goal.returns-clause-written
 returns-clause-written g c =
-    all_written c.args.scene.now _ _ _ _ _ _ _ _ c.write_all.result c.in-Ok.ensures.scene c.in-Ok.ensures.world c.counts.ensures
-    (c.as_slice.ensures.value ∙ rw (c.in-Ok-push_end.ensures.ok, c.new-line.ensures.items) refl)
-    c.in_ok-write_answers.ensures.written c.write_all.ensures.ok
+    all_written c.args.scene.now _ _ _ _ _ _ _ _ c.write_piece.result c.in_ok-cluster.ensures.scene c.in_ok-cluster.ensures.world c.counts.ensures
+    (c.as_slice.ensures.value ∙ rw (c.in_ok-push_end.ensures.ok, c.new-line.ensures.items) refl)
+    c.in_ok-write_answers.ensures.written c.write_piece.ensures.written
 
-pub returns-in-Err-clause-isolated : goal.returns-in-Err-clause-isolated
-returns-in-Err-clause-isolated g c = first_isolated c.args.scene.now c.requires.limits c.requires.first
+pub returns-in_err-cluster-clause-isolated : goal.returns-in_err-cluster-clause-isolated
+returns-in_err-cluster-clause-isolated g c = first_isolated c.args.scene.now c.requires.limits c.requires.first
 
 pub returns-in_err-write_answers-clause-isolated : goal.returns-in_err-write_answers-clause-isolated
 returns-in_err-write_answers-clause-isolated g c = first_isolated c.args.scene.now c.requires.limits c.requires.first
 
-pub returns-in-Err-push_end-clause-isolated : goal.returns-in-Err-push_end-clause-isolated
-returns-in-Err-push_end-clause-isolated g c = first_isolated c.args.scene.now c.requires.limits c.requires.first
+pub returns-in_err-push_end-clause-isolated : goal.returns-in_err-push_end-clause-isolated
+returns-in_err-push_end-clause-isolated g c = first_isolated c.args.scene.now c.requires.limits c.requires.first
 
 pub returns-clause-isolated : goal.returns-clause-isolated
 returns-clause-isolated g c = first_isolated c.args.scene.now c.requires.limits c.requires.first
@@ -26,14 +26,14 @@ returns-clause-isolated g c = first_isolated c.args.scene.now c.requires.limits 
 pub returns-in_err-write_answers-clause-partial :
     goal.returns-in_err-write_answers-clause-partial
 returns-in_err-write_answers-clause-partial g c =
-    on_err c.from_residual.result (answers_partly c.args.scene.now _ _ _ _ _ c.in-Ok.ensures.scene c.in-Ok.ensures.world c.in_err-write_answers.ensures.partial)
+    on_err c.from_residual-in_err-write_answers.result (answers_partly c.args.scene.now _ _ _ _ _ c.in_ok-cluster.ensures.scene c.in_ok-cluster.ensures.world c.in_err-write_answers.ensures.partial)
 
-pub returns-in-Err-push_end-clause-partial : goal.returns-in-Err-push_end-clause-partial
-returns-in-Err-push_end-clause-partial g c =
-    answers_whole c.args.scene.now _ _ _ _ _ c.in-Ok.ensures.scene c.in-Ok.ensures.world c.in_ok-write_answers.ensures.written
+pub returns-in_err-push_end-clause-partial : goal.returns-in_err-push_end-clause-partial
+returns-in_err-push_end-clause-partial g c =
+    on_err c.from_residual-in_err-push_end.result (answers_whole c.args.scene.now _ _ _ _ _ c.in_ok-cluster.ensures.scene c.in_ok-cluster.ensures.world c.in_ok-write_answers.ensures.written)
 
 pub returns-clause-partial : goal.returns-clause-partial
 returns-clause-partial g c =
-    line_partly c.args.scene.now _ _ _ _ _ _ _ _ c.write_all.result c.in-Ok.ensures.scene c.in-Ok.ensures.world c.counts.ensures
-    (c.as_slice.ensures.value ∙ rw (c.in-Ok-push_end.ensures.ok, c.new-line.ensures.items) refl)
-    c.in_ok-write_answers.ensures.written c.write_all.ensures.err
+    line_partly c.args.scene.now _ _ _ _ _ _ _ _ c.write_piece.result c.in_ok-cluster.ensures.scene c.in_ok-cluster.ensures.world c.counts.ensures
+    (c.as_slice.ensures.value ∙ rw (c.in_ok-push_end.ensures.ok, c.new-line.ensures.items) refl)
+    c.in_ok-write_answers.ensures.written c.write_piece.ensures.partial

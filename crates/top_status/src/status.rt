@@ -19,7 +19,7 @@ pub enum Status {
 }
 
 impl Status {
-    ghost use Rattle.strun.specs.Statuses.{code_of, line_of};
+    ghost use Rattle.top_status.specs.Statuses.{code_of};
 
     /// The number with which the program ends.
     pub fn code(self) -> u8
@@ -32,20 +32,6 @@ impl Status {
             Status::ReadFault => 4,
             Status::WriteFault => 5,
             Status::NoMemory => 6,
-        }
-    }
-
-    /// The line on standard error.
-    pub fn line(self) -> &'static [u8]
-        ensures { result.now ≡ line_of self }
-    {
-        match self {
-            Status::Ok => b"",
-            Status::Usage => b"strun: usage\n",
-            Status::Refused => b"strun: not built\n",
-            Status::ReadFault => b"strun: read fault\n",
-            Status::WriteFault => b"strun: write fault\n",
-            Status::NoMemory => b"strun: out of memory\n",
         }
     }
 }
