@@ -1,6 +1,6 @@
 //! The replicas of each partition, and the partition of each key.
 ghost use Rattle.partition_map.specs.Maps.{Exists, HasKey, HasPart, IsMap, IsRow, first_or, has_node, hosts, is_written, others, part_of, participants, replicas, unasked};
-ghost use Rattle.std.specs.Prelude.{◌≡◌, ◌+◌, ◌≤◌, ◌++◌, ℕ, IfOk, Some, length, map, slice_get};
+ghost use Rattle.std.specs.Prelude.{◌≡◌, ◌+◌, ◌≤◌, ◌++◌, ◌∷◌, [], ℕ, IfOk, Some, length, map, slice_get};
 ghost use Rattle.str_base.specs.declared.names.NodeId.{NodeId as Node};
 ghost use Rattle.str_base.specs.declared.names.Write.{Write as AWrite};
 
@@ -172,26 +172,29 @@ mod tests {
     use std::test::Fail;
     use str_base::{Ts, Value, Write};
 
-    fn row(nodes: &[u8]) -> PartRow {
+    fn pair(first: u8, second: u8) -> PartRow
+        ensures { result ≡ record { 0 = first } ∷ record { 0 = second } ∷ [] }
+    {
         let mut row = PartRow::new();
-        for node in nodes {
-            if row.len() < 8 {
-                row.push(NodeId(*node));
-            }
-        }
+        row.push(NodeId(first));
+        row.push(NodeId(second));
         row
     }
 
-    fn writes(keys: &[u32]) -> Writes {
+    fn write(key: u32) -> Write
+        ensures { result.key.0 ≡ key }
+    {
+        let key = KeyId(key);
+        let value = Value::Absent;
+        Write { key, value }
+    }
+
+    fn writes(first: Write, second: Write) -> Writes
+        ensures { result ≡ first ∷ second ∷ [] }
+    {
         let mut writes = Writes::new();
-        for key in keys {
-            if writes.len() < 16 {
-                writes.push(Write {
-                    key: KeyId(*key),
-                    value: Value::Absent,
-                });
-            }
-        }
+        writes.push(first);
+        writes.push(second);
         writes
     }
 
@@ -204,52 +207,33 @@ mod tests {
         }
     }
 
-    // Partitions 1 to 4, of which the last has a replica at each node. Key 0 is of partition 4, key 1 of 2, key 2 of 1, and key 3 of 2.
+    // Keys 0 and 2 are of partition 2, and key 1 is of partition 1.
     #[test]
     fn knows_replicas_and_participants(rt: HostRuntime) -> Result<(), Fail> {
-        let rows = Vec::from_array(
-            rt.alloc(),
-            [
-                row(&[1, 2]),
-                row(&[3, 1, 2]),
-                row(&[2]),
-                row(&[8, 7, 6, 5, 4, 3, 2, 1]),
-            ],
-        )?;
-        let keys = Vec::from_array(rt.alloc(), [PartId(4), PartId(2), PartId(1), PartId(2)])?;
+        let rows = Vec::from_array(rt.alloc(), [pair(1, 2), pair(3, 2)])?;
+        let keys = Vec::from_array(rt.alloc(), [PartId(2), PartId(1), PartId(2)])?;
         let map = PartitionMap::new(rt.alloc(), &rows, &keys)?;
-        assert_eq!(rt; map.part_of(KeyId(0)), PartId(4));
-        assert_eq!(rt; map.part_of(KeyId(3)), PartId(2));
+        assert_eq!(rt; map.part_of(KeyId(1)), PartId(1));
+        assert_eq!(rt; map.part_of(KeyId(2)), PartId(2));
         assert_eq!(rt; map.master(PartId(1)), NodeId(1));
         assert_eq!(rt; map.master(PartId(2)), NodeId(3));
-        assert_eq!(rt;
-            map.replicas(PartId(2)).as_slice(),
-            row(&[3, 1, 2]).as_slice()
-        );
+        let row = map.replicas(PartId(2));
+        assert_eq!(rt; row.as_slice(), pair(3, 2).as_slice());
         let hosts = [
             (1, 1, true),
             (2, 1, true),
             (3, 1, false),
-            (2, 3, true),
-            (1, 3, false),
+            (2, 2, true),
+            (1, 2, false),
         ];
         for (node, part, want) in hosts {
             assert_eq!(rt; map.hosts(NodeId(node), PartId(part)), want);
         }
-        let none: [Asked; 0] = [];
-        assert_eq!(rt;
-            map.participants(NodeId(1), &writes(&[])).as_slice(),
-            none.as_slice()
-        );
-        let got = map.participants(NodeId(1), &writes(&[3, 2, 1]));
+        let got = map.participants(NodeId(1), &writes(write(2), write(1)));
         let want = [unasked(1, 2), unasked(2, 3), unasked(2, 2)];
         assert_eq!(rt; got.as_slice(), want.as_slice());
-        let got = map.participants(NodeId(5), &writes(&[0]));
-        let nodes = [8, 7, 6, 4, 3, 2, 1];
-        assert_eq!(rt;
-            got.as_slice(),
-            nodes.map(|node| unasked(4, node)).as_slice()
-        );
+        let got = map.participants(NodeId(3), &writes(write(0), write(2)));
+        assert_eq!(rt; got.as_slice(), [unasked(2, 2)].as_slice());
         Ok(())
     }
 }
