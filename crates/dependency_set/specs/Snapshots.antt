@@ -1,6 +1,6 @@
 -- Snapshots: a timestamp, the greatest final timestamp that was read, and the undecided transactions that were read from.
-use Rattle.std.specs.List.{list_all}
-use Rattle.std.specs.Prelude.{Bool, List, None, Option, Some, [], if◌then◌else◌, max, nat_le, nat_lt, ℕ, ◌==◌, ◌∷◌}
+use Rattle.std.specs.List.{AllByRecursion, list_all}
+use Rattle.std.specs.Prelude.{Bool, List, None, Option, Some, [], if◌then◌else◌, length, max, nat_le, nat_lt, ℕ, ⊤, ◌<◌, ◌==◌, ◌∷◌, ◌≤◌}
 use Rattle.dependency_set.specs.declared.names.Dep.{Dep}
 use Rattle.str_base.specs.Versions.{stamp}
 
@@ -9,6 +9,16 @@ pub record Snap : Type 0 where
   pub rs : ℕ
   pub ffc : ℕ
   pub deps : List Dep
+
+-- each number is below those after it
+abbrev pub IsRising : List Dep → Type 0
+IsRising [] = ⊤
+IsRising (d ∷ ds) = AllByRecursion (λ e. d.seq < e.seq) ds × IsRising ds
+
+-- what the type of a snapshot keeps of its dependencies
+pub record IsSet (deps : List Dep) : Type 0 where
+  pub rising : IsRising deps
+  pub few : length deps ≤ 15
 
 -- into a list that rises by seq
 abbrev pub insert_dep : Dep → List Dep → List Dep

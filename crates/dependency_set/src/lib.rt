@@ -2,5 +2,7 @@
 #![tactic(auto)]
 
 pub mod names;
+pub mod snaps;
 
 pub use names::{Dep, Deps};
+pub use snaps::{OwnSnap, Snap, accept_final, accept_local, holds, oldest};

@@ -11,3 +11,4 @@ mod Runs
 mod Sound
 mod Steps
 pub mod TextLines
+pub mod Mapped

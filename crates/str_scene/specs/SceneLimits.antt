@@ -1,4 +1,5 @@
 -- What the type of a scene keeps: its limits, and that all that it names exists.
+pub use Rattle.partition_map.specs.Maps.{Exists, IsRow}
 use Rattle.std.specs.List.{count_by, list_all, sum_by}
 use Rattle.std.specs.Prelude.{Bool, List, None, Option, Some, [], false, flat_map, if◌then◌else◌, length, nat_le, nat_lt, negsuc, pos, slice_get, true, ℕ, ℤ, ⊤, ◌&&◌, ◌+◌, ◌<◌, ◌==◌, ◌^◌, ◌||◌, ◌∷◌, ◌≡◌, ◌≤◌, ◌⊎◌}
 use Rattle.str_base.specs.declared.names.KeyId.{KeyId}
@@ -10,17 +11,6 @@ use Rattle.str_scene.specs.declared.names.Op.{Op}
 use Rattle.str_scene.specs.declared.names.Op.TheVariants.{Abort, Add, Del, Get, Need, Put, Puts}
 use Rattle.str_base.specs.Versions.{same_node}
 use Rattle.str_scene.specs.Scenes.{KeyTable, Scene, Session}
-
--- a number from 1 to the last
-abbrev pub Exists : ℕ → ℕ → Type 0
-Exists n last = (1 ≤ n) × (n ≤ last)
-
--- a partition's row: nodes of the scene, one at least, none twice
-pub record IsRow (nodes : ℕ) (row : List NodeId) : Type 0 where
-  pub some : 1 ≤ length row
-  pub few : length row ≤ 8
-  pub exist : (i : ℕ) (n : NodeId) → slice_get row i ≡ Some n → Exists n.0 nodes
-  pub distinct : (i j : ℕ) (n : NodeId) → slice_get row i ≡ Some n → slice_get row j ≡ Some n → i ≡ j
 
 -- a letter from a to z
 abbrev pub is_letter : ℕ → Bool

@@ -1,7 +1,8 @@
 -- What is fixed in a run: nodes, replicas, keys, scripts and the schedule.
-use Rattle.std.specs.List.{list_any, range_with_len}
-use Rattle.std.specs.Prelude.{Bool, List, None, Option, Some, [], false, filter, flat_map, length, map, not, slice_get, suc, zero, ℕ, ◌∷◌}
+pub use Rattle.partition_map.specs.Maps.{first_or, leads, nth, or_none, others, unasked}
+use Rattle.std.specs.Prelude.{Bool, List, None, Option, Some, [], map, slice_get, ℕ}
 use Rattle.partition_map.specs.declared.rows.Asked.{Asked}
+use Rattle.partition_map.specs.Maps.{PartitionMap, has_node, numbered, participants_by, row_at, written}
 use Rattle.str_scene.specs.declared.names.Event.{Event}
 use Rattle.str_base.specs.declared.names.KeyId.{KeyId}
 use Rattle.str_base.specs.declared.names.NodeId.{NodeId}
@@ -9,7 +10,7 @@ use Rattle.str_scene.specs.declared.names.Op.{Op}
 use Rattle.str_base.specs.declared.names.PartId.{PartId}
 use Rattle.str_scene.specs.declared.names.TxPlace.{TxPlace}
 use Rattle.str_base.specs.declared.names.Write.{Write}
-use Rattle.str_base.specs.Versions.{same_node, same_part}
+use Rattle.str_base.specs.Versions.{same_part}
 
 -- a session's node and its scripts
 pub record Session : Type 0 where
@@ -36,33 +37,13 @@ pub record Here : Type 0 where
   pub scene : Scene
   pub node : NodeId
 
--- the i-th of a list, counted from 1
-abbrev pub nth : {X : Type 0} → List X → ℕ → Option X
-nth xs zero = None
-nth xs (suc i) = slice_get xs i
-
--- the list, empty where there is none
-abbrev pub or_none : {X : Type 0} → Option (List X) → List X
-or_none None = []
-or_none (Some xs) = xs
-
 -- the replicas of a partition; the first one is its master
 abbrev pub replicas : Scene → PartId → List NodeId
-replicas scene p = or_none (nth scene.parts p.0)
+replicas scene p = row_at scene.parts p
 
 -- the node is a replica of the partition
 abbrev pub hosts : Scene → NodeId → PartId → Bool
-hosts scene n p = list_any (λ r. same_node r n) (replicas scene p)
-
--- the first node of a row
-abbrev pub first_or : NodeId → List NodeId → NodeId
-first_or n [] = n
-first_or n (r ∷ rs) = r
-
--- the node is the first of the row
-abbrev pub leads : NodeId → List NodeId → Bool
-leads n [] = false
-leads n (r ∷ rs) = same_node r n
+hosts scene n p = has_node n (replicas scene p)
 
 -- the node is the partition's master
 abbrev pub is_master : Scene → NodeId → PartId → Bool
@@ -87,24 +68,19 @@ in_part scene p w = same_part (part_of scene w.key) p
 
 -- the partitions upwards
 abbrev pub all_parts : Scene → List PartId
-all_parts scene = map (λ n. record { 0 = n }) (range_with_len 1 (length scene.parts))
+all_parts scene = numbered scene.parts
 
 -- the partitions of these writes, upwards
 abbrev pub written_parts : Scene → List Write → List PartId
-written_parts scene ws = filter (λ p. list_any (in_part scene p) ws) (all_parts scene)
-
--- the nodes but this one
-abbrev pub others : NodeId → List NodeId → List NodeId
-others n rs = filter (λ r. not (same_node r n)) rs
-
--- a participant that is not asked
-abbrev pub unasked : PartId → NodeId → Asked
-unasked p n = record { part = p; node = n; asked = false; ack = None }
+written_parts scene ws = written (part_of scene) scene.parts ws
 
 -- the written partitions upwards, and for each its replicas in map order without the origin
 abbrev pub participants : Scene → NodeId → List Write → List Asked
-participants scene origin ws =
-    flat_map (λ p. map (unasked p) (others origin (replicas scene p))) (written_parts scene ws)
+participants scene origin ws = participants_by (part_of scene) scene.parts origin ws
+
+-- the partition map of a scene
+abbrev pub map_of : Scene → PartitionMap
+map_of scene = record { rows = scene.parts; keys = map (λ k. k.1) scene.keys.names }
 
 -- the i-th script of a session
 abbrev pub ops_at : Option Session → ℕ → List Op
