@@ -1,8 +1,8 @@
 -- What holds of each version of a list.
-use Rattle.std.proofs.Common.{Bool, List, [], arith, false, filter, if◌then◌else◌, length, map, refl, suc, take, true, zero, ℕ, ◌<◌, ◌∷◌, ◌≡◌}
+use Rattle.std.proofs.Common.{Bool, List, [], arith, false, filter, if◌then◌else◌, length, map, not, refl, suc, take, true, zero, ℕ, ◌<◌, ◌∷◌, ◌≡◌}
 use Rattle.std.specs.List.{slice_index_or}
 use Rattle.str_base.specs.declared.names.Version.{Version}
-use Rattle.str_base.specs.Versions.{insert_all, insert_version, is_before}
+use Rattle.str_base.specs.Versions.{finalise, insert_all, insert_version, is_before, settled, without}
 use Rattle.version_chain.specs.ChainLists.{Each}
 
 -- what follows from what holds of each
@@ -65,3 +65,9 @@ each_front P [] zero e = tt
 each_front P [] (suc n) e = tt
 each_front P (v ∷ vs) zero e = tt
 each_front P (v ∷ vs) (suc n) e = (e.0, each_front P vs n e.1)
+
+-- what a commit keeps of each
+pub each_finalise : (P : Version → Type 0) (test : Version → Bool) (fc : ℕ) (vs : List Version) → ((v : Version) → P v → P (settled fc v)) → Each P vs → Each P (finalise test fc vs)
+each_finalise P test fc vs f e =
+    each_insert_all P (map (settled fc) (filter test vs)) (without test vs)
+    (each_map (settled fc) P (filter test vs) (each_so P (λ v. P (settled fc v)) (filter test vs) f (each_kept test P vs e))) (each_kept (λ v. not (test v)) P vs e)
