@@ -1,0 +1,192 @@
+//! The versions of the partitions that a node hosts.
+ghost use Rattle.std.specs.Prelude.{◌≡◌, ◌<◌, ◌≤◌, ◌+◌, [], OnErr, OnOk, slice_get};
+ghost use Rattle.str_base.specs.Versions.{chain, finalise, insert_version, newest, of_pair, visible, without};
+ghost use Rattle.version_chain.specs.ChainLists.{Apart, Each, is_among, last_held};
+ghost use Rattle.replica_store.specs.StoreLists.{IsStore, LiesIn, StaysHere};
+
+use std::alloc::{AllocError, Global};
+use std::marker::{Model, Send, Sync};
+use str_base::{KeyId, NodeId, PartId, ShortList, Ts, TxId, Version};
+use version_chain::Chains;
+
+/// The versions of the partitions that a node hosts. They are seen as the node, its partitions, the versions in order and
+/// the number `spare` of those that still have room.
+#[derive(Drop)]
+pub struct ReplicaStore {
+    node: NodeId,
+    hosted: ShortList<PartId, 32>,
+    chains: Chains,
+}
+
+impl Model for ReplicaStore {
+    ghost use Rattle.version_chain.specs.ChainLists.{Each, IsOrdered};
+    ghost use Rattle.replica_store.specs.StoreLists.{LiesIn, StoreList};
+
+    ghost Value = { StoreList };
+
+    ghost view = { λ s. record { node = s.node; hosted = s.hosted; versions = s.chains.versions; spare = s.chains.spare } };
+
+    ghost invariant = { λ s. IsOrdered s.chains.versions × Each (LiesIn s.hosted) s.chains.versions };
+}
+
+impl ReplicaStore {
+    /// No versions, at this node with these partitions.
+    pub fn new(alloc: Global, node: NodeId, hosted: ShortList<PartId, 32>) -> ReplicaStore
+        ensures node { result.node ≡ node }
+        ensures hosted { result.hosted ≡ hosted }
+        ensures versions { result.versions ≡ [] }
+    {
+        ReplicaStore {
+            node,
+            hosted,
+            chains: Chains::new(alloc),
+        }
+    }
+
+    /// The node.
+    pub fn node(&self) -> NodeId
+        ensures value { result ≡ self.now.node }
+        ensures kept { IsStore self.now }
+    {
+        let _ = &self.chains;
+        self.node
+    }
+
+    /// Whether the node hosts a partition.
+    pub fn hosts(&self, part: PartId) -> bool
+        ensures value { result ≡ is_among self.now.hosted part }
+        ensures kept { IsStore self.now }
+    {
+        for hosted in self.hosted.as_slice() {
+            if *hosted == part {
+                return true;
+            }
+        }
+        false
+    }
+
+    /// Makes room for `n` more versions at least. After an error all is as before.
+    pub fn reserve(&mut self, n: usize) -> Result<(), AllocError>
+        ensures here { StaysHere self.old self.new }
+        ensures versions { self.new.versions ≡ self.old.versions }
+        ensures room { OnOk result (n ≤ self.new.spare) }
+        ensures kept { self.old.spare ≤ self.new.spare }
+        ensures err { OnErr result (self.new ≡ self.old) }
+    {
+        self.chains.reserve(n)
+    }
+
+    /// Puts a version in its place. There is room, its partition is hosted, and there is no version of its key by its
+    /// transaction.
+    pub fn insert(&mut self, version: Version)
+        requires room { 0 < self.old.spare }
+        requires other { Each (Apart version) self.old.versions }
+        requires hosted { LiesIn self.old.hosted version }
+        ensures here { StaysHere self.old self.new }
+        ensures versions { self.new.versions ≡ insert_version version self.old.versions }
+        ensures spare { self.old.spare ≤ self.new.spare + 1 }
+        ensures kept { IsStore self.old × IsStore self.new }
+    {
+        self.chains.insert(version);
+    }
+
+    /// Makes each version of a transaction in a partition Final at `fc`. It takes no memory.
+    pub fn finalise(&mut self, tx: TxId, part: PartId, fc: Ts)
+        ensures here { StaysHere self.old self.new }
+        ensures versions { self.new.versions ≡ finalise (of_pair tx part) fc.0 self.old.versions }
+        ensures spare { self.old.spare ≤ self.new.spare }
+        ensures kept { IsStore self.old × IsStore self.new }
+    {
+        self.chains.finalise(tx, part, fc);
+    }
+
+    /// Takes the versions of a transaction in a partition out.
+    pub fn remove(&mut self, tx: TxId, part: PartId)
+        ensures here { StaysHere self.old self.new }
+        ensures versions { self.new.versions ≡ without (of_pair tx part) self.old.versions }
+        ensures spare { self.old.spare ≤ self.new.spare }
+        ensures kept { IsStore self.old × IsStore self.new }
+    {
+        self.chains.remove(tx, part);
+    }
+
+    /// The greatest timestamp of a key's versions, 0 where there is none.
+    pub fn newest(&self, key: KeyId) -> Ts
+        ensures value { result.0 ≡ newest self.now.versions key }
+        ensures kept { IsStore self.now }
+    {
+        self.chains.newest(key)
+    }
+
+    /// The last version of a key at or below `rs`.
+    pub fn visible(&self, key: KeyId, rs: Ts) -> Option<Version>
+        ensures value { result ≡ visible self.now.versions key rs.0 }
+        ensures kept { IsStore self.now }
+    {
+        self.chains.visible(key, rs)
+    }
+
+    /// The last Pre version, or with the flag Pre or Local version, of a key at or below `rs`.
+    pub fn undecided(&self, key: KeyId, rs: Ts, with_local: bool) -> Option<Version>
+        ensures value { result ≡ last_held with_local self.now.versions key rs.0 }
+        ensures kept { IsStore self.now }
+    {
+        self.chains.undecided(key, rs, with_local)
+    }
+
+    /// The `i`-th version of a key from 0.
+    pub fn at(&self, key: KeyId, i: usize) -> Option<Version>
+        ensures value { result ≡ slice_get (chain key self.now.versions) i }
+        ensures kept { IsStore self.now }
+    {
+        self.chains.at(key, i)
+    }
+}
+
+fn sendable<T: Send + Sync>(_: &T) {}
+
+fn all_sendable(store: &ReplicaStore) {
+    sendable(store);
+}
+
+#[cfg(test)]
+mod tests {
+    use super::*;
+    use std::test::Fail;
+    use str_base::{Kind, Value};
+
+    #[test]
+    fn versions_of_hosted_partitions(rt: HostRuntime) -> Result<(), Fail> {
+        let mut hosted = ShortList::new();
+        hosted.push(PartId(3));
+        let mut store = ReplicaStore::new(rt.alloc(), NodeId(1), hosted);
+        assert!(rt; store.hosts(PartId(3)) && !store.hosts(PartId(1)));
+        assert_eq!(rt; store.node(), NodeId(1));
+        store.reserve(2)?;
+        let tx = TxId {
+            node: NodeId(2),
+            seq: 5,
+        };
+        let version = Version {
+            key: KeyId(7),
+            part: PartId(3),
+            tx,
+            ts: Ts(11),
+            value: Value::Absent,
+            kind: Kind::Pre,
+        };
+        store.insert(version);
+        store.insert(Version {
+            key: KeyId(2),
+            ..version
+        });
+        assert!(rt; store.undecided(KeyId(2), Ts(11), false).is_some());
+        store.finalise(tx, PartId(3), Ts(13));
+        assert!(rt; store.undecided(KeyId(2), Ts(20), true).is_none());
+        assert!(rt; store.visible(KeyId(7), Ts(12)).is_none());
+        assert_eq!(rt; store.newest(KeyId(7)), Ts(13));
+        store.remove(tx, PartId(3));
+        assert!(rt; store.at(KeyId(7), 0).is_none());
+        Ok(())
+    }
+}
