@@ -22,12 +22,12 @@ use Rattle.str_model.specs.declared.messages.Input.TheVariants.{Deliver}
 use Rattle.str_model.specs.declared.messages.Message.{Message}
 use Rattle.str_model.specs.declared.messages.Waiter.{Waiter}
 use Rattle.str_model.specs.declared.messages.Waiter.TheVariants.{Held, Read}
-use Rattle.str_model.specs.Acts.{abort_came, aborted, accepted, acked, asked, begun, certified, closed, commit_came, committed, in_phase, marked, pre_version, refused, replied, requested, taken, waits, with_waiters}
+use Rattle.str_model.specs.Acts.{abort_came, aborted, accepted, acked, asked, begun, certified, closed, commit_came, committed, in_phase, marked, refused, replied, requested, taken, waits, with_waiters}
 use Rattle.str_model.specs.Clients.{last_index, of_session}
 use Rattle.str_model.specs.Gates.{Ask, CommitAt, gate_of}
 use Rattle.str_model.specs.Proposals.{Accept, Refuse, is_known, is_parked, master_turn, proposed, ts_limit}
 use Rattle.str_model.specs.Returns.{with_ack}
-use Rattle.str_scene.specs.Scenes.{Here, Session, nth}
+use Rattle.str_scene.specs.Scenes.{Here, Session, is_master, nth}
 use Rattle.dependency_set.specs.Snapshots.{Snap}
 use Rattle.str_model.specs.Steps.{decides, drop_held}
 use Rattle.str_model.specs.Strange.{is_valid}
@@ -35,7 +35,6 @@ use Rattle.str_model.specs.Turns.{Certified, Conflict, Give, Late, Lost, cert_tu
 use Rattle.str_base.specs.Versions.{same_node, stamp}
 use Rattle.str_model.specs.Views.{Closing, Doing, Global, Own, Remote, View, is_decided, lc_of, put}
 use Rattle.str_model.proofs.Gaining.{Extends}
-use Rattle.str_model.proofs.Members.{In}
 
 -- where in a step a change is made: in the rule, in the turn of the i-th own transaction, or among those who wait
 pub data Where : Type 0 where
@@ -64,6 +63,12 @@ pub record GoesOn (v : View) (x y : Own) : Type 0 where
   pub snap : Extends v x.snap y.snap
   pub same_lc : lc_of y.phase ≡ lc_of x.phase
 
+-- it is put back as one that goes on: its participants stay, and once it is certified its writes and its phase too
+pub record PutsOn (v : View) (x y : Own) : Type 0 where
+  pub goes : GoesOn v x y
+  pub same_parts : y.parts ≡ x.parts
+  pub kept : (lc : ℕ) → lc_of x.phase ≡ Some lc → (y.writes ≡ x.writes) × (y.phase ≡ x.phase)
+
 -- why a transaction aborts
 pub data Why (here : Here) (input : Input) (d : Doing) (i : ℕ) (x : Own) : Cause → Type 0 where
   by_script : Why here input d i x Wish
@@ -73,23 +78,38 @@ pub data Why (here : Here) (input : Input) (d : Doing) (i : ℕ) (x : Own) : Cau
   by_eviction : (from : NodeId) (a : Arrived) (w : Write) → Comes here input from (Replicate a.tx a.part a.rs a.lc a.writes) → Why here input d i x (ByConflict a.tx w.key here.node)
   by_refusal : (from : NodeId) (t : TxId) (p : PartId) (u : TxId) (k : KeyId) → Comes here input from (Refusal t p u k) → Why here input d i x (ByConflict u k from)
 
+-- this node is the partition's master, and not the transaction's origin
+pub record IsMasters (here : Here) (a : Arrived) : Type 0 where
+  pub master : is_master here.scene here.node a.part ≡ true
+  pub foreign : same_node a.tx.node here.node ≡ false
+
 -- a Prepare is here: it comes for the first time, or it is held
 pub data IsHere (here : Here) (input : Input) (d : Doing) (a : Arrived) : Type 0 where
   it_comes : (from : NodeId) → Comes here input from (Prepare a.tx a.part a.rs a.lc a.writes) → is_known d.view a.tx a.part ≡ false → is_parked d.view a.tx a.part ≡ false
-      → IsHere here input d a
+      → IsMasters here a → IsHere here input d a
   it_waits : (kept rest : List Waiter) → d.view.waiters ≡ kept ++ Held a ∷ rest → IsHere here input d a
+
+-- who still waits once it is judged: one who was held leaves
+abbrev pub left_waiting : {here : Here} {input : Input} {d : Doing} {a : Arrived} → IsHere here input d a → List Waiter
+left_waiting {d = d} (it_comes from c u z m) = d.view.waiters
+left_waiting (it_waits kept rest q) = kept ++ rest
+
+-- a slave takes what its master sends on: the pair is new here, and its timestamp is below the limit
+pub record Takes (here : Here) (d : Doing) (a : Arrived) : Type 0 where
+  pub below : nat_lt (proposed d.view a) ts_limit ≡ true
+  pub unknown : is_known d.view a.tx a.part ≡ false
+  pub slave : is_master here.scene here.node a.part ≡ false
+  pub foreign : same_node a.tx.node here.node ≡ false
 
 -- one who begins to wait has just come
 pub data Arrives (here : Here) (input : Input) (d : Doing) : Waiter → Type 0 where
   a_read : (from : NodeId) (tx : TxId) (k : KeyId) (rs : Ts) → Comes here input from (ReadReq tx k rs) → Arrives here input d (Read tx k rs)
   a_prepare : (from : NodeId) (a : Arrived) → Comes here input from (Prepare a.tx a.part a.rs a.lc a.writes) → is_known d.view a.tx a.part ≡ false → is_parked d.view a.tx a.part ≡ false
-      → Arrives here input d (Held a)
+      → IsMasters here a → Arrives here input d (Held a)
 
--- one who has waited is answered: a read by its reply, a parked Prepare by a refusal or by the versions that it asked for
+-- a read that has waited is answered by its reply; a parked Prepare leaves where it is judged
 pub data Served (v : View) : Waiter → Type 0 where
   s_read : (tx : TxId) (k : KeyId) (rs : Ts) → Served v (Read tx k rs)
-  s_refused : (a : Arrived) → In (a.tx, a.part) v.done → Served v (Held a)
-  s_accepted : (a : Arrived) (ts : ℕ) → ((w : Write) → In w a.writes → In (pre_version a ts w) v.versions) → Served v (Held a)
 
 -- one who is answered waits no more
 pub record Leaves (v : View) (kept rest : List Waiter) (r : Waiter) : Type 0 where
@@ -115,8 +135,8 @@ pub record Begins (here : Here) (place : TxPlace) (rs : ℕ) (d : Doing) : Type 
 pub data Act (here : Here) (input : Input) (w : Where) : Doing → Doing → Type 0 where
   act_begin : (place : TxPlace) (rs : ℕ) (d : Doing) → w ≡ InRule → Begins here place rs d → Act here input w d (begun place rs d)
   act_mark : (k : KeyId) (t : ℕ) (d : Doing) → Act here input w d (marked k t d)
-  act_put : (i : ℕ) (x y : Own) (d : Doing) → IsOwn w d i x → GoesOn d.view x y → Act here input w d (put i y d)
-  act_request : (i : ℕ) (k : KeyId) (master : NodeId) (x : Own) (d : Doing) → IsOwn w d i x → GoesOn d.view x (in_phase (Remote k) x) → Act here input w d (requested here i k master x d)
+  act_put : (i : ℕ) (x y : Own) (d : Doing) → IsOwn w d i x → PutsOn d.view x y → Act here input w d (put i y d)
+  act_request : (i : ℕ) (k : KeyId) (master : NodeId) (x : Own) (d : Doing) → IsOwn w d i x → PutsOn d.view x (in_phase (Remote k) x) → Act here input w d (requested here i k master x d)
   act_certify : (i lc : ℕ) (snap : Snap) (x : Own) (d : Doing) → IsOwn w d i x → is_decided x.phase ≡ false → lc_of x.phase ≡ None
       → cert_turn here d.view x.snap x.writes ≡ Certified lc snap → Act here input w d (certified here i lc snap x d)
   act_ask : (i lc : ℕ) (p : PartId) (x : Own) (d : Doing) → IsOwn w d i x → is_decided x.phase ≡ false → lc_of x.phase ≡ Some lc
@@ -128,11 +148,12 @@ pub data Act (here : Here) (input : Input) (w : Where) : Doing → Doing → Typ
   act_commit : (i lc fc : ℕ) (x : Own) (d : Doing) → IsOwn w d i x → lc_of x.phase ≡ Some lc → x.snap.deps ≡ [] → lc ≤ fc
       → is_decided x.phase ≡ false → gate_of here d.view lc x ≡ CommitAt fc → Act here input w d (committed here i lc fc x d)
   act_close : (i : ℕ) (x : Own) (d : Doing) → IsOwn w d i x → x.phase ≡ Closing false → x.snap.deps ≡ [] → Act here input w d (closed here i x d)
-  act_accept : (a : Arrived) (ts : ℕ) (d : Doing) → IsHere here input d a → master_turn d.view a ≡ Accept ts → Act here input w d (accepted here a ts d)
-  act_refuse : (a : Arrived) (by : TxId) (k : KeyId) (d : Doing) → IsHere here input d a → master_turn d.view a ≡ Refuse by k
-      → Act here input w d (refused here a by k d)
+  act_accept : (a : Arrived) (ts : ℕ) (d : Doing) (h : IsHere here input d a) → master_turn d.view a ≡ Accept ts
+      → Act here input w d (accepted here a ts (with_waiters (left_waiting h) d))
+  act_refuse : (a : Arrived) (by : TxId) (k : KeyId) (d : Doing) (h : IsHere here input d a) → master_turn d.view a ≡ Refuse by k
+      → Act here input w d (refused here a by k (with_waiters (left_waiting h) d))
   act_take : (from : NodeId) (a : Arrived) (d : Doing) → Comes here input from (Replicate a.tx a.part a.rs a.lc a.writes)
-      → nat_lt (proposed d.view a) ts_limit ≡ true → Act here input w d (taken here a (proposed d.view a) d)
+      → Takes here d a → Act here input w d (taken here a (proposed d.view a) d)
   act_wait : (r : Waiter) (d : Doing) → Arrives here input d r → Act here input w d (waits r d)
   act_unwait : (kept rest : List Waiter) (r : Waiter) (d : Doing) → Leaves d.view kept rest r → Act here input w d (with_waiters (kept ++ rest) d)
   act_reply : (tx : TxId) (k : KeyId) (rs : ℕ) (v : Value) (by : Option TxId) (fc : ℕ) (d : Doing) → serve_turn d.view.versions k rs ≡ Give v by fc

@@ -23,7 +23,7 @@ use Rattle.dependency_set.specs.Snapshots.{Snap}
 use Rattle.str_model.specs.Turns.{Away, CertTurn, Certified, Conflict, DepTurn, Keep, Late, Lost, Plain, ReadTurn, Speculative, Wait, WaitGate, cert_turn, dep_turn, greatest, read_turn}
 use Rattle.str_model.specs.Turns
 use Rattle.str_model.specs.Views.{CertWait, Closing, Doing, Own, Phase, ReadWait, Remote, View, is_decided, lc_of, put}
-use Rattle.str_model.proofs.Acting.{GoesOn, IsOwn, Path, Touches, Where, act_abort, act_certify, act_mark, act_put, act_request, and_then, by_certification, by_script, one, stay}
+use Rattle.str_model.proofs.Acting.{IsMasters, IsOwn, Path, PutsOn, Touches, Where, act_abort, act_certify, act_mark, act_put, act_request, and_then, by_certification, by_script, one, stay}
 use Rattle.str_model.proofs.Gaining.{Extends, Gains, TurnGood, extends_self, gains_it, gains_of, if_elim, read_turn-good}
 use Rattle.str_model.proofs.Members.{In}
 
@@ -37,10 +37,11 @@ nor_right false true e = absurd cc
 nor_right false false e = refl
 
 -- a Prepare that is judged is new at its master
-pub record IsFresh (d : Doing) (a : Arrived) (turn : MasterTurn) : Type 0 where
+pub record IsFresh (here : Here) (d : Doing) (a : Arrived) (turn : MasterTurn) : Type 0 where
   pub is : master_turn d.view a ≡ turn
   pub unknown : Proposals.is_known d.view a.tx a.part ≡ false
   pub unparked : Proposals.is_parked d.view a.tx a.part ≡ false
+  pub mine : IsMasters here a
 
 -- a gate that commits has no dependency left, and commits at or above the local commit timestamp
 pub gate_commits : (snap : Snap) (lc : ℕ) (parts : List Asked) (wrote : List DepParts) (fc : ℕ) → gate_turn snap lc parts wrote ≡ CommitAt fc → (snap.deps ≡ []) × (lc ≤ fc)
@@ -61,19 +62,30 @@ gate_commits snap lc parts wrote fc e = by_ask (find (Gates.may_ask wrote) parts
 
 -- ---- scripts
 
-pub finish-goes : (u : View) (op : Op) (v : Value) (x y : Own) → GoesOn u x y → lc_of y.phase ≡ None → GoesOn u x (finish op v y)
-finish-goes u (Get k) v x y g n = record { was_open = g.was_open; is_open = refl; same_place = g.same_place; snap = g.snap; same_lc = sym n ∙ g.same_lc }
-finish-goes u (Put k m) v x y g n = record { was_open = g.was_open; is_open = refl; same_place = g.same_place; snap = g.snap; same_lc = sym n ∙ g.same_lc }
-finish-goes u (Puts k t) v x y g n = record { was_open = g.was_open; is_open = refl; same_place = g.same_place; snap = g.snap; same_lc = sym n ∙ g.same_lc }
-finish-goes u (Add k m) v x y g n = record { was_open = g.was_open; is_open = refl; same_place = g.same_place; snap = g.snap; same_lc = sym n ∙ g.same_lc }
-finish-goes u (Del k) v x y g n = record { was_open = g.was_open; is_open = refl; same_place = g.same_place; snap = g.snap; same_lc = sym n ∙ g.same_lc }
+-- one who was not certified stays so
+no_lc-kept : (x y : Own) → lc_of x.phase ≡ None → (lc : ℕ) → lc_of x.phase ≡ Some lc → (y.writes ≡ x.writes) × (y.phase ≡ x.phase)
+no_lc-kept x y n lc e = absurd (cc (n, e))
+
+put_free : (u : View) (x z : Own) {y : Own} → PutsOn u x y → lc_of y.phase ≡ None → is_decided z.phase ≡ false → lc_of z.phase ≡ None → z.place ≡ y.place → z.snap ≡ y.snap → z.parts ≡ y.parts
+    → PutsOn u x z
+put_free u x z g n o l p s q =
+    record {
+      goes = record { was_open = g.goes.was_open; is_open = o; same_place = p ∙ g.goes.same_place; snap = subst (Extends u x.snap) (sym s) g.goes.snap; same_lc = l ∙ (sym n ∙ g.goes.same_lc) };
+      same_parts = q ∙ g.same_parts;
+      kept = no_lc-kept x z (sym g.goes.same_lc ∙ n);
+    }
+
+pub finish-goes : (u : View) (op : Op) (v : Value) (x y : Own) → PutsOn u x y → lc_of y.phase ≡ None → PutsOn u x (finish op v y)
+finish-goes u (Get k) v x y g n = put_free u x _ g n refl refl refl refl refl
+finish-goes u (Put k m) v x y g n = put_free u x _ g n refl refl refl refl refl
+finish-goes u (Puts k t) v x y g n = put_free u x _ g n refl refl refl refl refl
+finish-goes u (Add k m) v x y g n = put_free u x _ g n refl refl refl refl refl
+finish-goes u (Del k) v x y g n = put_free u x _ g n refl refl refl refl refl
 finish-goes u (Need k m) v x y g n =
-    if_elim (GoesOn u x) _ _ _
-    (λ e. record { was_open = g.was_open; is_open = refl; same_place = g.same_place; snap = g.snap; same_lc = sym n ∙ g.same_lc })
-    (λ e. record { was_open = g.was_open; is_open = refl; same_place = g.same_place; snap = g.snap; same_lc = sym n ∙ g.same_lc })
+    if_elim (PutsOn u x) _ _ _ (λ e. put_free u x _ g n refl refl refl refl refl) (λ e. put_free u x _ g n refl refl refl refl refl)
 finish-goes u Stop v x y g n = g
 
-pub finish_next-goes : (u : View) (o : Option Op) (v : Value) (x y : Own) → GoesOn u x y → lc_of y.phase ≡ None → GoesOn u x (finish_next o v y)
+pub finish_next-goes : (u : View) (o : Option Op) (v : Value) (x y : Own) → PutsOn u x y → lc_of y.phase ≡ None → PutsOn u x (finish_next o v y)
 finish_next-goes u None v x y g n = g
 finish_next-goes u (Some op) v x y g n = finish-goes u op v x y g n
 
@@ -86,8 +98,13 @@ pub record IsFree (w : Where) (d : Doing) (i : ℕ) (x : Own) : Type 0 where
 pub free_at : (w : Where) (d : Doing) (i : ℕ) (x : Own) (p : Phase) → IsOwn w d i x → x.phase ≡ p → is_decided p ≡ false → lc_of p ≡ None → IsFree w d i x
 free_at w d i x p own e o n = record { own = own; open_ = ap is_decided e ∙ o; no_lc = ap lc_of e ∙ n }
 
-pub phase-goes : (w : Where) (d : Doing) (i : ℕ) (x : Own) (p : Phase) → IsFree w d i x → is_decided p ≡ false → lc_of p ≡ None → GoesOn d.view x (in_phase p x)
-phase-goes w d i x p f o n = record { was_open = f.open_; is_open = o; same_place = refl; snap = extends_self d.view x.snap; same_lc = n ∙ sym f.no_lc }
+pub phase-goes : (w : Where) (d : Doing) (i : ℕ) (x : Own) (p : Phase) → IsFree w d i x → is_decided p ≡ false → lc_of p ≡ None → PutsOn d.view x (in_phase p x)
+phase-goes w d i x p f o n =
+    record {
+      goes = record { was_open = f.open_; is_open = o; same_place = refl; snap = extends_self d.view x.snap; same_lc = n ∙ sym f.no_lc };
+      same_parts = refl;
+      kept = no_lc-kept x (in_phase p x) f.no_lc;
+    }
 
 pub free_marked : (w : Where) (k : KeyId) (t : ℕ) (d : Doing) (i : ℕ) (x : Own) → IsFree w d i x → IsFree w (marked k t d) i x
 unfolding marked
@@ -142,7 +159,7 @@ module _ (here : Here) (input : Input) (w : Where) where
   pub with_value-path : (i : ℕ) (k : KeyId) (v : Value) (by : Option TxId) (snap : Snap) (x : Own) (d : Doing)
       → IsFree w d i x → Extends d.view x.snap snap → Path here input w d (with_value here i k v by snap x d)
   with_value-path i k v by snap x d f e =
-      one (act_put i x _ d f.own (finish_next-goes d.view (own_op here x) v x (noted k v by snap x) (record { was_open = f.open_; is_open = f.open_; same_place = refl; snap = e; same_lc = refl }) f.no_lc))
+      one (act_put i x _ d f.own (finish_next-goes d.view (own_op here x) v x (noted k v by snap x) (record { goes = record { was_open = f.open_; is_open = f.open_; same_place = refl; snap = e; same_lc = refl }; same_parts = refl; kept = no_lc-kept x (noted k v by snap x) f.no_lc }) f.no_lc))
 
   pub read_done-path : (i : ℕ) (k : KeyId) (x : Own) (turn : ReadTurn) (d : Doing)
       → IsFree w d i x → TurnGood d.view x.snap turn → Path here input w d (read_done here i k x turn d)
@@ -169,7 +186,7 @@ module _ (here : Here) (input : Input) (w : Where) where
 
   pub finish-path : (i : ℕ) (op : Op) (v : Value) (x : Own) (d : Doing) → IsFree w d i x → Path here input w d (put i (finish op v x) d)
   finish-path i op v x d f =
-      one (act_put i x _ d f.own (finish-goes d.view op v x x (record { was_open = f.open_; is_open = f.open_; same_place = refl; snap = extends_self d.view x.snap; same_lc = refl }) f.no_lc))
+      one (act_put i x _ d f.own (finish-goes d.view op v x x (record { goes = record { was_open = f.open_; is_open = f.open_; same_place = refl; snap = extends_self d.view x.snap; same_lc = refl }; same_parts = refl; kept = no_lc-kept x x f.no_lc }) f.no_lc))
 
   pub need_value-path : (i : ℕ) (op : Op) (k : KeyId) (x : Own) (o : Option Value) (d : Doing) → IsFree w d i x → Path here input w d (need_value here i op k x o d)
   need_value-path i op k x (Some v) d f = finish-path i op v x d f

@@ -1,7 +1,8 @@
 -- The rule of each input is a path of single changes.
-use Rattle.std.proofs.Common.{List, None, Option, Some, ap, arith, false, length, nat_lt, not, refl, slice_get, sub-one, subst, suc, sym, true, zero, ℕ, ◌&&◌, ◌+◌, ◌-◌, ◌||◌, ◌≡◌, ◌≢◌}
+use Rattle.std.proofs.Common.{Bool, List, None, Option, Some, ap, arith, false, length, nat_lt, not, refl, slice_get, sub-one, subst, suc, sym, true, zero, ℕ, ◌&&◌, ◌+◌, ◌-◌, ◌||◌, ◌∷◌, ◌≡◌, ◌≢◌, []}
 use Rattle.std.specs.List.{list_any}
 use Rattle.partition_map.specs.declared.rows.Asked.{Asked}
+use Rattle.str_base.specs.declared.names.Cause.{Cause}
 use Rattle.str_base.specs.declared.names.Cause.TheVariants.{Conflict as ByConflict}
 use Rattle.str_base.specs.declared.names.KeyId.{KeyId}
 use Rattle.str_base.specs.declared.names.NodeId.{NodeId}
@@ -12,6 +13,7 @@ use Rattle.str_base.specs.declared.names.Ts.{Ts}
 use Rattle.str_base.specs.declared.names.TxId.{TxId}
 use Rattle.str_scene.specs.declared.names.TxPlace.{TxPlace}
 use Rattle.str_base.specs.declared.names.Value.{Value}
+use Rattle.str_base.specs.declared.names.Version.{Version}
 use Rattle.str_base.specs.declared.names.Write.{Write}
 use Rattle.str_model.specs.declared.messages.Arrived.{Arrived}
 use Rattle.str_model.specs.declared.messages.Body.{Body}
@@ -27,18 +29,43 @@ use Rattle.str_model.specs.Proposals.{Accept, Ignore, MasterTurn, Park, Refuse, 
 use Rattle.str_model.specs.Proposals
 use Rattle.str_model.specs.Returns.{has_asked, with_ack}
 use Rattle.str_model.specs.Returns
-use Rattle.str_scene.specs.Scenes.{Here, Session, hosts_key, is_master, nth}
+use Rattle.str_scene.specs.Scenes.{Here, Session, hosts, hosts_key, is_master, nth}
 use Rattle.str_model.specs.Scripts.{own_op}
 use Rattle.str_model.specs.Scripts
 use Rattle.str_model.specs.Steps.{decides, drop_held}
 use Rattle.str_model.specs.Steps
 use Rattle.str_model.specs.Strange
 use Rattle.str_model.specs.Turns.{Give, ServeTurn, ServeWait, serve_turn}
-use Rattle.str_base.specs.Versions.{same_key, same_node, stamp}
+use Rattle.str_base.specs.Versions.{of_pair, of_tx, same_key, same_node, stamp, without}
 use Rattle.str_model.specs.Views.{Aborted, Active, Committed, Doing, Global, Own, Phase, Remote, Reply, is_decided, name_of, put}
 use Rattle.str_model.proofs.Acting.{Arrives, Comes, InRule, IsOwn, NextPlace, Path, PathTo, Touches, Where, a_prepare, a_read, act_abort, act_abort_came, act_accept, act_ack, act_begin, act_commit_came, act_mark, act_put, act_refuse, act_reply, act_take, act_wait, and_then, by_eviction, by_refusal, is_first, is_next, it_comes, more, one, stay}
-use Rattle.str_model.proofs.Gaining.{and_right, if_elim}
+use Rattle.str_model.proofs.Gaining.{and_left, and_right, if_elim, or_false_right}
 use Rattle.str_model.proofs.Operating.{IsFresh, at_own-path, free_at, nor_left, nor_right, op_or_commit-path, phase-goes}
+
+not_is : (b : Bool) → not b ≡ true → b ≡ false
+not_is true e = absurd cc
+not_is false e = refl
+
+none_of_three : (a b c d : Bool) → (a && (not b && (not c && not d))) ≡ true → (b ≡ false) × (c ≡ false) × (d ≡ false)
+none_of_three false b c d e = absurd cc
+none_of_three true true c d e = absurd cc
+none_of_three true false true d e = absurd cc
+none_of_three true false false d e = (refl, refl, not_is d e)
+
+or_false_left : (a b : Bool) → (a || b) ≡ false → a ≡ false
+or_false_left true b e = absurd cc
+or_false_left false b e = refl
+
+fewer : (p test : Version → Bool) (vs : List Version) → list_any p vs ≡ false → list_any p (without test vs) ≡ false
+fewer p test [] e = refl
+fewer p test (v ∷ vs) e =
+    let rec : list_any p (without test vs) ≡ false = fewer p test vs (or_false_right (p v) (list_any p vs) e) in
+    if_elim (λ xs. list_any p xs ≡ false) (not (test v)) (v ∷ without test vs) (without test vs) (λ q. rw (or_false_left (p v) (list_any p vs) e) rec) (λ q. rec)
+
+-- what was not known is not known among fewer versions
+fewer-known : (p test : Version → Bool) (vs : List Version) (b : Bool) → (b || list_any p vs) ≡ false → (b || list_any p (without test vs)) ≡ false
+fewer-known p test vs true e = absurd cc
+fewer-known p test vs false e = fewer p test vs e
 
 module _ (here : Here) (input : Input) (w : Where) where
   module _ (is_rule : w ≡ InRule) where
@@ -126,20 +153,20 @@ module _ (here : Here) (input : Input) (w : Where) where
     read_reply-path tx k v by fc d = reply_own-path (tx.seq - 1) k v by fc (Returns.own_named here tx d) d (own_named-is tx d)
 
     master_done-path : (from : NodeId) (a : Arrived) (turn : MasterTurn) (d : Doing) → Comes here input from (Prepare a.tx a.part a.rs a.lc a.writes)
-        → (turn ≢ Ignore → IsFresh d a turn) → PathTo here input w d (Arrivals.master_done here a turn d)
-    master_done-path from a (Accept ts) d c e = let f = e (λ q. cc) in one (act_accept a ts d (it_comes from c f.unknown f.unparked) f.is)
-    master_done-path from a (Refuse u k) d c e = let f = e (λ q. cc) in one (act_refuse a u k d (it_comes from c f.unknown f.unparked) f.is)
-    master_done-path from a (Park u) d c e = let f = e (λ q. cc) in one (act_wait (Held a) d (a_prepare from a c f.unknown f.unparked))
+        → (turn ≢ Ignore → IsFresh here d a turn) → PathTo here input w d (Arrivals.master_done here a turn d)
+    master_done-path from a (Accept ts) d c e = let f = e (λ q. cc) in one (act_accept a ts d (it_comes from c f.unknown f.unparked f.mine) f.is)
+    master_done-path from a (Refuse u k) d c e = let f = e (λ q. cc) in one (act_refuse a u k d (it_comes from c f.unknown f.unparked f.mine) f.is)
+    master_done-path from a (Park u) d c e = let f = e (λ q. cc) in one (act_wait (Held a) d (a_prepare from a c f.unknown f.unparked f.mine))
     master_done-path from a Ignore d c e = tt
 
-    prepare_turn-is : (a : Arrived) (d : Doing) → prepare_turn here d.view a ≢ Ignore → IsFresh d a (prepare_turn here d.view a)
+    prepare_turn-is : (a : Arrived) (d : Doing) → prepare_turn here d.view a ≢ Ignore → IsFresh here d a (prepare_turn here d.view a)
     unfolding prepare_turn
     prepare_turn-is a d =
-        if_elim (λ t. t ≢ Ignore → IsFresh d a t)
+        if_elim (λ t. t ≢ Ignore → IsFresh here d a t)
         (is_master here.scene here.node a.part && (not (same_node a.tx.node here.node) && not (Proposals.is_known d.view a.tx a.part || Proposals.is_parked d.view a.tx a.part)))
         (master_turn d.view a) Ignore
         (λ e h. let n = and_right _ _ (and_right _ _ e) in
-        record { is = refl; unknown = nor_left (Proposals.is_known d.view a.tx a.part) (Proposals.is_parked d.view a.tx a.part) n; unparked = nor_right (Proposals.is_known d.view a.tx a.part) (Proposals.is_parked d.view a.tx a.part) n })
+        record { is = refl; unknown = nor_left (Proposals.is_known d.view a.tx a.part) (Proposals.is_parked d.view a.tx a.part) n; unparked = nor_right (Proposals.is_known d.view a.tx a.part) (Proposals.is_parked d.view a.tx a.part) n; mine = record { master = and_left _ _ e; foreign = not_is (same_node a.tx.node here.node) (and_left _ _ (and_right _ _ e)) } })
         (λ e h. absurd (h refl))
 
     prepare_rule-path : (from : NodeId) (a : Arrived) (d : Doing) → Comes here input from (Prepare a.tx a.part a.rs a.lc a.writes) → PathTo here input w d (Arrivals.prepare_rule here a d)
@@ -161,18 +188,44 @@ module _ (here : Here) (input : Input) (w : Where) where
         and_then d e (Scripts.at_own i (Arrivals.evict_own here a i) e) (evict-path a from i d c)
         (at_own-path here input w i (Arrivals.evict_own here a i) e (touch i) (λ x own f. evict_at-path a from i x (held_key e.view.versions (name_of here i) a.writes) e c own f))
 
+    -- an eviction makes no pair known
+    abbrev Unknown : Arrived → Doing → Type 0
+    Unknown a d = Proposals.is_known d.view a.tx a.part ≡ false
+
+    aborted-unknown : (a : Arrived) (i : ℕ) (cause : Cause) (x : Own) (d : Doing) → Unknown a d → Unknown a (aborted here i cause x d)
+    unfolding aborted
+    aborted-unknown a i cause x d h = fewer-known (of_pair a.tx a.part) (of_tx (name_of here i)) d.view.versions (Proposals.is_done d.view a.tx a.part) h
+
+    evict_at-unknown : (a : Arrived) (i : ℕ) (x : Own) (o : Option Write) (d : Doing) → Unknown a d → Unknown a (Arrivals.evict_at here a i x o d)
+    evict_at-unknown a i x None d h = h
+    evict_at-unknown a i x (Some w) d h = aborted-unknown a i (ByConflict a.tx w.key here.node) x d h
+
+    evict_own-unknown : (a : Arrived) (i : ℕ) (o : Option Own) (d : Doing) → Unknown a d → Unknown a (Scripts.of_own (Arrivals.evict_own here a i) o d)
+    evict_own-unknown a i None d h = h
+    evict_own-unknown a i (Some x) d h = by_phase (is_decided x.phase)
+      where
+        by_phase : (b : Bool) → Unknown a (Scripts.unless_decided b (Arrivals.evict_own here a i x) d)
+        by_phase true = h
+        by_phase false = evict_at-unknown a i x (held_key d.view.versions (name_of here i) a.writes) d h
+
+    evict-unknown : (a : Arrived) (n : ℕ) (d : Doing) → Unknown a d → Unknown a (Arrivals.evict here a n d)
+    evict-unknown a zero d h = h
+    evict-unknown a (suc i) d h =
+        let e : Doing = Arrivals.evict here a i d in evict_own-unknown a i (slice_get e.view.own i) e (evict-unknown a i d h)
+
     take_if-path : (a : Arrived) (from : NodeId) (d e : Doing) → Comes here input from (Replicate a.tx a.part a.rs a.lc a.writes)
-        → Path here input w d e → PathTo here input w d (Arrivals.take_if here a e)
-    take_if-path a from d e c p =
+        → Path here input w d e → Unknown a e → is_master here.scene here.node a.part ≡ false → same_node a.tx.node here.node ≡ false → PathTo here input w d (Arrivals.take_if here a e)
+    take_if-path a from d e c p u s f =
         if_elim (PathTo here input w d) (nat_lt (proposed e.view a) ts_limit) (Some (taken here a (proposed e.view a) e)) None
-        (λ h. more d e _ p (act_take from a e c h)) (λ h. tt)
+        (λ h. more d e _ p (act_take from a e c (record { below = h; unknown = u; slave = s; foreign = f }))) (λ h. tt)
 
     replicate_rule-path : (a : Arrived) (from : NodeId) (d : Doing) → Comes here input from (Replicate a.tx a.part a.rs a.lc a.writes)
         → PathTo here input w d (Arrivals.replicate_rule here a d)
-    unfolding Arrivals.replicate_rule
+    unfolding Arrivals.replicate_rule takes
     replicate_rule-path a from d c =
         if_elim (PathTo here input w d) (takes here d.view a) (Arrivals.take_if here a (Arrivals.evict here a (length d.view.own) d)) None
-        (λ h. take_if-path a from d (Arrivals.evict here a (length d.view.own) d) c (evict-path a from (length d.view.own) d c)) (λ h. tt)
+        (λ h. let n = none_of_three (hosts here.scene here.node a.part) (is_master here.scene here.node a.part) (same_node a.tx.node here.node) (Proposals.is_known d.view a.tx a.part) h in
+        take_if-path a from d (Arrivals.evict here a (length d.view.own) d) c (evict-path a from (length d.view.own) d c) (evict-unknown a (length d.view.own) d n.2) n.0 n.1) (λ h. tt)
 
     -- ---- answers of participants
 
