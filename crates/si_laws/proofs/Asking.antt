@@ -71,7 +71,7 @@ module _ (scene : Scene) (s : Stage) (i : ℕ) (v : View) (input : Input) (is : 
 
   placed_asked : (a : Arrived) → Placed (at_place scene i) input d a → HasAsked (s.sent ++ d.sent) a.tx a.part
   placed_asked a (by_master h) = here_asked a h
-  placed_asked a (by_slave from c) = seen_asks c.0 a c.1 (subst (Asks a.tx a.part) (sym c.3) (refl, refl))
+  placed_asked a (by_slave from c t) = seen_asks c.0 a c.1 (subst (Asks a.tx a.part) (sym c.3) (refl, refl))
 
   module _ (w : Where) (e : Doing) (act : Act (at_place scene i) input w d e) where
     new : SentStep (at_place scene i) input d e

@@ -16,4 +16,10 @@ pub mod SessionLaw
 pub mod SessionAnswers
 pub mod Stages
 pub mod Acks
+pub mod Turning
+pub mod Homes
+pub mod Pairs
+pub mod PairSteps
+pub mod Letters
+pub mod Linked
 pub mod WorkedLists

@@ -19,7 +19,7 @@ use Rattle.str_scene.specs.Scenes.{Here, first_or, in_part, leads, others, repli
 use Rattle.str_model.specs.Steps.{drop_held}
 use Rattle.str_base.specs.Versions.{finalise, insert_all, of_pair, of_tx, without}
 use Rattle.str_model.specs.Views.{Doing, Own, letter, name_of}
-use Rattle.str_model.proofs.Acting.{Act, Arrives, Comes, IsHere, Where, it_comes, it_waits, left_waiting, act_abort, act_abort_came, act_accept, act_ack, act_ask, act_begin, act_certify, act_close, act_commit, act_commit_came, act_mark, act_put, act_refuse, act_reply, act_request, act_take, act_unwait, act_wait}
+use Rattle.str_model.proofs.Acting.{Act, Arrives, Comes, IsHere, Takes, Where, it_comes, it_waits, left_waiting, act_abort, act_abort_came, act_accept, act_ack, act_ask, act_begin, act_certify, act_close, act_commit, act_commit_came, act_mark, act_put, act_refuse, act_reply, act_request, act_take, act_unwait, act_wait}
 use Rattle.str_model.proofs.Gaining.{if_elim}
 use Rattle.str_model.proofs.Members.{In, in_append, in_left, in_map, in_right}
 
@@ -28,7 +28,7 @@ use Rattle.str_model.proofs.Members.{In, in_append, in_left, in_map, in_right}
 -- where new Pre versions come from
 pub data Placed (here : Here) (input : Input) (d : Doing) (a : Arrived) : Type 0 where
   by_master : IsHere here input d a → Placed here input d a
-  by_slave : (from : NodeId) → Comes here input from (Replicate a.tx a.part a.rs a.lc a.writes) → Placed here input d a
+  by_slave : (from : NodeId) → Comes here input from (Replicate a.tx a.part a.rs a.lc a.writes) → Takes here d a → Placed here input d a
 
 pub data VersionStep (here : Here) (input : Input) (d e : Doing) : Type 0 where
   v_rests : e.view.versions ≡ d.view.versions → VersionStep here input d e
@@ -87,7 +87,7 @@ module _ (here : Here) (input : Input) (w : Where) where
   version_step d e (act_close i x d' own p n) = v_rests refl
   version_step d e (act_accept a ts d' h m) = v_pres a ts (by_master h) refl
   version_step d e (act_refuse a u k d' h m) = v_rests refl
-  version_step d e (act_take from a d' c l) = v_pres a _ (by_slave from c) refl
+  version_step d e (act_take from a d' c l) = v_pres a _ (by_slave from c l) refl
   version_step d e (act_wait r d' h) = v_rests refl
   version_step d e (act_unwait kept rest r d' h) = v_rests refl
   version_step d e (act_reply tx k rs v u fc d' h) = v_rests refl

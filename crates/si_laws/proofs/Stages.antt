@@ -35,7 +35,7 @@ use Rattle.si_laws.proofs.Parts.{WaitStep, w_fewer, w_more, wait_step}
 abbrev pub Has : {A : Type 0} → (A → Bool) → List A → Type 0
 Has {A = A} p xs = (x : A) × In x xs × (p x ≡ true)
 
-or_right_true : (a b : Bool) → b ≡ true → (a || b) ≡ true
+pub or_right_true : (a b : Bool) → b ≡ true → (a || b) ≡ true
 or_right_true true b e = refl
 or_right_true false b e = e
 
@@ -44,7 +44,7 @@ has_at p [] x h e = absurd h
 has_at p (y ∷ xs) x (inl q) e = rw (ap p q ∙ e) refl
 has_at p (y ∷ xs) x (inr h) e = or_right_true (p y) (list_any p xs) (has_at p xs x h e)
 
-any_has : {A : Type 0} (p : A → Bool) (xs : List A) → list_any p xs ≡ true → Has p xs
+pub any_has : {A : Type 0} (p : A → Bool) (xs : List A) → list_any p xs ≡ true → Has p xs
 any_has p [] e = absurd (cc e)
 any_has {A = A} p (y ∷ xs) e = by_test (p y) refl (any_has p xs) e
   where
@@ -60,7 +60,7 @@ pub record SamePair (t u : TxId) (p q : PartId) : Type 0 where
   pub seq : t.seq ≡ u.seq
   pub part : p.0 ≡ q.0
 
-pair_same : (t u : TxId) (p q : PartId) → (same_tx t u && same_part p q) ≡ true → SamePair t u p q
+pub pair_same : (t u : TxId) (p q : PartId) → (same_tx t u && same_part p q) ≡ true → SamePair t u p q
 pair_same t u p q e =
     let both = and_left (same_tx t u) (same_part p q) e in
     record {
@@ -77,13 +77,13 @@ same_pair t u p q s =
     rw (a, b, c) refl
 
 -- two pairs that are both x's
-joined_pair : (x t u : TxId) (r p q : PartId) → (same_tx x t && same_part r p) ≡ true → (same_tx x u && same_part r q) ≡ true → (same_tx u t && same_part q p) ≡ true
+pub joined_pair : (x t u : TxId) (r p q : PartId) → (same_tx x t && same_part r p) ≡ true → (same_tx x u && same_part r q) ≡ true → (same_tx u t && same_part q p) ≡ true
 joined_pair x t u r p q e f =
     let a = pair_same x t r p e in
     let b = pair_same x u r q f in
     same_pair u t q p (record { node = sym b.node ∙ a.node; seq = sym b.seq ∙ a.seq; part = sym b.part ∙ a.part })
 
-keep_without : (test : Version → Bool) (vs : List Version) (x : Version) → In x vs → test x ≡ false → In x (without test vs)
+pub keep_without : (test : Version → Bool) (vs : List Version) (x : Version) → In x vs → test x ≡ false → In x (without test vs)
 keep_without test [] x h e = absurd h
 keep_without test (y ∷ vs) x (inl q) e = rw (ap test q ∙ e) (inl q)
 keep_without test (y ∷ vs) x (inr h) e = by_test (test y) (keep_without test vs x h e)
@@ -103,7 +103,7 @@ keep_held t q (y ∷ ws) x h = by_test (keep_held t q ws x) (holds_pair t q y) r
     by_test rec false e (inl k) = inl (inl k)
     by_test rec false e (inr k) = elim (rec k) [ inl j ↦ inl (inr j) | inr j ↦ inr j ]
 
-not_both : (b : Bool) → (b ≡ true → ⊥) → b ≡ false
+pub not_both : (b : Bool) → (b ≡ true → ⊥) → b ≡ false
 not_both true h = absurd (h refl)
 not_both false h = refl
 
@@ -155,7 +155,7 @@ module _ (here : Here) (input : Input) (w : Where) (tx : TxId) (p : PartId) (oth
   last_done : (v : View) (t : TxId) (q : PartId) → (same_tx t tx && same_part q p) ≡ true → Has (is_pair tx p) (v.done ++ (t, q) ∷ [])
   last_done v t q e = ((t, q), in_right v.done ((t, q) ∷ []) (t, q) (inl refl), e)
 
-  done-act : (d e : Doing) → Act here input w d e → Done d.view → Done e.view
+  pub done-act : (d e : Doing) → Act here input w d e → Done d.view → Done e.view
   unfolding begun marked aborted committed closed certified asked acked requested accepted taken refused waits replied commit_came abort_came
   done-act d e (act_begin place rs d' r h) k = k
   done-act d e (act_mark g t d') k = k

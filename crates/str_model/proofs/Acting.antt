@@ -33,7 +33,7 @@ use Rattle.str_model.specs.Steps.{decides, drop_held}
 use Rattle.str_model.specs.Strange.{is_valid}
 use Rattle.str_model.specs.Turns.{Certified, Conflict, Give, Late, Lost, cert_turn, dep_turn, serve_turn}
 use Rattle.str_base.specs.Versions.{same_node, stamp}
-use Rattle.str_model.specs.Views.{Closing, Doing, Global, Own, Remote, View, is_decided, lc_of, put}
+use Rattle.str_model.specs.Views.{Closing, Doing, Global, Own, Remote, View, is_decided, lc_of, name_of, put}
 use Rattle.str_model.proofs.Gaining.{Extends}
 
 -- where in a step a change is made: in the rule, in the turn of the i-th own transaction, or among those who wait
@@ -89,6 +89,11 @@ pub data IsHere (here : Here) (input : Input) (d : Doing) (a : Arrived) : Type 0
       → IsMasters here a → IsHere here input d a
   it_waits : (kept rest : List Waiter) → d.view.waiters ≡ kept ++ Held a ∷ rest → IsHere here input d a
 
+-- the answer is one to this transaction, of a participant whose partition it has asked and that has not answered
+pub record KeepsAck (here : Here) (i : ℕ) (x : Own) (from : NodeId) (tx : TxId) (p : PartId) (ts : Ts) (parts : List Asked) : Type 0 where
+  pub named : tx ≡ name_of here i
+  pub parts_are : with_ack x.parts p from ts.0 ≡ Some parts
+
 -- who still waits once it is judged: one who was held leaves
 abbrev pub left_waiting : {here : Here} {input : Input} {d : Doing} {a : Arrived} → IsHere here input d a → List Waiter
 left_waiting {d = d} (it_comes from c u z m) = d.view.waiters
@@ -142,7 +147,7 @@ pub data Act (here : Here) (input : Input) (w : Where) : Doing → Doing → Typ
   act_ask : (i lc : ℕ) (p : PartId) (x : Own) (d : Doing) → IsOwn w d i x → is_decided x.phase ≡ false → lc_of x.phase ≡ Some lc
       → gate_of here d.view lc x ≡ Ask p → Act here input w d (asked here i lc p x d)
   act_ack : (i lc : ℕ) (from : NodeId) (tx : TxId) (p : PartId) (ts : Ts) (parts : List Asked) (x : Own) (d : Doing) → IsOwn w d i x → Comes here input from (Ack tx p ts)
-      → x.phase ≡ Global lc → with_ack x.parts p from ts.0 ≡ Some parts → Act here input w d (acked i parts x d)
+      → x.phase ≡ Global lc → KeepsAck here i x from tx p ts parts → Act here input w d (acked i parts x d)
   act_abort : (i : ℕ) (cause : Cause) (x : Own) (d : Doing) → IsOwn w d i x → is_decided x.phase ≡ false → Why here input d i x cause
       → Act here input w d (aborted here i cause x d)
   act_commit : (i lc fc : ℕ) (x : Own) (d : Doing) → IsOwn w d i x → lc_of x.phase ≡ Some lc → x.snap.deps ≡ [] → lc ≤ fc

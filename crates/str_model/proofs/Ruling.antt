@@ -1,5 +1,5 @@
 -- The rule of each input is a path of single changes.
-use Rattle.std.proofs.Common.{Bool, List, None, Option, Some, ap, arith, false, length, nat_lt, not, refl, slice_get, sub-one, subst, suc, sym, true, zero, ℕ, ◌&&◌, ◌+◌, ◌-◌, ◌||◌, ◌∷◌, ◌≡◌, ◌≢◌, []}
+use Rattle.std.proofs.Common.{Bool, List, None, Option, Some, ap, arith, eqb-true, false, length, nat_lt, not, refl, slice_get, sub-one, subst, suc, sym, true, zero, ℕ, ◌&&◌, ◌+◌, ◌-◌, ◌||◌, ◌∷◌, ◌≡◌, ◌≢◌, []}
 use Rattle.std.specs.List.{list_any}
 use Rattle.partition_map.specs.declared.rows.Asked.{Asked}
 use Rattle.str_base.specs.declared.names.Cause.{Cause}
@@ -52,7 +52,7 @@ none_of_three true true c d e = absurd cc
 none_of_three true false true d e = absurd cc
 none_of_three true false false d e = (refl, refl, not_is d e)
 
-or_false_left : (a b : Bool) → (a || b) ≡ false → a ≡ false
+pub or_false_left : (a b : Bool) → (a || b) ≡ false → a ≡ false
 or_false_left true b e = absurd cc
 or_false_left false b e = refl
 
@@ -66,6 +66,11 @@ fewer p test (v ∷ vs) e =
 fewer-known : (p test : Version → Bool) (vs : List Version) (b : Bool) → (b || list_any p vs) ≡ false → (b || list_any p (without test vs)) ≡ false
 fewer-known p test vs true e = absurd cc
 fewer-known p test vs false e = fewer p test vs e
+
+-- what stands at a place counted from 1 has a place above 0
+from_one : {X : Type 0} (xs : List X) (n : ℕ) (x : X) → nth xs n ≡ Some x → n ≡ (n - 1) + 1
+from_one xs zero x e = absurd cc
+from_one xs (suc i) x e = omega arith
 
 module _ (here : Here) (input : Input) (w : Where) where
   module _ (is_rule : w ≡ InRule) where
@@ -229,24 +234,33 @@ module _ (here : Here) (input : Input) (w : Where) where
 
     -- ---- answers of participants
 
-    ack_kept-path : (i lc : ℕ) (x : Own) (from : NodeId) (tx : TxId) (p : PartId) (ts : Ts) (o : Option (List Asked)) (d : Doing) → IsOwn w d i x → Comes here input from (Ack tx p ts)
-        → x.phase ≡ Global lc → with_ack x.parts p from ts.0 ≡ o → PathTo here input w d (Returns.ack_kept i x o d)
-    ack_kept-path i lc x from tx p ts None d own c e q = tt
-    ack_kept-path i lc x from tx p ts (Some parts) d own c e q = one (act_ack i lc from tx p ts parts x d own c e q)
+    ack_kept-path : (i lc : ℕ) (x : Own) (from : NodeId) (tx : TxId) (p : PartId) (ts : Ts) (o : Option (List Asked)) (d : Doing) → IsOwn w d i x → tx ≡ name_of here i
+        → Comes here input from (Ack tx p ts) → x.phase ≡ Global lc → with_ack x.parts p from ts.0 ≡ o → PathTo here input w d (Returns.ack_kept i x o d)
+    ack_kept-path i lc x from tx p ts None d own n c e q = tt
+    ack_kept-path i lc x from tx p ts (Some parts) d own n c e q = one (act_ack i lc from tx p ts parts x d own c e (record { named = n; parts_are = q }))
 
-    ack_phase-path : (i : ℕ) (x : Own) (from : NodeId) (tx : TxId) (p : PartId) (ts : Ts) (ph : Phase) (d : Doing) → IsOwn w d i x → Comes here input from (Ack tx p ts) → x.phase ≡ ph
-        → PathTo here input w d (Returns.ack_phase i x from p ts.0 ph d)
-    ack_phase-path i x from tx p ts (Global lc) d own c e = ack_kept-path i lc x from tx p ts (with_ack x.parts p from ts.0) d own c e refl
-    ack_phase-path i x from tx p ts _ d own c e = tt
+    ack_phase-path : (i : ℕ) (x : Own) (from : NodeId) (tx : TxId) (p : PartId) (ts : Ts) (ph : Phase) (d : Doing) → IsOwn w d i x → tx ≡ name_of here i → Comes here input from (Ack tx p ts)
+        → x.phase ≡ ph → PathTo here input w d (Returns.ack_phase i x from p ts.0 ph d)
+    ack_phase-path i x from tx p ts (Global lc) d own n c e = ack_kept-path i lc x from tx p ts (with_ack x.parts p from ts.0) d own n c e refl
+    ack_phase-path i x from tx p ts _ d own n c e = tt
 
-    ack_own-path : (i : ℕ) (from : NodeId) (tx : TxId) (p : PartId) (ts : Ts) (o : Option Own) (d : Doing) → Comes here input from (Ack tx p ts) → ((x : Own) → o ≡ Some x → IsOwn w d i x)
-        → PathTo here input w d (Returns.ack_own i from p ts.0 o d)
+    ack_own-path : (i : ℕ) (from : NodeId) (tx : TxId) (p : PartId) (ts : Ts) (o : Option Own) (d : Doing) → Comes here input from (Ack tx p ts)
+        → ((x : Own) → o ≡ Some x → IsOwn w d i x × (tx ≡ name_of here i)) → PathTo here input w d (Returns.ack_own i from p ts.0 o d)
     ack_own-path i from tx p ts None d c own = tt
-    ack_own-path i from tx p ts (Some x) d c own = ack_phase-path i x from tx p ts x.phase d (own x refl) c refl
+    ack_own-path i from tx p ts (Some x) d c own = let h = own x refl in ack_phase-path i x from tx p ts x.phase d h.0 h.1 c refl
+
+    -- the transaction that a message names is the one of that number
+    named-is : (tx : TxId) (d : Doing) (x : Own) → Returns.own_named here tx d ≡ Some x → tx ≡ name_of here (tx.seq - 1)
+    named-is tx d x =
+        if_elim (λ o. o ≡ Some x → tx ≡ name_of here (tx.seq - 1)) (same_node tx.node here.node) (nth d.view.own tx.seq) None
+        (λ e h. let node : tx.node.0 ≡ here.node.0 = eqb-true tx.node.0 here.node.0 e in
+        let seq : tx.seq ≡ (tx.seq - 1) + 1 = from_one d.view.own tx.seq x h in λ j. record { node = record { 0 = node j }; seq = seq j })
+        (λ e h. absurd (cc h))
 
     ack_rule-path : (from : NodeId) (tx : TxId) (p : PartId) (ts : Ts) (d : Doing) → Comes here input from (Ack tx p ts) → PathTo here input w d (Returns.ack_rule here from tx p ts.0 d)
     unfolding Returns.ack_rule
-    ack_rule-path from tx p ts d c = ack_own-path (tx.seq - 1) from tx p ts (Returns.own_named here tx d) d c (own_named-is tx d)
+    ack_rule-path from tx p ts d c =
+        ack_own-path (tx.seq - 1) from tx p ts (Returns.own_named here tx d) d c (λ x e. (own_named-is tx d x e, named-is tx d x e))
 
     refuse_phase-path : (i : ℕ) (x : Own) (from : NodeId) (t : TxId) (p : PartId) (u : TxId) (k : KeyId) (ph : Phase) (d : Doing)
         → Comes here input from (Refusal t p u k) → IsOwn w d i x → x.phase ≡ ph → PathTo here input w d (Returns.refuse_phase here i x from p u k ph d)
