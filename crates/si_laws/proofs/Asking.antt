@@ -34,7 +34,7 @@ asked_more : (xs ys : List Message) (tx : TxId) (p : PartId) → HasAsked xs tx 
 asked_more xs ys tx p h = let r = at_in (xs ++ ys) h.1 (in_left xs ys h.1 (in_at xs h.0 h.1 h.2)) in (r.0, h.1, r.1, h.3, h.4)
 
 -- a Pre version was there, or has just been placed
-pre_from : (here : Here) (input : Input) (d e : Doing) (x : Version) → VersionStep here input d e → In x e.view.versions → x.kind ≡ Pre
+pub pre_from : (here : Here) (input : Input) (d e : Doing) (x : Version) → VersionStep here input d e → In x e.view.versions → x.kind ≡ Pre
     → In x d.view.versions ⊎ ((a : Arrived) × Placed here input d a × (x.tx ≡ a.tx) × (x.part ≡ a.part))
 pre_from here input d e x (v_rests q) h k = inl (rw (← q) h)
 pre_from here input d e x (v_locals i lc y q) h k =

@@ -22,4 +22,5 @@ pub mod Pairs
 pub mod PairSteps
 pub mod Letters
 pub mod Linked
+pub mod Linking
 pub mod WorkedLists

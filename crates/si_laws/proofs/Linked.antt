@@ -125,7 +125,7 @@ pub one_place : (scene : Scene) (n m i j : ℕ) → name_of (at_place scene n) i
 one_place scene n m i j e =
     (omega (arith, ap (λ (t : TxId). t.node.0) e), omega (arith, ap (λ (t : TxId). t.seq) e))
 
-one_of : {A : Type 0} (x y : A) (o : Option A) → o ≡ Some x → o ≡ Some y → x ≡ y
+pub one_of : {A : Type 0} (x y : A) (o : Option A) → o ≡ Some x → o ≡ Some y → x ≡ y
 one_of x y o e f = let both : Some x ≡ Some y = sym e ∙ f in cc both
 
 -- a decided transaction is one
