@@ -17,3 +17,7 @@ pub mod SessionAnswers
 pub mod Stages
 pub mod Acks
 pub mod WorkedLists
+pub mod Owners
+pub mod Depending
+pub mod Beneath
+pub mod Standing
