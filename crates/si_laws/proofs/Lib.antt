@@ -21,3 +21,4 @@ pub mod Owners
 pub mod Depending
 pub mod Beneath
 pub mod Standing
+pub mod Around

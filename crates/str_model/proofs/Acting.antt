@@ -13,6 +13,8 @@ use Rattle.str_base.specs.declared.names.Ts.{Ts}
 use Rattle.str_base.specs.declared.names.TxId.{TxId}
 use Rattle.str_scene.specs.declared.names.TxPlace.{TxPlace}
 use Rattle.str_base.specs.declared.names.Value.{Value}
+use Rattle.str_base.specs.declared.names.Version.{Version}
+use Rattle.str_base.specs.declared.names.Kind.TheVariants.{Local as LocalKind}
 use Rattle.str_base.specs.declared.names.Write.{Write}
 use Rattle.str_model.specs.declared.messages.Arrived.{Arrived}
 use Rattle.str_model.specs.declared.messages.Body.{Body}
@@ -32,8 +34,8 @@ use Rattle.dependency_set.specs.Snapshots.{Snap}
 use Rattle.str_model.specs.Steps.{decides, drop_held}
 use Rattle.str_model.specs.Strange.{is_valid}
 use Rattle.str_model.specs.Turns.{Certified, Conflict, Give, Late, Lost, cert_turn, dep_turn, serve_turn}
-use Rattle.str_base.specs.Versions.{same_node, stamp}
-use Rattle.str_model.specs.Views.{Closing, Doing, Global, Own, Remote, View, is_decided, lc_of, put}
+use Rattle.str_base.specs.Versions.{of_tx, same_node, stamp}
+use Rattle.str_model.specs.Views.{Closing, Doing, Global, Own, Remote, View, is_decided, lc_of, name_of, put}
 use Rattle.str_model.proofs.Gaining.{Extends}
 use Rattle.str_model.proofs.Members.{In}
 
@@ -112,6 +114,17 @@ pub record Begins (here : Here) (place : TxPlace) (rs : ℕ) (d : Doing) : Type 
   pub script : nth text.txs place.index ≡ Some ops
   pub next : NextPlace d.view.own place
 
+-- no undecided own transaction of these places has a Local version of one of the keys that arrived
+abbrev pub NoneHeld : Here → Arrived → Doing → (ℕ → Type 0) → Type 0
+NoneHeld here a d Of =
+    (i : ℕ) (x : Own) (v : Version) (w : Write) → Of i → slice_get d.view.own i ≡ Some x → is_decided x.phase ≡ false → In v d.view.versions → In w a.writes
+    → v.key ≡ w.key → of_tx (name_of here i) v ≡ true → v.kind ≡ LocalKind → ⊥
+
+-- a Replicate may be taken: its timestamp is below the limit, and no undecided own transaction has a Local version of one of its keys
+pub record Takes (here : Here) (d : Doing) (a : Arrived) : Type 0 where
+  pub below : nat_lt (proposed d.view a) ts_limit ≡ true
+  pub none_held : NoneHeld here a d (λ i. Unit {0})
+
 pub data Act (here : Here) (input : Input) (w : Where) : Doing → Doing → Type 0 where
   act_begin : (place : TxPlace) (rs : ℕ) (d : Doing) → w ≡ InRule → Begins here place rs d → Act here input w d (begun place rs d)
   act_mark : (k : KeyId) (t : ℕ) (d : Doing) → Act here input w d (marked k t d)
@@ -132,7 +145,7 @@ pub data Act (here : Here) (input : Input) (w : Where) : Doing → Doing → Typ
   act_refuse : (a : Arrived) (by : TxId) (k : KeyId) (d : Doing) → IsHere here input d a → master_turn d.view a ≡ Refuse by k
       → Act here input w d (refused here a by k d)
   act_take : (from : NodeId) (a : Arrived) (d : Doing) → Comes here input from (Replicate a.tx a.part a.rs a.lc a.writes)
-      → nat_lt (proposed d.view a) ts_limit ≡ true → Act here input w d (taken here a (proposed d.view a) d)
+      → Takes here d a → Act here input w d (taken here a (proposed d.view a) d)
   act_wait : (r : Waiter) (d : Doing) → Arrives here input d r → Act here input w d (waits r d)
   act_unwait : (kept rest : List Waiter) (r : Waiter) (d : Doing) → Leaves d.view kept rest r → Act here input w d (with_waiters (kept ++ rest) d)
   act_reply : (tx : TxId) (k : KeyId) (rs : ℕ) (v : Value) (by : Option TxId) (fc : ℕ) (d : Doing) → serve_turn d.view.versions k rs ≡ Give v by fc

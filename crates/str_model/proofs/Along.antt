@@ -31,7 +31,7 @@ module _ (here : Here) (input : Input) (w : Where) where
   resolved-path i x (Lost q) d own f e = one (act_abort i _ x d own f (by_lost q e))
   resolved-path i x (Late q fc) d own f e = one (act_abort i _ x d own f (by_late q fc e))
   resolved-path i x (Keep ffc ds) d own f e =
-      one (act_put i x _ d own (record { was_open = f; is_open = f; same_place = refl; snap = resolved-extends d.view.own x ffc ds d e; same_lc = refl }))
+      one (act_put i x _ d own (record { was_open = f; is_open = f; same_place = refl; snap = resolved-extends x ffc ds d e; same_lc = refl }))
 
   again_reply-path : (i : ℕ) (k : KeyId) (x : Own) (turn : ReadTurn) (d : Doing) → IsFree w d i x → TurnGood d.view x.snap turn
       → Path here input w d (Pass.again_reply here i k x turn d)

@@ -4,6 +4,8 @@ pub mod Members
 pub mod Gaining
 pub mod Acting
 pub mod Operating
+pub mod Meeting
+pub mod Evicting
 pub mod Ruling
 pub mod Along
 pub mod Everywhere

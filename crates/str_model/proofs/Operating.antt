@@ -1,5 +1,5 @@
 -- What an own transaction does with its script and its snapshot is a path of single changes.
-use Rattle.std.proofs.Common.{Bool, List, None, Option, Some, [], ap, arith, false, find, if◌then◌else◌, inl, inr, is_some, map, max, nat_lt, not, refl, slice_get, subst, sym, true, ℕ, ◌-◌, ◌||◌, ◌∙◌, ◌∷◌, ◌≡◌, ◌≤◌}
+use Rattle.std.proofs.Common.{Bool, List, None, Option, Some, [], ap, arith, false, find, if◌then◌else◌, inl, inr, is_some, ltb-false, map, max, nat_lt, not, refl, slice_get, subst, sym, true, ℕ, ◌-◌, ◌||◌, ◌∙◌, ◌∷◌, ◌≡◌, ◌≤◌, ◌⊎◌}
 use Rattle.partition_map.specs.declared.rows.Asked.{Asked}
 use Rattle.dependency_set.specs.declared.names.Dep.{Dep}
 use Rattle.str_base.specs.declared.names.KeyId.{KeyId}
@@ -24,7 +24,7 @@ use Rattle.str_model.specs.Turns.{Away, CertTurn, Certified, Conflict, DepTurn, 
 use Rattle.str_model.specs.Turns
 use Rattle.str_model.specs.Views.{CertWait, Closing, Doing, Own, Phase, ReadWait, Remote, View, is_decided, lc_of, put}
 use Rattle.str_model.proofs.Acting.{GoesOn, IsOwn, Path, Touches, Where, act_abort, act_certify, act_mark, act_put, act_request, and_then, by_certification, by_script, one, stay}
-use Rattle.str_model.proofs.Gaining.{Extends, Gains, TurnGood, extends_self, gains_it, gains_of, if_elim, read_turn-good}
+use Rattle.str_model.proofs.Gaining.{Extends, Gains, Names, Settles, TurnGood, extends_self, gains_it, gains_of, if_elim, read_turn-good}
 use Rattle.str_model.proofs.Members.{In}
 
 pub nor_left : (a b : Bool) → not (a || b) ≡ true → a ≡ false
@@ -96,7 +96,7 @@ free_marked w k t d i x f = record { own = f.own; open_ = f.open_; no_lc = f.no_
 pub extends_marked : (k : KeyId) (x : Own) (d : Doing) (snap : Snap) → Extends d.view x.snap snap → Extends (marked k x.snap.rs d).view x.snap snap
 unfolding marked
 extends_marked k x d snap h =
-    record { rs = h.rs; deps = λ y i. elim (h.deps y i) [ inl a ↦ inl a | inr g ↦ inr (gains_marked y g) ] }
+    record { rs = h.rs; deps = λ y i. elim (h.deps y i) [ inl a ↦ inl a | inr g ↦ inr (gains_marked y g) ]; kept = h.kept }
   where
     gains_marked : (y : Dep) → Gains d.view x.snap.rs y → Gains (marked k x.snap.rs d).view x.snap.rs y
     gains_marked y (gains_it v u i l le o q) = gains_it v u i l le o q
@@ -133,10 +133,38 @@ resolve_all-sub own rs (d ∷ ds) ffc f es e x h =
         by_test true q k = absurd (cc q)
         by_test false q k = rec (max ffc fc) es q k
 
-pub resolved-extends : (own : List Own) (x : Own) (ffc : ℕ) (ds : List Dep) (d : Doing) → dep_turn own x.snap ≡ Keep ffc ds
+-- what is no longer there has committed at or below the snapshot
+pub resolve_all-kept : (view : View) (rs : ℕ) (ds : List Dep) (ffc f : ℕ) (es : List Dep) → Turns.resolve_all view.own rs ds ffc ≡ Keep f es → (x : Dep) → In x ds → Names x.seq es ⊎ Settles view rs x
+resolve_all-kept view rs [] ffc f es e x h = absurd h
+resolve_all-kept view rs (d ∷ ds) ffc f es e x h =
+    by_fate-kept (Turns.own_fate (slice_get view.own (d.seq - 1))) refl (λ g es' e' h'. resolve_all-kept view rs ds g f es' e' x h') e h
+  where
+    by_fate-kept : (t : Turns.Fate) → Turns.own_fate (slice_get view.own (d.seq - 1)) ≡ t → ((g : ℕ) (es' : List Dep) → Turns.resolve_all view.own rs ds g ≡ Keep f es' → In x ds → Names x.seq es' ⊎ Settles view rs x)
+        → Turns.by_fate rs d ffc (λ g. Turns.resolve_all view.own rs ds g) t ≡ Keep f es → In x (d ∷ ds) → Names x.seq es ⊎ Settles view rs x
+    by_fate-kept Turns.Open s rec q k = kept_also (Turns.resolve_all view.own rs ds ffc) refl q k
+      where
+        kept_also : (r : DepTurn) → Turns.resolve_all view.own rs ds ffc ≡ r → Turns.keep_also d r ≡ Keep f es → In x (d ∷ ds) → Names x.seq es ⊎ Settles view rs x
+        kept_also (Lost a) p q k = absurd (cc q)
+        kept_also (Late a b) p q k = absurd (cc q)
+        kept_also (Keep a bs) p q (inl z) =
+            let same : d ∷ bs ≡ es = cc q in inl (d, subst (In d) same (inl refl), ap (λ (y : Dep). y.seq) z)
+        kept_also (Keep a bs) p q (inr z) =
+            let same : d ∷ bs ≡ es = cc q in
+            let f' : a ≡ f = cc q in
+            elim (rec ffc bs (p ∙ ap (λ n. Keep n bs) f') z) [ inl n ↦ inl (n.0, subst (In n.0) same (inr n.1), n.2) | inr t ↦ inr t ]
+    by_fate-kept Turns.Gone s rec q k = absurd (cc q)
+    by_fate-kept (Turns.CommittedAt fc) s rec q k = by_test (nat_lt rs fc) refl q k
+      where
+        by_test : (b : Bool) → nat_lt rs fc ≡ b → (if b then Late d.seq fc else Turns.resolve_all view.own rs ds (max ffc fc)) ≡ Keep f es → In x (d ∷ ds) → Names x.seq es ⊎ Settles view rs x
+        by_test true t q k = absurd (cc q)
+        by_test false t q (inl z) = inr (fc, subst (λ (y : Dep). Turns.own_fate (slice_get view.own (y.seq - 1)) ≡ Turns.CommittedAt fc) z s, ltb-false rs fc t)
+        by_test false t q (inr z) = rec (max ffc fc) es q z
+
+pub resolved-extends : (x : Own) (ffc : ℕ) (ds : List Dep) (d : Doing) → dep_turn d.view.own x.snap ≡ Keep ffc ds
     → Extends d.view x.snap (record (x.snap) { ffc = ffc; deps = ds })
 unfolding dep_turn
-resolved-extends own x ffc ds d e = record { rs = refl; deps = λ y h. inl (resolve_all-sub own x.snap.rs x.snap.deps x.snap.ffc ffc ds e y h) }
+resolved-extends x ffc ds d e =
+    record { rs = refl; deps = λ y h. inl (resolve_all-sub d.view.own x.snap.rs x.snap.deps x.snap.ffc ffc ds e y h); kept = resolve_all-kept d.view x.snap.rs x.snap.deps x.snap.ffc ffc ds e }
 
 module _ (here : Here) (input : Input) (w : Where) where
   pub with_value-path : (i : ℕ) (k : KeyId) (v : Value) (by : Option TxId) (snap : Snap) (x : Own) (d : Doing)

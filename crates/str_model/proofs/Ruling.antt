@@ -36,7 +36,8 @@ use Rattle.str_model.specs.Strange
 use Rattle.str_model.specs.Turns.{Give, ServeTurn, ServeWait, serve_turn}
 use Rattle.str_base.specs.Versions.{same_key, same_node, stamp}
 use Rattle.str_model.specs.Views.{Aborted, Active, Committed, Doing, Global, Own, Phase, Remote, Reply, is_decided, name_of, put}
-use Rattle.str_model.proofs.Acting.{Arrives, Comes, InRule, IsOwn, NextPlace, Path, PathTo, Touches, Where, a_prepare, a_read, act_abort, act_abort_came, act_accept, act_ack, act_begin, act_commit_came, act_mark, act_put, act_refuse, act_reply, act_take, act_wait, and_then, by_eviction, by_refusal, is_first, is_next, it_comes, more, one, stay}
+use Rattle.str_model.proofs.Evicting.{all_evicted}
+use Rattle.str_model.proofs.Acting.{Arrives, Comes, InRule, IsOwn, NextPlace, NoneHeld, Path, PathTo, Touches, Where, a_prepare, a_read, act_abort, act_abort_came, act_accept, act_ack, act_begin, act_commit_came, act_mark, act_put, act_refuse, act_reply, act_take, act_wait, and_then, by_eviction, by_refusal, is_first, is_next, it_comes, more, one, stay}
 use Rattle.str_model.proofs.Gaining.{and_right, if_elim}
 use Rattle.str_model.proofs.Operating.{IsFresh, at_own-path, free_at, nor_left, nor_right, op_or_commit-path, phase-goes}
 
@@ -162,17 +163,17 @@ module _ (here : Here) (input : Input) (w : Where) where
         (at_own-path here input w i (Arrivals.evict_own here a i) e (touch i) (λ x own f. evict_at-path a from i x (held_key e.view.versions (name_of here i) a.writes) e c own f))
 
     take_if-path : (a : Arrived) (from : NodeId) (d e : Doing) → Comes here input from (Replicate a.tx a.part a.rs a.lc a.writes)
-        → Path here input w d e → PathTo here input w d (Arrivals.take_if here a e)
-    take_if-path a from d e c p =
+        → NoneHeld here a e (λ i. Unit {0}) → Path here input w d e → PathTo here input w d (Arrivals.take_if here a e)
+    take_if-path a from d e c n p =
         if_elim (PathTo here input w d) (nat_lt (proposed e.view a) ts_limit) (Some (taken here a (proposed e.view a) e)) None
-        (λ h. more d e _ p (act_take from a e c h)) (λ h. tt)
+        (λ h. more d e _ p (act_take from a e c (record { below = h; none_held = n }))) (λ h. tt)
 
     replicate_rule-path : (a : Arrived) (from : NodeId) (d : Doing) → Comes here input from (Replicate a.tx a.part a.rs a.lc a.writes)
         → PathTo here input w d (Arrivals.replicate_rule here a d)
     unfolding Arrivals.replicate_rule
     replicate_rule-path a from d c =
         if_elim (PathTo here input w d) (takes here d.view a) (Arrivals.take_if here a (Arrivals.evict here a (length d.view.own) d)) None
-        (λ h. take_if-path a from d (Arrivals.evict here a (length d.view.own) d) c (evict-path a from (length d.view.own) d c)) (λ h. tt)
+        (λ h. take_if-path a from d (Arrivals.evict here a (length d.view.own) d) c (all_evicted here a d) (evict-path a from (length d.view.own) d c)) (λ h. tt)
 
     -- ---- answers of participants
 
