@@ -1,7 +1,7 @@
 -- Around a Local version: what other versions of its key stand at its node.
 use Rattle.std.proofs.Common.{Bool, List, Some, add-sub_cancel, ap, arith, eqb-true, false, inl, inr, refl, slice_get, subst, sym, true, ℕ, ◌&&◌, ◌+◌, ◌-◌, ◌==◌, ◌∙◌, ◌≡◌, ◌≢◌, ◌≤◌, ◌⊎◌}
 use Rattle.dependency_set.specs.declared.names.Dep.{Dep}
-use Rattle.str_base.specs.declared.names.Kind.TheVariants.{Final, Local as LocalKind}
+use Rattle.str_base.specs.declared.names.Kind.TheVariants.{Final, Local as LocalKind, Pre}
 use Rattle.str_base.specs.declared.names.TxId.{TxId}
 use Rattle.str_base.specs.declared.names.Version.{Version}
 use Rattle.str_base.specs.Versions.{same_node, same_tx}
@@ -42,11 +42,17 @@ EachAround here v P =
     (i : ℕ) (x : Own) (p q : Version) → Owns v i x → In p v.versions → p.kind ≡ LocalKind → p.tx.seq ≡ i + 1 → In q v.versions → q.key ≡ p.key → q.tx ≢ p.tx
     → P i x p.ts.0 q
 
+-- A Pre and a Local version of one key do not stand together, not even of one transaction. Why: the transaction of a Pre version that is
+-- beside a Local one could commit between the local commit timestamp and the final one.
+abbrev pub PresApart : View → Type 0
+PresApart v = (p q : Version) → In p v.versions → p.kind ≡ LocalKind → In q v.versions → q.kind ≡ Pre → q.key ≡ p.key → ⊥
+
 -- at each moment
 pub record Stand (here : Here) (v : View) : Type 0 where
   pub base : Depends here v
   pub finals : (q : Version) → In q v.versions → q.kind ≡ Final → FinalKnown here v q
   pub around : EachAround here v (Around here v)
+  pub apart : PresApart v
 
 -- two names that are one by their numbers
 pub same_tx-is : (a b : TxId) → same_tx a b ≡ true → a ≡ b

@@ -22,3 +22,6 @@ pub mod Depending
 pub mod Beneath
 pub mod Standing
 pub mod Around
+pub mod Carrying
+pub mod AroundActs
+pub mod Apart

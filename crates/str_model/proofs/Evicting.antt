@@ -19,7 +19,7 @@ use Rattle.str_model.proofs.Gaining.{find_none}
 use Rattle.str_model.proofs.Lists.{got_set}
 use Rattle.str_model.proofs.Members.{In, in_without}
 
-none_of : {A : Type 0} (p : A → Bool) (xs : List A) (x : A) → list_any p xs ≡ false → In x xs → p x ≡ false
+pub none_of : {A : Type 0} (p : A → Bool) (xs : List A) (x : A) → list_any p xs ≡ false → In x xs → p x ≡ false
 none_of p [] x e h = absurd h
 none_of p (y ∷ xs) x e (inl q) = ap p (sym q) ∙ left (p y) (list_any p xs) e
   where
