@@ -24,3 +24,11 @@ pub mod Letters
 pub mod Linked
 pub mod Linking
 pub mod WorkedLists
+pub mod Owners
+pub mod Depending
+pub mod Beneath
+pub mod Standing
+pub mod Around
+pub mod Carrying
+pub mod AroundActs
+pub mod Apart

@@ -12,7 +12,7 @@ use Rattle.str_model.proofs.Everywhere.{IsSeen, Stage, at_place, during, ever_af
 use Rattle.str_model.proofs.Lists.{get_push, get_set_other}
 use Rattle.str_model.proofs.Owning.{Becomes, OwnStep, aborts, certifies, closes, commits, goes_on, own_step, rests, starts_one, turns_one}
 
-becomes-open : (v : View) (f g : ℕ) (x y : Own) → Becomes v f g x y → is_decided x.phase ≡ false
+pub becomes-open : (v : View) (f g : ℕ) (x y : Own) → Becomes v f g x y → is_decided x.phase ≡ false
 becomes-open v f g x y (goes_on r e) = r.was_open
 becomes-open v f g x y (certifies lc o n p q s l e) = o
 becomes-open v f g x y (commits lc fc o l le q e) = o

@@ -10,8 +10,9 @@ use Rattle.str_base.specs.declared.names.PartId.{PartId}
 use Rattle.str_base.specs.declared.names.Ts.{Ts}
 use Rattle.str_base.specs.declared.names.TxId.{TxId}
 use Rattle.str_base.specs.declared.names.Version.{Version}
-use Rattle.str_model.proofs.Acting.{Act, Comes, KeepsAck, PutsOn, Where, act_abort, act_abort_came, act_accept, act_ack, act_ask, act_begin, act_certify, act_close, act_commit, act_commit_came, act_mark, act_put, act_refuse, act_reply, act_request, act_take, act_unwait, act_wait}
+use Rattle.str_model.proofs.Acting.{Act, Comes, KeepsAck, Where, act_abort, act_abort_came, act_accept, act_ack, act_ask, act_begin, act_certify, act_close, act_commit, act_commit_came, act_mark, act_put, act_refuse, act_reply, act_request, act_take, act_unwait, act_wait}
 use Rattle.str_model.proofs.Gaining.{CertGood, and_left, and_right, cert_turn-good}
+use Rattle.str_model.proofs.Going.{PutsOn, puts_on}
 use Rattle.str_model.proofs.Lists.{get_set}
 use Rattle.str_model.proofs.Members.{In, in_all_old}
 use Rattle.str_model.specs.Acts.{abort_came, aborted, accepted, acked, asked, begun, certified, closed, commit_came, committed, decided_versions, fresh, in_phase, is_hosted_of, local_version, marked, pre_version, refused, replied, requested, taken, waits, with_asked}
@@ -20,7 +21,7 @@ use Rattle.str_model.specs.Owned.{Owns}
 use Rattle.str_model.specs.Proposals.{is_done, proposed}
 use Rattle.str_model.specs.Steps.{decides}
 use Rattle.str_model.specs.Turns.{Certified}
-use Rattle.str_model.specs.Views.{Aborted, Closing, Committed, Doing, Global, Local, Own, View, is_decided, lc_of, name_of}
+use Rattle.str_model.specs.Views.{Aborted, Closing, Committed, Doing, Global, Local, Own, Remote, View, is_decided, lc_of, name_of}
 use Rattle.str_model.specs.declared.messages.Body.TheVariants.{Ack}
 use Rattle.str_model.specs.declared.messages.Input.{Input}
 use Rattle.str_scene.specs.Scenes.{Here, hosts, participants}
@@ -65,8 +66,8 @@ module _ (here : Here) (input : Input) (w : Where) where
   unfolding begun marked aborted committed closed certified asked acked requested accepted taken refused waits replied commit_came abort_came
   own_change d e (act_begin place rs d' r h) = o_begins place rs refl
   own_change d e (act_mark k t d') = o_rests refl
-  own_change d e (act_put i x y d' own g) = o_puts i x y own.0 g refl
-  own_change d e (act_request i k m x d' own g) = o_puts i x _ own.0 g refl
+  own_change d e (act_put i x y d' own g) = o_puts i x y own.0 (puts_on here input d' i x y g) refl
+  own_change d e (act_request i k m x d' own g) = o_puts i x (in_phase (Remote k) x) own.0 (puts_on here input d' i x (in_phase (Remote k) x) g) refl
   own_change d e (act_certify i lc snap x d' own f n c) =
       let good : CertGood d'.view x.snap (Certified lc snap) = subst (CertGood d'.view x.snap) c (cert_turn-good here d'.view x.snap x.writes) in
       o_certifies i lc snap x own.0 f n good.0.rs refl refl

@@ -1,5 +1,5 @@
 -- The rule of each input is a path of single changes.
-use Rattle.std.proofs.Common.{Bool, List, None, Option, Some, ap, arith, eqb-true, false, length, nat_lt, not, refl, slice_get, sub-one, subst, suc, sym, true, zero, ℕ, ◌&&◌, ◌+◌, ◌-◌, ◌||◌, ◌∷◌, ◌≡◌, ◌≢◌, []}
+use Rattle.std.proofs.Common.{Bool, [], eqb-true, ◌∷◌, List, None, Option, Some, ap, arith, false, length, nat_lt, not, refl, slice_get, sub-one, subst, suc, sym, true, zero, ℕ, ◌&&◌, ◌+◌, ◌-◌, ◌||◌, ◌≡◌, ◌≢◌}
 use Rattle.std.specs.List.{list_any}
 use Rattle.partition_map.specs.declared.rows.Asked.{Asked}
 use Rattle.str_base.specs.declared.names.Cause.{Cause}
@@ -38,7 +38,8 @@ use Rattle.str_model.specs.Strange
 use Rattle.str_model.specs.Turns.{Give, ServeTurn, ServeWait, serve_turn}
 use Rattle.str_base.specs.Versions.{of_pair, of_tx, same_key, same_node, stamp, without}
 use Rattle.str_model.specs.Views.{Aborted, Active, Committed, Doing, Global, Own, Phase, Remote, Reply, is_decided, name_of, put}
-use Rattle.str_model.proofs.Acting.{Arrives, Comes, InRule, IsOwn, NextPlace, Path, PathTo, Touches, Where, a_prepare, a_read, act_abort, act_abort_came, act_accept, act_ack, act_begin, act_commit_came, act_mark, act_put, act_refuse, act_reply, act_take, act_wait, and_then, by_eviction, by_refusal, is_first, is_next, it_comes, more, one, stay}
+use Rattle.str_model.proofs.Evicting.{all_evicted}
+use Rattle.str_model.proofs.Acting.{Arrives, Comes, InRule, IsOwn, NextPlace, NoneHeld, Path, PathTo, Touches, Where, a_prepare, a_read, act_abort, act_abort_came, act_accept, act_ack, act_begin, act_commit_came, act_mark, act_put, act_refuse, act_reply, act_take, act_wait, and_then, by_eviction, by_refusal, ch_reply, is_first, is_next, it_comes, more, one, stay}
 use Rattle.str_model.proofs.Gaining.{and_left, and_right, if_elim, or_false_right}
 use Rattle.str_model.proofs.Operating.{IsFresh, at_own-path, free_at, nor_left, nor_right, op_or_commit-path, phase-goes}
 
@@ -88,7 +89,7 @@ module _ (here : Here) (input : Input) (w : Where) where
     go_on-path : (s : SessionId) (t : ℕ) (text : Session) (i : ℕ) (x : Own) (p : Phase) (d : Doing) → nth here.scene.sessions s.0 ≡ Some text
         → same_node text.node here.node ≡ true → Clients.last_index (Clients.of_session s) d.view.own ≡ Some i → IsOwn w d i x → x.phase ≡ p
         → PathTo here input w d (Clients.go_on here s t text i x p d)
-    go_on-path s t text i x Active d se ne la own e = op_or_commit-path here input w i x (own_op here x) d (free_at w d i x Active own e refl refl)
+    go_on-path s t text i x Active d se ne la own e = op_or_commit-path here input w i x (own_op here x) d (free_at w d i x Active own e refl refl) e refl
     go_on-path s t text i x (Committed lc fc) d se ne la own e =
         begin-path (Clients.place_in s (x.place.index + 1)) t text (nth text.txs (x.place.index + 1)) d se ne refl (is_next i x la own.0 (ap is_decided e) refl)
     go_on-path s t text i x (Aborted lc cause) d se ne la own e =
@@ -141,21 +142,26 @@ module _ (here : Here) (input : Input) (w : Where) where
         if_elim (λ o. o ≡ Some x → IsOwn w d (tx.seq - 1) x) (same_node tx.node here.node) (nth d.view.own tx.seq) None
         (λ e h. (nth-get d.view.own tx.seq x h, touch (tx.seq - 1))) (λ e h. absurd (cc h))
 
-    reply_phase-path : (i : ℕ) (x : Own) (k : KeyId) (v : Value) (by : Option TxId) (fc : ℕ) (p : Phase) (d : Doing) → IsOwn w d i x → x.phase ≡ p
-        → PathTo here input w d (Returns.reply_phase i x k v by fc p d)
-    reply_phase-path i x k v by fc (Remote l) d own e =
-        if_elim (PathTo here input w d) (same_key l k) (Some (put i (in_phase (Reply k v by fc) x) d)) None
-        (λ h. one (act_put i x _ d own (phase-goes w d i x (Reply k v by fc) (free_at w d i x (Remote l) own e refl refl) refl refl))) (λ h. tt)
-    reply_phase-path i x k v by fc _ d own e = tt
+    reply_phase-path : (from : NodeId) (tx : TxId) (x : Own) (k : KeyId) (v : Value) (by : Option TxId) (fc : Ts) (p : Phase) (d : Doing) → Comes here input from (ReadReply tx k v by fc)
+        → Returns.own_named here tx d ≡ Some x → IsOwn w d (tx.seq - 1) x → x.phase ≡ p → PathTo here input w d (Returns.reply_phase (tx.seq - 1) x k v by fc.0 p d)
+    reply_phase-path from tx x k v by fc (Remote l) d c n own e =
+        let i : ℕ = tx.seq - 1 in
+        if_elim (PathTo here input w d) (same_key l k) (Some (put i (in_phase (Reply k v by fc.0) x) d)) None
+        (λ h. one (act_put i x _ d own (record {
+          goes = phase-goes w d i x (Reply k v by fc.0) (free_at w d i x (Remote l) own e refl refl) refl refl;
+          change = ch_reply from tx l k v by fc c n refl e h;
+        }))) (λ h. tt)
+    reply_phase-path from tx x k v by fc _ d c n own e = tt
 
-    reply_own-path : (i : ℕ) (k : KeyId) (v : Value) (by : Option TxId) (fc : ℕ) (o : Option Own) (d : Doing) → ((x : Own) → o ≡ Some x → IsOwn w d i x)
-        → PathTo here input w d (Returns.reply_own i k v by fc o d)
-    reply_own-path i k v by fc None d own = tt
-    reply_own-path i k v by fc (Some x) d own = reply_phase-path i x k v by fc x.phase d (own x refl) refl
+    reply_own-path : (from : NodeId) (tx : TxId) (k : KeyId) (v : Value) (by : Option TxId) (fc : Ts) (o : Option Own) (d : Doing) → Comes here input from (ReadReply tx k v by fc)
+        → Returns.own_named here tx d ≡ o → PathTo here input w d (Returns.reply_own (tx.seq - 1) k v by fc.0 o d)
+    reply_own-path from tx k v by fc None d c n = tt
+    reply_own-path from tx k v by fc (Some x) d c n = reply_phase-path from tx x k v by fc x.phase d c n (own_named-is tx d x n) refl
 
-    read_reply-path : (tx : TxId) (k : KeyId) (v : Value) (by : Option TxId) (fc : ℕ) (d : Doing) → PathTo here input w d (Returns.read_reply here tx k v by fc d)
+    read_reply-path : (from : NodeId) (tx : TxId) (k : KeyId) (v : Value) (by : Option TxId) (fc : Ts) (d : Doing) → Comes here input from (ReadReply tx k v by fc)
+        → PathTo here input w d (Returns.read_reply here tx k v by fc.0 d)
     unfolding Returns.read_reply
-    read_reply-path tx k v by fc d = reply_own-path (tx.seq - 1) k v by fc (Returns.own_named here tx d) d (own_named-is tx d)
+    read_reply-path from tx k v by fc d c = reply_own-path from tx k v by fc (Returns.own_named here tx d) d c refl
 
     master_done-path : (from : NodeId) (a : Arrived) (turn : MasterTurn) (d : Doing) → Comes here input from (Prepare a.tx a.part a.rs a.lc a.writes)
         → (turn ≢ Ignore → IsFresh here d a turn) → PathTo here input w d (Arrivals.master_done here a turn d)
@@ -218,11 +224,11 @@ module _ (here : Here) (input : Input) (w : Where) where
     evict-unknown a (suc i) d h =
         let e : Doing = Arrivals.evict here a i d in evict_own-unknown a i (slice_get e.view.own i) e (evict-unknown a i d h)
 
-    take_if-path : (a : Arrived) (from : NodeId) (d e : Doing) → Comes here input from (Replicate a.tx a.part a.rs a.lc a.writes)
+    take_if-path : (a : Arrived) (from : NodeId) (d e : Doing) → Comes here input from (Replicate a.tx a.part a.rs a.lc a.writes) → NoneHeld here a e (λ i. Unit {0})
         → Path here input w d e → Unknown a e → is_master here.scene here.node a.part ≡ false → same_node a.tx.node here.node ≡ false → PathTo here input w d (Arrivals.take_if here a e)
-    take_if-path a from d e c p u s f =
+    take_if-path a from d e c n p u s f =
         if_elim (PathTo here input w d) (nat_lt (proposed e.view a) ts_limit) (Some (taken here a (proposed e.view a) e)) None
-        (λ h. more d e _ p (act_take from a e c (record { below = h; unknown = u; slave = s; foreign = f }))) (λ h. tt)
+        (λ h. more d e _ p (act_take from a e c (record { below = h; unknown = u; slave = s; foreign = f; none_held = n }))) (λ h. tt)
 
     replicate_rule-path : (a : Arrived) (from : NodeId) (d : Doing) → Comes here input from (Replicate a.tx a.part a.rs a.lc a.writes)
         → PathTo here input w d (Arrivals.replicate_rule here a d)
@@ -230,7 +236,7 @@ module _ (here : Here) (input : Input) (w : Where) where
     replicate_rule-path a from d c =
         if_elim (PathTo here input w d) (takes here d.view a) (Arrivals.take_if here a (Arrivals.evict here a (length d.view.own) d)) None
         (λ h. let n = none_of_three (hosts here.scene here.node a.part) (is_master here.scene here.node a.part) (same_node a.tx.node here.node) (Proposals.is_known d.view a.tx a.part) h in
-        take_if-path a from d (Arrivals.evict here a (length d.view.own) d) c (evict-path a from (length d.view.own) d c) (evict-unknown a (length d.view.own) d n.2) n.0 n.1) (λ h. tt)
+        take_if-path a from d (Arrivals.evict here a (length d.view.own) d) c (all_evicted here a d) (evict-path a from (length d.view.own) d c) (evict-unknown a (length d.view.own) d n.2) n.0 n.1) (λ h. tt)
 
     -- ---- answers of participants
 
@@ -284,7 +290,7 @@ module _ (here : Here) (input : Input) (w : Where) where
 
     body_rule-path : (from : NodeId) (body : Body) (d : Doing) → Comes here input from body → PathTo here input w d (Steps.body_rule here from body d)
     body_rule-path from (ReadReq tx k rs) d c = read_req-path from tx k rs.0 d c
-    body_rule-path from (ReadReply tx k v by fc) d c = read_reply-path tx k v by fc.0 d
+    body_rule-path from (ReadReply tx k v by fc) d c = read_reply-path from tx k v by fc d c
     body_rule-path from (Prepare tx p rs lc ws) d c = prepare_rule-path from (record { tx = tx; part = p; rs = rs; lc = lc; writes = ws }) d c
     body_rule-path from (Refusal tx p u k) d c = refuse_rule-path from tx p u k d c
     body_rule-path from (Replicate tx p rs lc ws) d c = replicate_rule-path (record { tx = tx; part = p; rs = rs; lc = lc; writes = ws }) from d c
