@@ -23,6 +23,8 @@ pub mod PairSteps
 pub mod Letters
 pub mod Linked
 pub mod Linking
+pub mod Seats
+pub mod Arriving
 pub mod WorkedLists
 pub mod Owners
 pub mod Depending
