@@ -34,3 +34,5 @@ pub mod Around
 pub mod Carrying
 pub mod AroundActs
 pub mod Apart
+pub mod Mastering
+pub mod Masters

@@ -90,14 +90,14 @@ unasked_none scene n ws a ts h e =
 
 module _ (scene : Scene) (s : Stage) (i : ℕ) (v : View) (input : Input) (w : Where) (d e : Doing) (is : slice_get s.nodes i ≡ Some v) (seen : IsSeen s input) (act : Act (at_place scene i) input w d e)
     (h : Linked scene (during s i d)) where
-  there_d : slice_get (slice_set s.nodes i d.view) i ≡ Some d.view
+  pub there_d : slice_get (slice_set s.nodes i d.view) i ≡ Some d.view
   there_d = get_set s.nodes i v d.view is
 
-  there_e : slice_get (slice_set s.nodes i e.view) i ≡ Some e.view
+  pub there_e : slice_get (slice_set s.nodes i e.view) i ≡ Some e.view
   there_e = get_set s.nodes i v e.view is
 
   -- a node after the change: the one that changed, or another as it was
-  node_e : (n : ℕ) (u : View) → slice_get (slice_set s.nodes i e.view) n ≡ Some u → ((n ≡ i) × (u ≡ e.view)) ⊎ ((n ≢ i) × (slice_get (slice_set s.nodes i d.view) n ≡ Some u))
+  pub node_e : (n : ℕ) (u : View) → slice_get (slice_set s.nodes i e.view) n ≡ Some u → ((n ≡ i) × (u ≡ e.view)) ⊎ ((n ≢ i) × (slice_get (slice_set s.nodes i d.view) n ≡ Some u))
   node_e n u g = elim (got_set s.nodes i n e.view u g) [ inl q ↦ inl q | inr q ↦ inr (q.0, get_set_other s.nodes i n d.view q.0 ∙ q.1) ]
 
   sent_more : (m : Message) → In m (s.sent ++ d.sent) → In m (s.sent ++ e.sent)
@@ -106,13 +106,13 @@ module _ (scene : Scene) (s : Stage) (i : ℕ) (v : View) (input : Input) (w : W
     | inr j ↦ (let new = sent_step (at_place scene i) input w d e act in in_right s.sent e.sent m (subst (In m) (sym new.are) (in_left d.sent new.new m j)))
   ]
 
-  came : (m : Message) → input ≡ Deliver m → In m s.sent
+  pub came : (m : Message) → input ≡ Deliver m → In m s.sent
   came m q = let t : Sent s m = subst (IsSeen s) q seen in in_at s.sent t.0 m t.1
 
-  came_told : (from : NodeId) (b : Body) → (c : Comes (at_place scene i) input from b) → Told scene (during s i d) c.0.sender c.0.receiver b
+  pub came_told : (from : NodeId) (b : Body) → (c : Comes (at_place scene i) input from b) → Told scene (during s i d) c.0.sender c.0.receiver b
   came_told from b c = subst (λ (z : Body). Told scene (during s i d) c.0.sender c.0.receiver z) c.3 (h.told c.0 (in_left s.sent d.sent c.0 (came c.0 c.1)))
 
-  receiver_here : (from : NodeId) (b : Body) → (c : Comes (at_place scene i) input from b) → c.0.receiver.0 ≡ i + 1
+  pub receiver_here : (from : NodeId) (b : Body) → (c : Comes (at_place scene i) input from b) → c.0.receiver.0 ≡ i + 1
   receiver_here from b c =
       eqb-true c.0.receiver.0 (i + 1) (and_left (same_node c.0.receiver (at_place scene i).node) (Strange.has_node (at_place scene i) c.0.sender && Strange.has_named (at_place scene i) c.0.body) c.4)
 
@@ -124,15 +124,15 @@ module _ (scene : Scene) (s : Stage) (i : ℕ) (v : View) (input : Input) (w : W
 
   -- ---- what comes to be placed
 
-  here_writes : (a : Arrived) → IsHere (at_place scene i) input d a → AreWrites scene (during s i d) a.tx a.part a.rs.0 a.lc.0 a.writes × ((x : Write) × In x a.writes)
+  pub here_writes : (a : Arrived) → IsHere (at_place scene i) input d a → AreWrites scene (during s i d) a.tx a.part a.rs.0 a.lc.0 a.writes × ((x : Write) × In x a.writes)
   here_writes a (it_comes from c u z m) = (came_told from (Prepare a.tx a.part a.rs a.lc a.writes) c, comes_some (at_place scene i) input w from a (Prepare a.tx a.part a.rs a.lc a.writes) c refl)
   here_writes a (it_waits kept rest q) = h.held i d.view there_d a (subst (In (Held a)) (sym q) (in_right kept (Held a ∷ rest) (Held a) (inl refl)))
 
-  placed_writes : (a : Arrived) → Placed (at_place scene i) input d a → AreWrites scene (during s i d) a.tx a.part a.rs.0 a.lc.0 a.writes × ((x : Write) × In x a.writes)
+  pub placed_writes : (a : Arrived) → Placed (at_place scene i) input d a → AreWrites scene (during s i d) a.tx a.part a.rs.0 a.lc.0 a.writes × ((x : Write) × In x a.writes)
   placed_writes a (by_master k) = here_writes a k
   placed_writes a (by_slave from c t) = (came_told from (Replicate a.tx a.part a.rs a.lc a.writes) c, comes_some (at_place scene i) input w from a (Replicate a.tx a.part a.rs a.lc a.writes) c refl)
 
-  placed_foreign : (a : Arrived) → Placed (at_place scene i) input d a → a.tx.node.0 ≢ i + 1
+  pub placed_foreign : (a : Arrived) → Placed (at_place scene i) input d a → a.tx.node.0 ≢ i + 1
   placed_foreign a (by_master (it_comes from c u z m)) = not_same a.tx.node (at_place scene i).node m.foreign
   placed_foreign a (by_master (it_waits kept rest q)) =
       not_same a.tx.node (at_place scene i).node (h.master i d.view there_d a (subst (In (Held a)) (sym q) (in_right kept (Held a ∷ rest) (Held a) (inl refl)))).foreign
@@ -141,7 +141,7 @@ module _ (scene : Scene) (s : Stage) (i : ℕ) (v : View) (input : Input) (w : W
   own_pair : (a : Arrived) → (same_tx a.tx a.tx && same_part a.part a.part) ≡ true
   own_pair a = same_pair a.tx a.tx a.part a.part (record { node = refl; seq = refl; part = refl })
 
-  placed_unknown : (a : Arrived) → Placed (at_place scene i) input d a → Knows a.tx a.part d.view → ⊥
+  pub placed_unknown : (a : Arrived) → Placed (at_place scene i) input d a → Knows a.tx a.part d.view → ⊥
   placed_unknown a (by_master k) n =
       let f : a.tx.node.0 ≢ i + 1 = placed_foreign a (by_master k) in here_unknown (at_place scene i) input w a.tx a.part f d a (own_pair a) (h.quiet i d.view there_d a.tx a.part f) k n
   placed_unknown a (by_slave from c t) n = unknown_not a.tx a.part d.view t.unknown n
