@@ -109,7 +109,12 @@ module _ (scene : Scene) (s : Stage) (h : Linked scene s) where
           by_kept : (a : Asked) → a.part ≡ part_of scene w.key → a.node ≡ r → (ts : Ts) → ts.0 ≤ fc → (c : Acknowledged scene s a.node (name_of (at_place scene st.n) st.i) a.part ts)
               → In w (filter (in_part scene a.part) c.all) → Kept scene s c.view (name_of (at_place scene st.n) st.i) a.part ts (filter (in_part scene a.part) c.all) → FoundAt t fc w r
           by_kept a p q ts le c own (k_stands n g) = (
-            c.n, c.view, pre_of (name_of (at_place scene st.n) st.i) a.part ts w, sym q ∙ c.sender, c.there, g w own,
+            c.n,
+            c.view,
+            pre_of (name_of (at_place scene st.n) st.i) a.part ts w,
+            sym q ∙ c.sender,
+            c.there,
+            g w own,
             record { tx_is = sym st.name; key_is = refl; part_is = p },
             a_pre refl le n,
           )
@@ -117,7 +122,12 @@ module _ (scene : Scene) (s : Stage) (h : Linked scene s) where
               let mine : IsDecidedAs scene s (name_of (at_place scene st.n) st.i) x = record { n = st.n; i = st.i; view = st.view; there = st.there; own = st.own; name = refl; decided = ap is_decided cm.1 } in
               let same : y ≡ x = one_decided scene s (name_of (at_place scene st.n) st.i) y x d mine in
               let phase : y.phase ≡ Committed cm.0 (Some fc) = ap (λ (u : Own). u.phase) same ∙ cm.1 in (
-                c.n, c.view, settled fc (pre_of (name_of (at_place scene st.n) st.i) a.part ts w), sym q ∙ c.sender, c.there, g cm.0 fc phase w own,
+                c.n,
+                c.view,
+                settled fc (pre_of (name_of (at_place scene st.n) st.i) a.part ts w),
+                sym q ∙ c.sender,
+                c.there,
+                g cm.0 fc phase w own,
                 record { tx_is = sym st.name; key_is = refl; part_is = p },
                 a_final refl refl,
               )
@@ -126,7 +136,12 @@ module _ (scene : Scene) (s : Stage) (h : Linked scene s) where
       by_place (inl e) =
           let is : r ≡ record { 0 = st.n + 1 } = λ j. record { 0 = e j } in
           let hosted_here : hosts scene (at_place scene st.n).node (part_of scene w.key) ≡ true = subst (λ (z : NodeId). hosts scene z (part_of scene w.key) ≡ true) is hosted in (
-            st.n, st.view, final_version (at_place scene st.n) st.i fc w, is, st.there, good.finals cm.0 fc cm.1 w m hosted_here,
+            st.n,
+            st.view,
+            final_version (at_place scene st.n) st.i fc w,
+            is,
+            st.there,
+            good.finals cm.0 fc cm.1 w m hosted_here,
             record { tx_is = sym st.name; key_is = refl; part_is = refl },
             a_final refl refl,
           )

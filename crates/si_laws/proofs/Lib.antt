@@ -36,3 +36,4 @@ pub mod AroundActs
 pub mod Apart
 pub mod Mastering
 pub mod Masters
+pub mod MasterLaw

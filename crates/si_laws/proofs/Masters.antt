@@ -185,7 +185,9 @@ module _ (scene : Scene) (s : Stage) (i : ℕ) (v : View) (input : Input) (w : W
       let ws = writes_of a (by_master g) in
       record {
         final = not_undecided r.kind met.0;
-        rs = a.rs.0; lc = a.lc.0; ws = ws.0;
+        rs = a.rs.0;
+        lc = a.lc.0;
+        ws = ws.0;
         certified = certified_stays scene s i v input w d e is act q.tx a.rs.0 a.lc.0 ws.0 (subst (λ (y : Version). IsCertified scene (during s i d) y.tx a.rs.0 a.lc.0 ws.0) (sym z) ws.1);
         below = met.1;
       }
@@ -215,7 +217,10 @@ module _ (scene : Scene) (s : Stage) (i : ℕ) (v : View) (input : Input) (w : W
 
       of_around : Around (at_place scene i) d.view j x p.ts.0 r → IsBefore scene (during s i e) r q
       of_around (final_below k le) = record {
-        final = k; rs = x.snap.rs; lc = lc; ws = x.writes;
+        final = k;
+        rs = x.snap.rs;
+        lc = lc;
+        ws = x.writes;
         certified = certified_stays scene s i v input w d e is act q.tx x.snap.rs lc x.writes (record { n = i; i = j; view = d.view; x = x; there = at_d; own = own; name = sym ptx ∙ pt; lc_is = l; writes = refl; rs_is = refl });
         below = le;
       }
@@ -250,7 +255,10 @@ module _ (scene : Scene) (s : Stage) (i : ℕ) (v : View) (input : Input) (w : W
       of_order : p.kind ≡ Pre → IsBefore scene (during s i d) p r ⊎ IsBefore scene (during s i d) r p → IsBefore scene (during s i e) r q
       of_order k (inl b) = absurd (cc (b.final, k))
       of_order k (inr b) = record {
-        final = b.final; rs = b.rs; lc = b.lc; ws = b.ws;
+        final = b.final;
+        rs = b.rs;
+        lc = b.lc;
+        ws = b.ws;
         certified = certified_stays scene s i v input w d e is act q.tx b.rs b.lc b.ws (subst (λ (y : TxId). IsCertified scene (during s i d) y b.rs b.lc b.ws) ptx b.certified);
         below = b.below;
       }

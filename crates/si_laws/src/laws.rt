@@ -4,6 +4,7 @@ ghost use Rattle.si_laws.specs.Laws.Lasting.{AnswersGrow, DecidedStay};
 ghost use Rattle.si_laws.specs.Laws.Asking.{PresAsked};
 ghost use Rattle.si_laws.specs.Laws.Session.{SessionHolds};
 ghost use Rattle.si_laws.specs.Laws.Stages.{AcksKnown, StagesForward};
+ghost use Rattle.si_laws.specs.Laws.Apart.{OrderHolds};
 
 /// Times at a node, over every list of events.
 pub fn times_hold()
@@ -38,4 +39,10 @@ pub fn stages_forward()
 /// Where a node sent an Ack, the pair's versions stand there, or the pair is done.
 pub fn acks_known()
     ensures { AcksKnown }
+{}
+
+/// Versions of one key at its master are in order: of two, of two transactions, one is final at or below the other's snapshot, or both
+/// are Local.
+pub fn order_at_master()
+    ensures { OrderHolds }
 {}
