@@ -37,3 +37,4 @@ pub mod Apart
 pub mod Mastering
 pub mod Masters
 pub mod MasterLaw
+pub mod Scripting

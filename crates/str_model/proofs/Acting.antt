@@ -102,6 +102,10 @@ pub data AsksCommit (here : Here) (x : Own) : Type 0 where
   asks_new : x.phase ≡ Active → own_op here x ≡ None → AsksCommit here x
   asks_again : x.phase ≡ CertWait → AsksCommit here x
 
+-- an own transaction that asks to commit
+abbrev pub IsAsking : Here → Where → Doing → ℕ → Own → Type 0
+IsAsking here w d i x = (slice_get d.view.own i ≡ Some x) × Touches w i × AsksCommit here x
+
 -- what an undecided transaction becomes, change by change
 pub data Change (here : Here) (input : Input) (d : Doing) (i : ℕ) (x : Own) : Own → Type 0 where
   ch_resolve : (ffc : ℕ) (ds : List Dep) → dep_turn d.view.own x.snap ≡ Keep ffc ds → Change here input d i x (record x { snap = record (x.snap) { ffc = ffc; deps = ds } })
@@ -204,7 +208,7 @@ pub data Act (here : Here) (input : Input) (w : Where) : Doing → Doing → Typ
   act_mark : (k : KeyId) (t : ℕ) (d : Doing) → Act here input w d (marked k t d)
   act_put : (i : ℕ) (x y : Own) (d : Doing) → IsOwn w d i x → Goes here input d i x y → Act here input w d (put i y d)
   act_request : (i : ℕ) (k : KeyId) (master : NodeId) (x : Own) (d : Doing) → IsOwn w d i x → Goes here input d i x (in_phase (Remote k) x) → Act here input w d (requested here i k master x d)
-  act_certify : (i lc : ℕ) (snap : Snap) (x : Own) (d : Doing) → IsOwn w d i x → is_decided x.phase ≡ false → lc_of x.phase ≡ None
+  act_certify : (i lc : ℕ) (snap : Snap) (x : Own) (d : Doing) → IsAsking here w d i x → is_decided x.phase ≡ false → lc_of x.phase ≡ None
       → cert_turn here d.view x.snap x.writes ≡ Certified lc snap → Act here input w d (certified here i lc snap x d)
   act_ask : (i lc : ℕ) (p : PartId) (x : Own) (d : Doing) → IsOwn w d i x → is_decided x.phase ≡ false → lc_of x.phase ≡ Some lc
       → gate_of here d.view lc x ≡ Ask p → Act here input w d (asked here i lc p x d)

@@ -201,7 +201,7 @@ module _ (here : Here) (input : Input) (w : Where) where
 
   pub cert_done-path : (i : ℕ) (x : Own) (turn : CertTurn) (d : Doing) → IsFree w d i x → AsksCommit here x → cert_turn here d.view x.snap x.writes ≡ turn
       → Path here input w d (cert_done here i x turn d)
-  cert_done-path i x (Certified lc snap) d f a e = one (act_certify i lc snap x d f.own f.open_ f.no_lc e)
+  cert_done-path i x (Certified lc snap) d f a e = one (act_certify i lc snap x d (f.own.0, f.own.1, a) f.open_ f.no_lc e)
   cert_done-path i x (Conflict u k) d f a e = one (act_abort i _ x d f.own f.open_ (by_certification u k e))
   cert_done-path i x (WaitGate by) d f a e = one (act_put i x _ d f.own (record { goes = phase-goes w d i x CertWait f refl refl; change = ch_gate a }))
 
