@@ -56,13 +56,13 @@ module _ (here : Here) (input : Input) (w : Where) where
             );
       }
 
-  comes_some : (from : NodeId) (a : Arrived) (b : Body) → Comes here input from b → has_named here b ≡ Strange.has_named_writes here a.tx a.part a.rs a.lc a.writes → (x : Write) × In x a.writes
+  pub comes_some : (from : NodeId) (a : Arrived) (b : Body) → Comes here input from b → has_named here b ≡ Strange.has_named_writes here a.tx a.part a.rs a.lc a.writes → (x : Write) × In x a.writes
   comes_some from a b c q =
       let named : has_named here c.0.body ≡ true = and_right (Strange.has_node here c.0.sender) (has_named here c.0.body) (and_right (same_node c.0.receiver here.node) (Strange.has_node here c.0.sender && has_named here c.0.body) c.4) in
       valid_some here a.tx a.part a.rs a.lc a.writes (sym q ∙ (ap (has_named here) (sym c.3) ∙ named))
 
   here_some : (d : Doing) (a : Arrived) → SomeWrites d.view → IsHere here input d a → (x : Write) × In x a.writes
-  here_some d a some (it_comes from c u z) = comes_some from a (Prepare a.tx a.part a.rs a.lc a.writes) c refl
+  here_some d a some (it_comes from c u z m) = comes_some from a (Prepare a.tx a.part a.rs a.lc a.writes) c refl
   here_some d a some (it_waits kept rest q) = some a (subst (In (Held a)) (sym q) (in_right kept (Held a ∷ rest) (Held a) (inl refl)))
 
   pub ack_step : (d e : Doing) → Act here input w d e → SomeWrites d.view → (m : Message) → In m e.sent → is_ack m.body ≡ true → In m d.sent ⊎ IsNew here e m

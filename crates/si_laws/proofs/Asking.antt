@@ -34,7 +34,7 @@ asked_more : (xs ys : List Message) (tx : TxId) (p : PartId) → HasAsked xs tx 
 asked_more xs ys tx p h = let r = at_in (xs ++ ys) h.1 (in_left xs ys h.1 (in_at xs h.0 h.1 h.2)) in (r.0, h.1, r.1, h.3, h.4)
 
 -- a Pre version was there, or has just been placed
-pre_from : (here : Here) (input : Input) (d e : Doing) (x : Version) → VersionStep here input d e → In x e.view.versions → x.kind ≡ Pre
+pub pre_from : (here : Here) (input : Input) (d e : Doing) (x : Version) → VersionStep here input d e → In x e.view.versions → x.kind ≡ Pre
     → In x d.view.versions ⊎ ((a : Arrived) × Placed here input d a × (x.tx ≡ a.tx) × (x.part ≡ a.part))
 pre_from here input d e x (v_rests q) h k = inl (rw (← q) h)
 pre_from here input d e x (v_locals i lc y q) h k =
@@ -65,13 +65,13 @@ module _ (scene : Scene) (s : Stage) (i : ℕ) (v : View) (input : Input) (is : 
       let t : Sent s m = subst (IsSeen s) q seen in kept.asks m a.tx a.part (in_left s.sent d.sent m (in_at s.sent t.0 m t.1)) k
 
   here_asked : (a : Arrived) → IsHere (at_place scene i) input d a → HasAsked (s.sent ++ d.sent) a.tx a.part
-  here_asked a (it_comes from c u w) = seen_asks c.0 a c.1 (subst (Asks a.tx a.part) (sym c.3) (refl, refl))
+  here_asked a (it_comes from c u w m) = seen_asks c.0 a c.1 (subst (Asks a.tx a.part) (sym c.3) (refl, refl))
   here_asked a (it_waits before after w) =
       kept.held i d.view a (get_set s.nodes i v d.view is) (subst (In (Held a)) (sym w) (in_right before (Held a ∷ after) (Held a) (inl refl)))
 
   placed_asked : (a : Arrived) → Placed (at_place scene i) input d a → HasAsked (s.sent ++ d.sent) a.tx a.part
   placed_asked a (by_master h) = here_asked a h
-  placed_asked a (by_slave from c) = seen_asks c.0 a c.1 (subst (Asks a.tx a.part) (sym c.3) (refl, refl))
+  placed_asked a (by_slave from c t) = seen_asks c.0 a c.1 (subst (Asks a.tx a.part) (sym c.3) (refl, refl))
 
   module _ (w : Where) (e : Doing) (act : Act (at_place scene i) input w d e) where
     new : SentStep (at_place scene i) input d e
@@ -98,7 +98,7 @@ module _ (scene : Scene) (s : Stage) (i : ℕ) (v : View) (input : Input) (is : 
       where
         arrived : (w : Waiter) → Arrives (at_place scene i) input d w → w ≡ Held a → HasAsked (s.sent ++ d.sent) a.tx a.part
         arrived w (a_read from tx k rs c) g = absurd (cc g)
-        arrived w (a_prepare from b c u z) g =
+        arrived w (a_prepare from b c u z m) g =
             let same : b ≡ a = cc g in subst (λ b. HasAsked (s.sent ++ d.sent) b.tx b.part) same (seen_asks c.0 b c.1 (subst (Asks b.tx b.part) (sym c.3) (refl, refl)))
 
     letter_asked : (m : Message) (tx : TxId) (p : PartId) → In m (s.sent ++ e.sent) → Letter (at_place scene i) input d m → Asks tx p m.body → HasAsked (s.sent ++ e.sent) tx p

@@ -10,6 +10,7 @@ use Rattle.str_model.specs.declared.messages.Body.TheVariants.{Abort, Ack, Commi
 use Rattle.str_model.specs.declared.messages.Input.{Input}
 use Rattle.str_model.specs.declared.messages.Message.{Message}
 use Rattle.str_model.specs.declared.messages.Waiter.{Waiter}
+use Rattle.str_model.specs.declared.messages.Waiter.TheVariants.{Held}
 use Rattle.str_model.specs.Acts.{abort_came, aborted, accepted, acked, asked, begun, certified, closed, commit_came, committed, decided_versions, local_version, marked, pre_version, refused, replied, requested, taken, waits}
 use Rattle.str_model.specs.Acts
 use Rattle.si_laws.specs.Laws.Asking.{Asks}
@@ -18,7 +19,7 @@ use Rattle.str_scene.specs.Scenes.{Here, first_or, in_part, leads, others, repli
 use Rattle.str_model.specs.Steps.{drop_held}
 use Rattle.str_base.specs.Versions.{finalise, insert_all, of_pair, of_tx, without}
 use Rattle.str_model.specs.Views.{Doing, Own, letter, name_of}
-use Rattle.str_model.proofs.Acting.{Act, Arrives, Comes, IsHere, Where, act_abort, act_abort_came, act_accept, act_ack, act_ask, act_begin, act_certify, act_close, act_commit, act_commit_came, act_mark, act_put, act_refuse, act_reply, act_request, act_take, act_unwait, act_wait}
+use Rattle.str_model.proofs.Acting.{Act, Arrives, Comes, IsHere, Takes, Where, it_comes, it_waits, left_waiting, act_abort, act_abort_came, act_accept, act_ack, act_ask, act_begin, act_certify, act_close, act_commit, act_commit_came, act_mark, act_put, act_refuse, act_reply, act_request, act_take, act_unwait, act_wait}
 use Rattle.str_model.proofs.Gaining.{if_elim}
 use Rattle.str_model.proofs.Members.{In, in_append, in_left, in_map, in_right}
 
@@ -27,7 +28,7 @@ use Rattle.str_model.proofs.Members.{In, in_append, in_left, in_map, in_right}
 -- where new Pre versions come from
 pub data Placed (here : Here) (input : Input) (d : Doing) (a : Arrived) : Type 0 where
   by_master : IsHere here input d a → Placed here input d a
-  by_slave : (from : NodeId) → Comes here input from (Replicate a.tx a.part a.rs a.lc a.writes) → Placed here input d a
+  by_slave : (from : NodeId) → Comes here input from (Replicate a.tx a.part a.rs a.lc a.writes) → Takes here d a → Placed here input d a
 
 pub data VersionStep (here : Here) (input : Input) (d e : Doing) : Type 0 where
   v_rests : e.view.versions ≡ d.view.versions → VersionStep here input d e
@@ -65,6 +66,12 @@ dropped tx p (x ∷ ws) w h = by_test (dropped tx p ws w) (holds_pair tx p x) h
     by_test rec false (inl e) = inl e
     by_test rec false (inr k) = inr (rec k)
 
+-- those who still wait were waiting
+pub still : (here : Here) (input : Input) (d : Doing) (a : Arrived) (h : IsHere here input d a) (x : Waiter) → In x (left_waiting h) → In x d.view.waiters
+still here input d a (it_comes from c u z m) x k = k
+still here input d a (it_waits kept rest q) x k =
+    subst (In x) (sym q) (elim (in_append kept rest x k) [ inl j ↦ in_left kept (Held a ∷ rest) x j | inr j ↦ in_right kept (Held a ∷ rest) x (inr j) ])
+
 module _ (here : Here) (input : Input) (w : Where) where
   pub version_step : (d e : Doing) → Act here input w d e → VersionStep here input d e
   unfolding begun marked aborted committed closed certified asked acked requested accepted taken refused waits replied commit_came abort_came
@@ -80,7 +87,7 @@ module _ (here : Here) (input : Input) (w : Where) where
   version_step d e (act_close i x d' own p n) = v_rests refl
   version_step d e (act_accept a ts d' h m) = v_pres a ts (by_master h) refl
   version_step d e (act_refuse a u k d' h m) = v_rests refl
-  version_step d e (act_take from a d' c l) = v_pres a _ (by_slave from c) refl
+  version_step d e (act_take from a d' c l) = v_pres a _ (by_slave from c l) refl
   version_step d e (act_wait r d' h) = v_rests refl
   version_step d e (act_unwait kept rest r d' h) = v_rests refl
   version_step d e (act_reply tx k rs v u fc d' h) = v_rests refl
@@ -102,8 +109,8 @@ module _ (here : Here) (input : Input) (w : Where) where
   wait_step d e (act_abort i cause x d' own f y) = w_fewer (λ w k. k)
   wait_step d e (act_commit i lc fc x d' own l n le f g) = w_fewer (λ w k. k)
   wait_step d e (act_close i x d' own p n) = w_fewer (λ w k. k)
-  wait_step d e (act_accept a ts d' h m) = w_fewer (λ w k. k)
-  wait_step d e (act_refuse a u k d' h m) = w_fewer (λ w k. k)
+  wait_step d e (act_accept a ts d' h m) = w_fewer (still here input d' a h)
+  wait_step d e (act_refuse a u k d' h m) = w_fewer (still here input d' a h)
   wait_step d e (act_take from a d' c l) = w_fewer (λ w k. k)
   wait_step d e (act_reply tx k rs v u fc d' h) = w_fewer (λ w k. k)
   wait_step d e (act_commit_came from tx p fc ms d' c h) = w_fewer (λ w k. k)

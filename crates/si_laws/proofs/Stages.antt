@@ -24,18 +24,18 @@ use Rattle.str_model.specs.Strange.{has_named, has_named_writes}
 use Rattle.str_model.specs.Strange
 use Rattle.str_base.specs.Versions.{of_pair, of_tx, same_node, same_part, same_tx, settled, without}
 use Rattle.str_model.specs.Views.{Doing, View, name_of}
-use Rattle.str_model.proofs.Acting.{Act, Arrives, Served, Where, a_prepare, a_read, act_abort, act_abort_came, act_accept, act_ack, act_ask, act_begin, act_certify, act_close, act_commit, act_commit_came, act_mark, act_put, act_refuse, act_reply, act_request, act_take, act_unwait, act_wait, s_accepted, s_read, s_refused}
+use Rattle.str_model.proofs.Acting.{Act, Arrives, IsHere, Served, Where, it_comes, it_waits, left_waiting, a_prepare, a_read, act_abort, act_abort_came, act_accept, act_ack, act_ask, act_begin, act_certify, act_close, act_commit, act_commit_came, act_mark, act_put, act_refuse, act_reply, act_request, act_take, act_unwait, act_wait, s_read}
 use Rattle.str_model.proofs.Everywhere.{IsSeen, Stage, at_each_node, at_place, during, ever_after, run-append, stage_of}
 use Rattle.str_model.proofs.Gaining.{and_left, and_right}
 use Rattle.str_model.proofs.Lists.{get_set, get_set_other, got_set}
-use Rattle.str_model.proofs.Members.{In, in_all_old, in_append, in_left, in_right}
+use Rattle.str_model.proofs.Members.{In, in_all_new, in_all_old, map_in, in_append, in_left, in_right}
 use Rattle.si_laws.proofs.Parts.{WaitStep, w_fewer, w_more, wait_step}
 
 -- a member passes the test
 abbrev pub Has : {A : Type 0} → (A → Bool) → List A → Type 0
 Has {A = A} p xs = (x : A) × In x xs × (p x ≡ true)
 
-or_right_true : (a b : Bool) → b ≡ true → (a || b) ≡ true
+pub or_right_true : (a b : Bool) → b ≡ true → (a || b) ≡ true
 or_right_true true b e = refl
 or_right_true false b e = e
 
@@ -44,7 +44,7 @@ has_at p [] x h e = absurd h
 has_at p (y ∷ xs) x (inl q) e = rw (ap p q ∙ e) refl
 has_at p (y ∷ xs) x (inr h) e = or_right_true (p y) (list_any p xs) (has_at p xs x h e)
 
-any_has : {A : Type 0} (p : A → Bool) (xs : List A) → list_any p xs ≡ true → Has p xs
+pub any_has : {A : Type 0} (p : A → Bool) (xs : List A) → list_any p xs ≡ true → Has p xs
 any_has p [] e = absurd (cc e)
 any_has {A = A} p (y ∷ xs) e = by_test (p y) refl (any_has p xs) e
   where
@@ -60,7 +60,7 @@ pub record SamePair (t u : TxId) (p q : PartId) : Type 0 where
   pub seq : t.seq ≡ u.seq
   pub part : p.0 ≡ q.0
 
-pair_same : (t u : TxId) (p q : PartId) → (same_tx t u && same_part p q) ≡ true → SamePair t u p q
+pub pair_same : (t u : TxId) (p q : PartId) → (same_tx t u && same_part p q) ≡ true → SamePair t u p q
 pair_same t u p q e =
     let both = and_left (same_tx t u) (same_part p q) e in
     record {
@@ -77,13 +77,13 @@ same_pair t u p q s =
     rw (a, b, c) refl
 
 -- two pairs that are both x's
-joined_pair : (x t u : TxId) (r p q : PartId) → (same_tx x t && same_part r p) ≡ true → (same_tx x u && same_part r q) ≡ true → (same_tx u t && same_part q p) ≡ true
+pub joined_pair : (x t u : TxId) (r p q : PartId) → (same_tx x t && same_part r p) ≡ true → (same_tx x u && same_part r q) ≡ true → (same_tx u t && same_part q p) ≡ true
 joined_pair x t u r p q e f =
     let a = pair_same x t r p e in
     let b = pair_same x u r q f in
     same_pair u t q p (record { node = sym b.node ∙ a.node; seq = sym b.seq ∙ a.seq; part = sym b.part ∙ a.part })
 
-keep_without : (test : Version → Bool) (vs : List Version) (x : Version) → In x vs → test x ≡ false → In x (without test vs)
+pub keep_without : (test : Version → Bool) (vs : List Version) (x : Version) → In x vs → test x ≡ false → In x (without test vs)
 keep_without test [] x h e = absurd h
 keep_without test (y ∷ vs) x (inl q) e = rw (ap test q ∙ e) (inl q)
 keep_without test (y ∷ vs) x (inr h) e = by_test (test y) (keep_without test vs x h e)
@@ -103,7 +103,7 @@ keep_held t q (y ∷ ws) x h = by_test (keep_held t q ws x) (holds_pair t q y) r
     by_test rec false e (inl k) = inl (inl k)
     by_test rec false e (inr k) = elim (rec k) [ inl j ↦ inl (inr j) | inr j ↦ inr j ]
 
-not_both : (b : Bool) → (b ≡ true → ⊥) → b ≡ false
+pub not_both : (b : Bool) → (b ≡ true → ⊥) → b ≡ false
 not_both true h = absurd (h refl)
 not_both false h = refl
 
@@ -132,7 +132,7 @@ some_step here input d e (w_more w c q) h a k = elim (in_append d.view.waiters (
   where
     arrived : (w : Waiter) → Arrives here input d w → w ≡ Held a → (w : Write) × In w a.writes
     arrived w (a_read from tx k rs c) g = absurd (cc g)
-    arrived w (a_prepare from b c u z) g =
+    arrived w (a_prepare from b c u z m) g =
         let same : b ≡ a = cc g in
         let named : has_named here c.0.body ≡ true = and_right (Strange.has_node here c.0.sender) (has_named here c.0.body) (and_right (same_node c.0.receiver here.node) (Strange.has_node here c.0.sender && has_named here c.0.body) c.4) in
         subst (λ (m : Arrived). (w : Write) × In w m.writes) same (valid_some here b.tx b.part b.rs b.lc b.writes (subst (λ (m : Body). has_named here m ≡ true) c.3 named))
@@ -155,7 +155,7 @@ module _ (here : Here) (input : Input) (w : Where) (tx : TxId) (p : PartId) (oth
   last_done : (v : View) (t : TxId) (q : PartId) → (same_tx t tx && same_part q p) ≡ true → Has (is_pair tx p) (v.done ++ (t, q) ∷ [])
   last_done v t q e = ((t, q), in_right v.done ((t, q) ∷ []) (t, q) (inl refl), e)
 
-  done-act : (d e : Doing) → Act here input w d e → Done d.view → Done e.view
+  pub done-act : (d e : Doing) → Act here input w d e → Done d.view → Done e.view
   unfolding begun marked aborted committed closed certified asked acked requested accepted taken refused waits replied commit_came abort_came
   done-act d e (act_begin place rs d' r h) k = k
   done-act d e (act_mark g t d') k = k
@@ -212,6 +212,16 @@ module _ (here : Here) (input : Input) (w : Where) (tx : TxId) (p : PartId) (oth
       by_test true r = inl (last_done d.view t q (joined_pair k.0.tx tx t k.0.part p q k.2 r))
       by_test false r = inr (k.0, keep_without (of_pair t q) d.view.versions k.0 k.1 r, k.2)
 
+  left_or_held : (d : Doing) (a : Arrived) (h : IsHere here input d a) → Waits d.view → Has (holds_pair tx p) (left_waiting h) ⊎ (In (Held a) d.view.waiters × ((same_tx a.tx tx && same_part a.part p) ≡ true))
+  left_or_held d a (it_comes from c u z m) k = inl k
+  left_or_held d a (it_waits kept rest q) k = elim (in_append kept (Held a ∷ rest) k.0 (subst (In k.0) q k.1)) [
+    | inl j ↦ inl (k.0, in_left kept rest k.0 j, k.2)
+    | inr j ↦ (elim j [
+      | inl z ↦ inr (subst (λ (y : Waiter). In y d.view.waiters) (sym z) k.1, ap (holds_pair tx p) z ∙ k.2)
+      | inr z ↦ inl (k.0, in_right kept rest k.0 z, k.2)
+    ])
+  ]
+
   waits-act : (d e : Doing) → Act here input w d e → SomeWrites d.view → Waits d.view → Done e.view ⊎ (Stands e.view ⊎ Waits e.view)
   unfolding begun marked aborted committed closed certified asked acked requested accepted taken refused waits replied commit_came abort_came
   waits-act d e (act_begin place rs d' r h) some k = inr (inr k)
@@ -224,22 +234,23 @@ module _ (here : Here) (input : Input) (w : Where) (tx : TxId) (p : PartId) (oth
   waits-act d e (act_abort i cause x d' own f y) some k = inr (inr k)
   waits-act d e (act_commit i lc fc x d' own l n le f g) some k = inr (inr k)
   waits-act d e (act_close i x d' own q n) some k = inr (inr k)
-  waits-act d e (act_accept a ts d' h m) some k = inr (inr k)
-  waits-act d e (act_refuse a u g d' h m) some k = inr (inr k)
+  waits-act d e (act_accept a ts d' h m) some k = elim (left_or_held d' a h k) [
+    | inl j ↦ inr (inr j)
+    | inr j ↦ (let x = some a j.0 in inr (inl (pre_version a ts x.0, in_all_new (map (pre_version a ts) a.writes) d'.view.versions (pre_version a ts x.0) (map_in (pre_version a ts) a.writes x.0 x.1), j.1)))
+  ]
+  waits-act d e (act_refuse a u g d' h m) some k = elim (left_or_held d' a h k) [ inl j ↦ inr (inr j) | inr j ↦ inl (last_done d'.view a.tx a.part j.1) ]
   waits-act d e (act_take from a d' c l) some k = inr (inr k)
   waits-act d e (act_wait r d' h) some k = inr (inr (k.0, in_left d.view.waiters (r ∷ []) k.0 k.1, k.2))
   waits-act d e (act_unwait kept rest r d' h) some k = elim (in_append kept (r ∷ rest) k.0 (subst (In k.0) h.waiters k.1)) [
     | inl j ↦ inr (inr (k.0, in_left kept rest k.0 j, k.2))
     | inr j ↦ (elim j [
-      | inl q ↦ left_by r (ap (holds_pair tx p) q ∙ k.2) (λ a g. some a (subst (λ (z : Waiter). In z d.view.waiters) (sym q ∙ g) k.1)) h.served
+      | inl q ↦ absurd (left_by r (ap (holds_pair tx p) q ∙ k.2) h.served)
       | inr z ↦ inr (inr (k.0, in_right kept rest k.0 z, k.2))
     ])
   ]
     where
-      left_by : (r : Waiter) → holds_pair tx p r ≡ true → ((a : Arrived) → r ≡ Held a → (x : Write) × In x a.writes) → Served d.view r → Done e.view ⊎ (Stands e.view ⊎ Waits e.view)
-      left_by r t f (s_read u g rs) = absurd (cc t)
-      left_by r t f (s_refused a i) = inl ((a.tx, a.part), i, t)
-      left_by r t f (s_accepted a ts g) = let x = f a refl in inr (inl (pre_version a ts x.0, g x.0 x.1, t))
+      left_by : (r : Waiter) → holds_pair tx p r ≡ true → Served d.view r → ⊥
+      left_by r t (s_read u g rs) = absurd (cc t)
   waits-act d e (act_reply t g rs v u fc d' h) some k = inr (inr k)
   waits-act d e (act_commit_came from t q fc ms d' c h) some k = inr (inr k)
   waits-act d e (act_abort_came from t q d' c h) some k = elim (keep_held t q d.view.waiters k.0 k.1) [

@@ -12,14 +12,14 @@ use Rattle.str_model.proofs.Everywhere.{IsSeen, Stage, at_place, during, ever_af
 use Rattle.str_model.proofs.Lists.{get_push, get_set_other}
 use Rattle.str_model.proofs.Owning.{Becomes, OwnStep, aborts, certifies, closes, commits, goes_on, own_step, rests, starts_one, turns_one}
 
-becomes-open : (v : View) (f g : ℕ) (x y : Own) → Becomes v f g x y → is_decided x.phase ≡ false
+pub becomes-open : (v : View) (f g : ℕ) (x y : Own) → Becomes v f g x y → is_decided x.phase ≡ false
 becomes-open v f g x y (goes_on r e) = r.was_open
 becomes-open v f g x y (certifies lc o n p q s l e) = o
 becomes-open v f g x y (commits lc fc o l le q e) = o
 becomes-open v f g x y (closes o n q e) = o
 becomes-open v f g x y (aborts cause o q e) = o
 
-decided-step : (i : ℕ) (x : Own) (d e : View) → is_decided x.phase ≡ true → OwnStep d e → Owns d i x → Owns e i x
+pub decided-step : (i : ℕ) (x : Own) (d e : View) → is_decided x.phase ≡ true → OwnStep d e → Owns d i x → Owns e i x
 decided-step i x d e dec (rests o f) h = rw o h
 decided-step i x d e dec (starts_one place rs le o f) h = rw o (get_push d.own i _ x h)
 decided-step i x d e dec (turns_one n x' y' own o b) h = rw o (get_set_other d.own n i y' other ∙ h)

@@ -5,6 +5,7 @@ ghost use Rattle.si_laws.specs.Laws.Cut.{CutHolds};
 ghost use Rattle.si_laws.specs.Laws.Asking.{PresAsked};
 ghost use Rattle.si_laws.specs.Laws.Session.{SessionHolds};
 ghost use Rattle.si_laws.specs.Laws.Stages.{AcksKnown, StagesForward};
+ghost use Rattle.si_laws.specs.Laws.Apart.{OrderHolds};
 
 /// Times at a node, over every list of events.
 pub fn times_hold()
@@ -44,4 +45,10 @@ pub fn acks_known()
 /// A run that is cut off has a beginning of the journal and of the answers.
 pub fn cut_holds()
     ensures { CutHolds }
+{}
+
+/// Versions of one key at its master are in order: of two, of two transactions, one is final at or below the other's snapshot, or both
+/// are Local.
+pub fn order_at_master()
+    ensures { OrderHolds }
 {}

@@ -1,4 +1,1 @@
-pub mod Owners
-pub mod Depending
-pub mod Beneath
-pub mod Standing
+pub mod Dependencies

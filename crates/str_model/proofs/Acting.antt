@@ -1,6 +1,6 @@
 -- A step as a chain of single changes, each under the facts at which it is made. A law over runs looks at each
 -- change once, and never at the order in which a step makes them.
-use Rattle.std.proofs.Common.{List, None, Option, Some, [], false, nat_lt, slice_get, true, ℕ, ◌++◌, ◌+◌, ◌∷◌, ◌≡◌, ◌≤◌}
+use Rattle.std.proofs.Common.{List, None, Option, Some, [], false, nat_lt, slice_get, true, ℕ, ◌++◌, ◌+◌, ◌-◌, ◌∷◌, ◌≡◌, ◌≤◌}
 use Rattle.partition_map.specs.declared.rows.Asked.{Asked}
 use Rattle.str_base.specs.declared.names.Cause.{Cause}
 use Rattle.str_base.specs.declared.names.Cause.TheVariants.{Conflict as ByConflict, Late as IsLate, Lost as IsLost, Wish}
@@ -8,32 +8,37 @@ use Rattle.str_base.specs.declared.names.KeyId.{KeyId}
 use Rattle.str_model.specs.declared.names.KeyMark.{KeyMark}
 use Rattle.str_base.specs.declared.names.NodeId.{NodeId}
 use Rattle.str_scene.specs.declared.names.Op.{Op}
+use Rattle.str_scene.specs.declared.names.Op.TheVariants.{Add, Del, Get, Need, Put, Puts}
+use Rattle.dependency_set.specs.declared.names.Dep.{Dep}
+use Rattle.str_model.specs.Scripts.{finish, finish_next, known, noted, own_op}
 use Rattle.str_base.specs.declared.names.PartId.{PartId}
 use Rattle.str_base.specs.declared.names.Ts.{Ts}
 use Rattle.str_base.specs.declared.names.TxId.{TxId}
 use Rattle.str_scene.specs.declared.names.TxPlace.{TxPlace}
 use Rattle.str_base.specs.declared.names.Value.{Value}
+use Rattle.str_base.specs.declared.names.Version.{Version}
+use Rattle.str_base.specs.declared.names.Kind.TheVariants.{Local as LocalKind}
 use Rattle.str_base.specs.declared.names.Write.{Write}
 use Rattle.str_model.specs.declared.messages.Arrived.{Arrived}
 use Rattle.str_model.specs.declared.messages.Body.{Body}
-use Rattle.str_model.specs.declared.messages.Body.TheVariants.{Abort, Ack, Commit, Prepare, ReadReq, Refuse as Refusal, Replicate}
+use Rattle.str_model.specs.declared.messages.Body.TheVariants.{Abort, Ack, Commit, Prepare, ReadReply, ReadReq, Refuse as Refusal, Replicate}
 use Rattle.str_model.specs.declared.messages.Input.{Input}
 use Rattle.str_model.specs.declared.messages.Input.TheVariants.{Deliver}
 use Rattle.str_model.specs.declared.messages.Message.{Message}
 use Rattle.str_model.specs.declared.messages.Waiter.{Waiter}
 use Rattle.str_model.specs.declared.messages.Waiter.TheVariants.{Held, Read}
-use Rattle.str_model.specs.Acts.{abort_came, aborted, accepted, acked, asked, begun, certified, closed, commit_came, committed, in_phase, marked, pre_version, refused, replied, requested, taken, waits, with_waiters}
+use Rattle.str_model.specs.Acts.{abort_came, aborted, accepted, acked, asked, begun, certified, closed, commit_came, committed, in_phase, marked, refused, replied, requested, taken, waits, with_waiters}
 use Rattle.str_model.specs.Clients.{last_index, of_session}
 use Rattle.str_model.specs.Gates.{Ask, CommitAt, gate_of}
 use Rattle.str_model.specs.Proposals.{Accept, Refuse, is_known, is_parked, master_turn, proposed, ts_limit}
-use Rattle.str_model.specs.Returns.{with_ack}
-use Rattle.str_scene.specs.Scenes.{Here, Session, nth}
+use Rattle.str_model.specs.Returns.{own_named, with_ack}
+use Rattle.str_scene.specs.Scenes.{Here, Session, is_master, nth}
 use Rattle.dependency_set.specs.Snapshots.{Snap}
 use Rattle.str_model.specs.Steps.{decides, drop_held}
 use Rattle.str_model.specs.Strange.{is_valid}
-use Rattle.str_model.specs.Turns.{Certified, Conflict, Give, Late, Lost, cert_turn, dep_turn, serve_turn}
-use Rattle.str_base.specs.Versions.{same_node, stamp}
-use Rattle.str_model.specs.Views.{Closing, Doing, Global, Own, Remote, View, is_decided, lc_of, put}
+use Rattle.str_model.specs.Turns.{Away, Certified, Conflict, Give, Keep, Late, Lost, Plain, Speculative, Wait, cert_turn, dep_turn, read_turn, reply_turn, serve_turn}
+use Rattle.str_base.specs.Versions.{of_tx, raised, same_key, same_node, stamp}
+use Rattle.str_model.specs.Views.{Active, CertWait, Closing, Doing, Global, Own, ReadWait, Remote, Reply, View, is_decided, lc_of, name_of, put}
 use Rattle.str_model.proofs.Gaining.{Extends}
 use Rattle.str_model.proofs.Members.{In}
 
@@ -64,6 +69,64 @@ pub record GoesOn (v : View) (x y : Own) : Type 0 where
   pub snap : Extends v x.snap y.snap
   pub same_lc : lc_of y.phase ≡ lc_of x.phase
 
+-- the operation needs the value of the key
+abbrev pub Needs : Op → KeyId → Type 0
+Needs (Get l) k = l ≡ k
+Needs (Add l n) k = l ≡ k
+Needs (Need l n) k = l ≡ k
+Needs _ k = ⊥
+
+-- the operation needs no value
+abbrev pub NeedsNone : Op → Type 0
+NeedsNone (Put l n) = Unit {0}
+NeedsNone (Puts l t) = Unit {0}
+NeedsNone (Del l) = Unit {0}
+NeedsNone _ = ⊥
+
+-- a key is read: for the first time by the operation that needs it, or again by a transaction that waits at home
+pub data Reads (here : Here) (x : Own) (k : KeyId) : Type 0 where
+  reads_new : (op : Op) → x.phase ≡ Active → own_op here x ≡ Some op → Needs op k → known x k ≡ None → Reads here x k
+  reads_again : x.phase ≡ ReadWait k → Reads here x k
+
+-- the mark of the key has just been raised to t
+abbrev pub JustMarked : View → KeyId → ℕ → Type 0
+JustMarked v k t = (ms : List ℕ) × (v.marks ≡ raised ms k t)
+
+-- what was read, and the snapshot then
+pub data ReadsTo (here : Here) (v : View) (snap : Snap) (k : KeyId) (a : Value) (by : Option TxId) (new : Snap) : Type 0 where
+  to_final : (fc : ℕ) → read_turn here v snap k ≡ Plain a by fc new → ReadsTo here v snap k a by new
+  to_local : (u : TxId) → by ≡ Some u → read_turn here v snap k ≡ Speculative a u new → ReadsTo here v snap k a by new
+
+-- it asks to commit: for the first time, or again
+pub data AsksCommit (here : Here) (x : Own) : Type 0 where
+  asks_new : x.phase ≡ Active → own_op here x ≡ None → AsksCommit here x
+  asks_again : x.phase ≡ CertWait → AsksCommit here x
+
+-- an own transaction that asks to commit
+abbrev pub IsAsking : Here → Where → Doing → ℕ → Own → Type 0
+IsAsking here w d i x = (slice_get d.view.own i ≡ Some x) × Touches w i × AsksCommit here x
+
+-- what an undecided transaction becomes, change by change
+pub data Change (here : Here) (input : Input) (d : Doing) (i : ℕ) (x : Own) : Own → Type 0 where
+  ch_resolve : (ffc : ℕ) (ds : List Dep) → dep_turn d.view.own x.snap ≡ Keep ffc ds → Change here input d i x (record x { snap = record (x.snap) { ffc = ffc; deps = ds } })
+  ch_known : (op : Op) (k : KeyId) (a : Value) → x.phase ≡ Active → own_op here x ≡ Some op → Needs op k → known x k ≡ Some a → Change here input d i x (finish op a x)
+  ch_blind : (op : Op) (a : Value) → x.phase ≡ Active → own_op here x ≡ Some op → NeedsNone op → Change here input d i x (finish op a x)
+  ch_read : (k : KeyId) (a : Value) (by : Option TxId) (snap : Snap) → Reads here x k → JustMarked d.view k x.snap.rs → ReadsTo here d.view x.snap k a by snap
+      → Change here input d i x (finish_next (own_op here x) a (noted k a by snap x))
+  ch_wait : (k : KeyId) (by : TxId) → Reads here x k → JustMarked d.view k x.snap.rs → read_turn here d.view x.snap k ≡ Wait by → Change here input d i x (in_phase (ReadWait k) x)
+  ch_away : (k : KeyId) (master : NodeId) → Reads here x k → JustMarked d.view k x.snap.rs → read_turn here d.view x.snap k ≡ Away master → Change here input d i x (in_phase (Remote k) x)
+  ch_reply : (from : NodeId) (tx : TxId) (l k : KeyId) (a : Value) (by : Option TxId) (fc : Ts) → Comes here input from (ReadReply tx k a by fc) → own_named here tx d ≡ Some x
+      → i ≡ tx.seq - 1 → x.phase ≡ Remote l → same_key l k ≡ true → Change here input d i x (in_phase (Reply k a by fc.0) x)
+  ch_take : (k : KeyId) (a b : Value) (by of : Option TxId) (fc gc : ℕ) (snap : Snap) → x.phase ≡ Reply k a by fc → reply_turn here x.snap a by fc ≡ Plain b of gc snap
+      → Change here input d i x (finish_next (own_op here x) b (noted k b of snap x))
+  ch_close : x.phase ≡ Active → own_op here x ≡ None → x.writes ≡ [] → Change here input d i x (in_phase (Closing false) x)
+  ch_gate : AsksCommit here x → Change here input d i x (in_phase CertWait x)
+
+-- an undecided transaction goes on by one of these changes
+pub record Goes (here : Here) (input : Input) (d : Doing) (i : ℕ) (x y : Own) : Type 0 where
+  pub goes : GoesOn d.view x y
+  pub change : Change here input d i x y
+
 -- why a transaction aborts
 pub data Why (here : Here) (input : Input) (d : Doing) (i : ℕ) (x : Own) : Cause → Type 0 where
   by_script : Why here input d i x Wish
@@ -73,23 +136,36 @@ pub data Why (here : Here) (input : Input) (d : Doing) (i : ℕ) (x : Own) : Cau
   by_eviction : (from : NodeId) (a : Arrived) (w : Write) → Comes here input from (Replicate a.tx a.part a.rs a.lc a.writes) → Why here input d i x (ByConflict a.tx w.key here.node)
   by_refusal : (from : NodeId) (t : TxId) (p : PartId) (u : TxId) (k : KeyId) → Comes here input from (Refusal t p u k) → Why here input d i x (ByConflict u k from)
 
+-- this node is the partition's master, and not the transaction's origin
+pub record IsMasters (here : Here) (a : Arrived) : Type 0 where
+  pub master : is_master here.scene here.node a.part ≡ true
+  pub foreign : same_node a.tx.node here.node ≡ false
+
 -- a Prepare is here: it comes for the first time, or it is held
 pub data IsHere (here : Here) (input : Input) (d : Doing) (a : Arrived) : Type 0 where
   it_comes : (from : NodeId) → Comes here input from (Prepare a.tx a.part a.rs a.lc a.writes) → is_known d.view a.tx a.part ≡ false → is_parked d.view a.tx a.part ≡ false
-      → IsHere here input d a
+      → IsMasters here a → IsHere here input d a
   it_waits : (kept rest : List Waiter) → d.view.waiters ≡ kept ++ Held a ∷ rest → IsHere here input d a
+
+-- the answer is one to this transaction, of a participant whose partition it has asked and that has not answered
+pub record KeepsAck (here : Here) (i : ℕ) (x : Own) (from : NodeId) (tx : TxId) (p : PartId) (ts : Ts) (parts : List Asked) : Type 0 where
+  pub named : tx ≡ name_of here i
+  pub parts_are : with_ack x.parts p from ts.0 ≡ Some parts
+
+-- who still waits once it is judged: one who was held leaves
+abbrev pub left_waiting : {here : Here} {input : Input} {d : Doing} {a : Arrived} → IsHere here input d a → List Waiter
+left_waiting {d = d} (it_comes from c u z m) = d.view.waiters
+left_waiting (it_waits kept rest q) = kept ++ rest
 
 -- one who begins to wait has just come
 pub data Arrives (here : Here) (input : Input) (d : Doing) : Waiter → Type 0 where
   a_read : (from : NodeId) (tx : TxId) (k : KeyId) (rs : Ts) → Comes here input from (ReadReq tx k rs) → Arrives here input d (Read tx k rs)
   a_prepare : (from : NodeId) (a : Arrived) → Comes here input from (Prepare a.tx a.part a.rs a.lc a.writes) → is_known d.view a.tx a.part ≡ false → is_parked d.view a.tx a.part ≡ false
-      → Arrives here input d (Held a)
+      → IsMasters here a → Arrives here input d (Held a)
 
--- one who has waited is answered: a read by its reply, a parked Prepare by a refusal or by the versions that it asked for
+-- a read that has waited is answered by its reply; a parked Prepare leaves where it is judged
 pub data Served (v : View) : Waiter → Type 0 where
   s_read : (tx : TxId) (k : KeyId) (rs : Ts) → Served v (Read tx k rs)
-  s_refused : (a : Arrived) → In (a.tx, a.part) v.done → Served v (Held a)
-  s_accepted : (a : Arrived) (ts : ℕ) → ((w : Write) → In w a.writes → In (pre_version a ts w) v.versions) → Served v (Held a)
 
 -- one who is answered waits no more
 pub record Leaves (v : View) (kept rest : List Waiter) (r : Waiter) : Type 0 where
@@ -112,27 +188,43 @@ pub record Begins (here : Here) (place : TxPlace) (rs : ℕ) (d : Doing) : Type 
   pub script : nth text.txs place.index ≡ Some ops
   pub next : NextPlace d.view.own place
 
+-- no undecided own transaction of these places has a Local version of one of the keys that arrived
+abbrev pub NoneHeld : Here → Arrived → Doing → (ℕ → Type 0) → Type 0
+NoneHeld here a d Of =
+    (i : ℕ) (x : Own) (v : Version) (w : Write) → Of i → slice_get d.view.own i ≡ Some x → is_decided x.phase ≡ false → In v d.view.versions → In w a.writes
+    → v.key ≡ w.key → of_tx (name_of here i) v ≡ true → v.kind ≡ LocalKind → ⊥
+
+-- a Replicate may be taken by a slave: its timestamp is below the limit, the pair is new here, and no undecided own transaction has a
+-- Local version of one of its keys
+pub record Takes (here : Here) (d : Doing) (a : Arrived) : Type 0 where
+  pub below : nat_lt (proposed d.view a) ts_limit ≡ true
+  pub unknown : is_known d.view a.tx a.part ≡ false
+  pub slave : is_master here.scene here.node a.part ≡ false
+  pub foreign : same_node a.tx.node here.node ≡ false
+  pub none_held : NoneHeld here a d (λ i. Unit {0})
+
 pub data Act (here : Here) (input : Input) (w : Where) : Doing → Doing → Type 0 where
   act_begin : (place : TxPlace) (rs : ℕ) (d : Doing) → w ≡ InRule → Begins here place rs d → Act here input w d (begun place rs d)
   act_mark : (k : KeyId) (t : ℕ) (d : Doing) → Act here input w d (marked k t d)
-  act_put : (i : ℕ) (x y : Own) (d : Doing) → IsOwn w d i x → GoesOn d.view x y → Act here input w d (put i y d)
-  act_request : (i : ℕ) (k : KeyId) (master : NodeId) (x : Own) (d : Doing) → IsOwn w d i x → GoesOn d.view x (in_phase (Remote k) x) → Act here input w d (requested here i k master x d)
-  act_certify : (i lc : ℕ) (snap : Snap) (x : Own) (d : Doing) → IsOwn w d i x → is_decided x.phase ≡ false → lc_of x.phase ≡ None
+  act_put : (i : ℕ) (x y : Own) (d : Doing) → IsOwn w d i x → Goes here input d i x y → Act here input w d (put i y d)
+  act_request : (i : ℕ) (k : KeyId) (master : NodeId) (x : Own) (d : Doing) → IsOwn w d i x → Goes here input d i x (in_phase (Remote k) x) → Act here input w d (requested here i k master x d)
+  act_certify : (i lc : ℕ) (snap : Snap) (x : Own) (d : Doing) → IsAsking here w d i x → is_decided x.phase ≡ false → lc_of x.phase ≡ None
       → cert_turn here d.view x.snap x.writes ≡ Certified lc snap → Act here input w d (certified here i lc snap x d)
   act_ask : (i lc : ℕ) (p : PartId) (x : Own) (d : Doing) → IsOwn w d i x → is_decided x.phase ≡ false → lc_of x.phase ≡ Some lc
       → gate_of here d.view lc x ≡ Ask p → Act here input w d (asked here i lc p x d)
   act_ack : (i lc : ℕ) (from : NodeId) (tx : TxId) (p : PartId) (ts : Ts) (parts : List Asked) (x : Own) (d : Doing) → IsOwn w d i x → Comes here input from (Ack tx p ts)
-      → x.phase ≡ Global lc → with_ack x.parts p from ts.0 ≡ Some parts → Act here input w d (acked i parts x d)
+      → x.phase ≡ Global lc → KeepsAck here i x from tx p ts parts → Act here input w d (acked i parts x d)
   act_abort : (i : ℕ) (cause : Cause) (x : Own) (d : Doing) → IsOwn w d i x → is_decided x.phase ≡ false → Why here input d i x cause
       → Act here input w d (aborted here i cause x d)
   act_commit : (i lc fc : ℕ) (x : Own) (d : Doing) → IsOwn w d i x → lc_of x.phase ≡ Some lc → x.snap.deps ≡ [] → lc ≤ fc
       → is_decided x.phase ≡ false → gate_of here d.view lc x ≡ CommitAt fc → Act here input w d (committed here i lc fc x d)
   act_close : (i : ℕ) (x : Own) (d : Doing) → IsOwn w d i x → x.phase ≡ Closing false → x.snap.deps ≡ [] → Act here input w d (closed here i x d)
-  act_accept : (a : Arrived) (ts : ℕ) (d : Doing) → IsHere here input d a → master_turn d.view a ≡ Accept ts → Act here input w d (accepted here a ts d)
-  act_refuse : (a : Arrived) (by : TxId) (k : KeyId) (d : Doing) → IsHere here input d a → master_turn d.view a ≡ Refuse by k
-      → Act here input w d (refused here a by k d)
+  act_accept : (a : Arrived) (ts : ℕ) (d : Doing) (h : IsHere here input d a) → master_turn d.view a ≡ Accept ts
+      → Act here input w d (accepted here a ts (with_waiters (left_waiting h) d))
+  act_refuse : (a : Arrived) (by : TxId) (k : KeyId) (d : Doing) (h : IsHere here input d a) → master_turn d.view a ≡ Refuse by k
+      → Act here input w d (refused here a by k (with_waiters (left_waiting h) d))
   act_take : (from : NodeId) (a : Arrived) (d : Doing) → Comes here input from (Replicate a.tx a.part a.rs a.lc a.writes)
-      → nat_lt (proposed d.view a) ts_limit ≡ true → Act here input w d (taken here a (proposed d.view a) d)
+      → Takes here d a → Act here input w d (taken here a (proposed d.view a) d)
   act_wait : (r : Waiter) (d : Doing) → Arrives here input d r → Act here input w d (waits r d)
   act_unwait : (kept rest : List Waiter) (r : Waiter) (d : Doing) → Leaves d.view kept rest r → Act here input w d (with_waiters (kept ++ rest) d)
   act_reply : (tx : TxId) (k : KeyId) (rs : ℕ) (v : Value) (by : Option TxId) (fc : ℕ) (d : Doing) → serve_turn d.view.versions k rs ≡ Give v by fc

@@ -1,13 +1,14 @@
 -- The pass, those who wait and a whole step are paths of single changes.
-use Rattle.std.proofs.Common.{Bool, List, None, Option, Some, [], ap, append_assoc, false, inl, length, map, option_map, refl, suc, sym, true, zero, ℕ, ◌++◌, ◌∙◌, ◌∷◌, ◌≡◌}
+use Rattle.std.proofs.Common.{Bool, List, None, Option, Some, [], ap, append_assoc, false, length, map, option_map, refl, suc, sym, true, zero, ℕ, ◌++◌, ◌∙◌, ◌∷◌, ◌≡◌}
 use Rattle.str_base.specs.declared.names.KeyId.{KeyId}
 use Rattle.str_base.specs.declared.names.Ts.{Ts}
 use Rattle.str_base.specs.declared.names.TxId.{TxId}
+use Rattle.str_base.specs.declared.names.Value.{Value}
 use Rattle.str_model.specs.declared.messages.Arrived.{Arrived}
 use Rattle.str_model.specs.declared.messages.Input.{Input}
 use Rattle.str_model.specs.declared.messages.Waiter.{Waiter}
 use Rattle.str_model.specs.declared.messages.Waiter.TheVariants.{Held, Read}
-use Rattle.str_model.specs.Acts.{accepted, asked, pre_version, refused, replied, with_waiters}
+use Rattle.str_model.specs.Acts.{accepted, asked, refused, replied, with_waiters}
 use Rattle.str_model.specs.Gates.{Ask, CommitAt, GateTurn, Missing, Shut, dep_parts, gate_of}
 use Rattle.str_model.specs.Pass
 use Rattle.str_model.specs.Proposals.{Accept, Ignore, MasterTurn, Park, Refuse, master_turn}
@@ -17,9 +18,8 @@ use Rattle.str_model.specs.Steps
 use Rattle.str_model.specs.Turns.{DepTurn, Give, Keep, Late, Lost, Plain, ReadTurn, ServeTurn, ServeWait, dep_turn, reply_turn, serve_turn}
 use Rattle.str_model.specs.Views.{CertWait, Closing, Doing, Global, Local, Own, Phase, ReadWait, Reply, View, is_decided, lc_of, starts}
 use Rattle.str_model.specs.Waiters
-use Rattle.str_model.proofs.Acting.{Act, InRule, InTurn, InWait, IsOwn, Path, PathTo, Touches, Where, act_abort, act_accept, act_ask, act_close, act_commit, act_put, act_refuse, act_reply, act_unwait, along, and_then, by_late, by_lost, by_script, it_waits, one, s_accepted, s_read, s_refused, stay}
+use Rattle.str_model.proofs.Acting.{Act, InRule, InTurn, InWait, IsOwn, Path, PathTo, Touches, Where, act_abort, act_accept, act_ask, act_close, act_commit, act_put, act_refuse, act_reply, act_unwait, along, and_then, asks_again, by_late, by_lost, by_script, ch_resolve, ch_take, it_waits, one, reads_again, s_read, stay}
 use Rattle.str_model.proofs.Gaining.{TurnGood, if_elim, reply_turn-good}
-use Rattle.str_model.proofs.Members.{in_all_new, in_right, map_in}
 use Rattle.str_model.proofs.Operating.{IsFree, at_own-path, certify_now-path, free_at, gate_commits, read_now-path, resolved-extends, with_value-path}
 use Rattle.str_model.proofs.Ruling.{rule-path}
 
@@ -31,18 +31,18 @@ module _ (here : Here) (input : Input) (w : Where) where
   resolved-path i x (Lost q) d own f e = one (act_abort i _ x d own f (by_lost q e))
   resolved-path i x (Late q fc) d own f e = one (act_abort i _ x d own f (by_late q fc e))
   resolved-path i x (Keep ffc ds) d own f e =
-      one (act_put i x _ d own (record { was_open = f; is_open = f; same_place = refl; snap = resolved-extends d.view.own x ffc ds d e; same_lc = refl }))
+      one (act_put i x _ d own (record { goes = record { was_open = f; is_open = f; same_place = refl; snap = resolved-extends x ffc ds d e; same_lc = refl }; change = ch_resolve ffc ds e }))
 
-  again_reply-path : (i : ℕ) (k : KeyId) (x : Own) (turn : ReadTurn) (d : Doing) → IsFree w d i x → TurnGood d.view x.snap turn
-      → Path here input w d (Pass.again_reply here i k x turn d)
-  again_reply-path i k x (Plain v by fc snap) d f h = with_value-path here input w i k v by snap x d f h
-  again_reply-path i k x _ d f h = stay d
+  again_reply-path : (i : ℕ) (k : KeyId) (a : Value) (by : Option TxId) (fc : ℕ) (x : Own) (turn : ReadTurn) (d : Doing) → IsFree w d i x → TurnGood d.view x.snap turn
+      → x.phase ≡ Reply k a by fc → reply_turn here x.snap a by fc ≡ turn → Path here input w d (Pass.again_reply here i k x turn d)
+  again_reply-path i k a by fc x (Plain v u gc snap) d f h e q = with_value-path here input w i k v u snap x d f h (ch_take k a v by u fc gc snap e q)
+  again_reply-path i k a by fc x _ d f h e q = stay d
 
   again_own-path : (i : ℕ) (p : Phase) (x : Own) (d : Doing) → IsOwn w d i x → x.phase ≡ p → Path here input w d (Pass.again_own here i p x d)
-  again_own-path i (ReadWait k) x d own e = read_now-path here input w i k x d (free_at w d i x (ReadWait k) own e refl refl)
+  again_own-path i (ReadWait k) x d own e = read_now-path here input w i k x d (free_at w d i x (ReadWait k) own e refl refl) (reads_again e)
   again_own-path i (Reply k v by fc) x d own e =
-      again_reply-path i k x (reply_turn here x.snap v by fc) d (free_at w d i x (Reply k v by fc) own e refl refl) (reply_turn-good here d.view x.snap v by fc)
-  again_own-path i CertWait x d own e = certify_now-path here input w i x d (free_at w d i x CertWait own e refl refl)
+      again_reply-path i k v by fc x (reply_turn here x.snap v by fc) d (free_at w d i x (Reply k v by fc) own e refl refl) (reply_turn-good here d.view x.snap v by fc) e refl
+  again_own-path i CertWait x d own e = certify_now-path here input w i x d (free_at w d i x CertWait own e refl refl) (asks_again e)
   again_own-path i _ x d own e = stay d
 
   empty-is : {X : Type 0} (xs : List X) → Pass.is_empty xs ≡ true → xs ≡ []
@@ -136,12 +136,8 @@ module _ (here : Here) (input : Input) (w : Where) where
   waiter_held-waited : (kept rest : List Waiter) (a : Arrived) (turn : MasterTurn) (d : Doing)
       → d.view.waiters ≡ kept ++ Held a ∷ rest → master_turn d.view a ≡ turn → Waited d rest (Waiters.waiter_held here kept rest a turn d)
   unfolding accepted refused
-  waiter_held-waited kept rest a (Accept ts) d w e =
-      let m : Doing = accepted here a ts d in
-      record { path = and_then d m (with_waiters (kept ++ rest) m) (one (act_accept a ts d (it_waits kept rest w) e)) (one (act_unwait kept rest (Held a) m (record { waiters = w; served = s_accepted a ts (λ x h. in_all_new (map (pre_version a ts) a.writes) d.view.versions (pre_version a ts x) (map_in (pre_version a ts) a.writes x h)) }))); same = refl }
-  waiter_held-waited kept rest a (Refuse u k) d w e =
-      let m : Doing = refused here a u k d in
-      record { path = and_then d m (with_waiters (kept ++ rest) m) (one (act_refuse a u k d (it_waits kept rest w) e)) (one (act_unwait kept rest (Held a) m (record { waiters = w; served = s_refused a (in_right d.view.done ((a.tx, a.part) ∷ []) (a.tx, a.part) (inl refl)) }))); same = refl }
+  waiter_held-waited kept rest a (Accept ts) d w e = record { path = one (act_accept a ts d (it_waits kept rest w) e); same = refl }
+  waiter_held-waited kept rest a (Refuse u k) d w e = record { path = one (act_refuse a u k d (it_waits kept rest w) e); same = refl }
   waiter_held-waited kept rest a (Park u) d w e = stays kept rest (Held a) d w
   waiter_held-waited kept rest a Ignore d w e = stays kept rest (Held a) d w
 

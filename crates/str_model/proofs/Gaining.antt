@@ -1,5 +1,5 @@
 -- What a turn takes into a snapshot: the dependencies that it gains come from Local versions at or below its timestamp.
-use Rattle.std.proofs.Common.{Bool, List, None, Option, Some, [], ap, arith, false, filter, find, if◌then◌else◌, inl, inr, leb-true, ltb-false, max, nat_le, nat_lt, refl, slice_get, subst, sym, true, ℕ, ◌&&◌, ◌+◌, ◌-◌, ◌<◌, ◌==◌, ◌||◌, ◌∙◌, ◌∷◌, ◌≡◌, ◌≤◌, ◌⊎◌}
+use Rattle.std.proofs.Common.{Bool, List, None, Option, Some, [], ap, arith, eqb-true, false, filter, find, if◌then◌else◌, inl, inr, leb-true, ltb-false, max, nat_le, nat_lt, refl, slice_get, subst, sym, true, ℕ, ◌&&◌, ◌+◌, ◌-◌, ◌<◌, ◌==◌, ◌||◌, ◌∙◌, ◌∷◌, ◌≡◌, ◌≤◌, ◌⊎◌}
 use Rattle.std.specs.List.{last_or}
 use Rattle.dependency_set.specs.declared.names.Dep.{Dep}
 use Rattle.str_base.specs.declared.names.KeyId.{KeyId}
@@ -12,7 +12,7 @@ use Rattle.str_base.specs.declared.names.Version.{Version}
 use Rattle.str_base.specs.declared.names.Write.{Write}
 use Rattle.str_scene.specs.Scenes.{Here, hosts_key}
 use Rattle.dependency_set.specs.Snapshots.{Snap, accept_final, holds, insert_dep, oldest, union}
-use Rattle.str_model.specs.Turns.{Away, CertTurn, Certified, Conflict, Plain, ReadTurn, Speculative, Wait, WaitGate, cert_turn, conflicts, gated, joined, met, passed, read_turn, reply_turn, take_over}
+use Rattle.str_model.specs.Turns.{Away, CertTurn, Certified, CommittedAt, Conflict, Plain, ReadTurn, Speculative, Wait, WaitGate, cert_turn, conflicts, gated, joined, met, own_fate, passed, read_turn, reply_turn, take_over}
 use Rattle.str_model.specs.Turns
 use Rattle.str_base.specs.Versions.{chain, is_pre, last_pre, same_key, stamp, visible}
 use Rattle.str_model.specs.Views.{Own, View}
@@ -42,10 +42,48 @@ pub data Gains (view : View) (rs : ℕ) (dep : Dep) : Type 0 where
   gains_of : (v : Version) (u : Own) → In v view.versions → v.kind ≡ LocalKind → v.ts.0 ≤ rs → slice_get view.own (v.tx.seq - 1) ≡ Some u
       → In dep u.snap.deps → Gains view rs dep
 
--- the new snapshot has the timestamp of the old one, and no dependency but old ones and gained ones
+-- one of the dependencies has this number
+abbrev pub Names : ℕ → List Dep → Type 0
+Names seq ds = (dep : Dep) × (In dep ds) × (dep.seq ≡ seq)
+
+-- the dependency's transaction has committed at or below rs
+abbrev pub Settles : View → ℕ → Dep → Type 0
+Settles view rs dep = (fc : ℕ) × (own_fate (slice_get view.own (dep.seq - 1)) ≡ CommittedAt fc) × (fc ≤ rs)
+
+-- the new snapshot has the timestamp of the old one, and no dependency but old ones and gained ones; an old one that it has no more
+-- has committed at or below the timestamp
 pub record Extends (view : View) (old new : Snap) : Type 0 where
   pub rs : new.rs ≡ old.rs
   pub deps : (dep : Dep) → In dep new.deps → In dep old.deps ⊎ Gains view old.rs dep
+  pub kept : (dep : Dep) → In dep old.deps → Names dep.seq new.deps ⊎ Settles view old.rs dep
+
+pub in_insert_dep_old : (d : Dep) (ds : List Dep) (x : Dep) → In x ds → In x (insert_dep d ds)
+in_insert_dep_old d [] x h = absurd h
+in_insert_dep_old d (e ∷ es) x h = by_tests (in_insert_dep_old d es x) (nat_lt d.seq e.seq) (d.seq == e.seq) h
+  where
+    by_tests : (In x es → In x (insert_dep d es)) → (b c : Bool) → In x (e ∷ es) → In x (if b then d ∷ e ∷ es else (if c then e ∷ es else e ∷ insert_dep d es))
+    by_tests rec true c k = inr k
+    by_tests rec false true k = k
+    by_tests rec false false (inl q) = inl q
+    by_tests rec false false (inr k) = inr (rec k)
+
+pub insert_dep_names : (d : Dep) (ds : List Dep) → Names d.seq (insert_dep d ds)
+insert_dep_names d [] = (d, inl refl, refl)
+insert_dep_names d (e ∷ es) = by_tests (insert_dep_names d es) (nat_lt d.seq e.seq) (d.seq == e.seq) refl
+  where
+    by_tests : Names d.seq (insert_dep d es) → (b c : Bool) → (d.seq == e.seq) ≡ c → Names d.seq (if b then d ∷ e ∷ es else (if c then e ∷ es else e ∷ insert_dep d es))
+    by_tests rec true c q = (d, inl refl, refl)
+    by_tests rec false true q = (e, inl refl, sym (eqb-true d.seq e.seq q))
+    by_tests rec false false q = (rec.0, inr rec.1, rec.2)
+
+pub in_union_right : (ds es : List Dep) (x : Dep) → In x es → In x (union ds es)
+in_union_right [] es x h = h
+in_union_right (d ∷ ds) es x h = in_insert_dep_old d (union ds es) x (in_union_right ds es x h)
+
+pub union_names : (ds es : List Dep) (x : Dep) → In x ds → Names x.seq (union ds es)
+union_names [] es x h = absurd h
+union_names (d ∷ ds) es x (inl q) = subst (λ (z : Dep). Names z.seq (insert_dep d (union ds es))) q (insert_dep_names d (union ds es))
+union_names (d ∷ ds) es x (inr h) = let r = union_names ds es x h in (r.0, in_insert_dep_old d (union ds es) r.0 r.1, r.2)
 
 in_insert_dep : (d : Dep) (ds : List Dep) (x : Dep) → In x (insert_dep d ds) → (d ≡ x) ⊎ In x ds
 in_insert_dep d [] x (inl e) = inl e
@@ -65,14 +103,19 @@ in_union (d ∷ ds) es x h =
     elim (in_insert_dep d (union ds es) x h) [ inl q ↦ inl (inl q) | inr k ↦ (elim (in_union ds es x k) [ inl j ↦ inl (inr j) | inr j ↦ inr j ]) ]
 
 pub extends_self : (view : View) (snap : Snap) → Extends view snap snap
-extends_self view snap = record { rs = refl; deps = λ d h. inl h }
+extends_self view snap = record { rs = refl; deps = λ d h. inl h; kept = λ d h. inl (d, h, refl) }
 
 extends_more : (view : View) (a b c : Snap) → Extends view a b → Extends view b c → Extends view a c
 extends_more view a b c x y =
     record {
       rs = y.rs ∙ x.rs;
       deps = λ d h. elim (y.deps d h) [ inl k ↦ x.deps d k | inr g ↦ inr (subst (λ r. Gains view r d) x.rs g) ];
+      kept = λ d h. elim (x.kept d h) [ inl n ↦ later d n (y.kept n.0 n.1) | inr t ↦ inr t ];
     }
+  where
+    later : (d : Dep) (n : Names d.seq b.deps) → Names n.0.seq c.deps ⊎ Settles view b.rs n.0 → Names d.seq c.deps ⊎ Settles view a.rs d
+    later d n (inl m) = inl (m.0, m.1, m.2 ∙ n.2)
+    later d n (inr t) = inr (t.0, subst (λ k. own_fate (slice_get view.own (k - 1)) ≡ CommittedAt t.0) n.2 t.1, omega (arith, t.2, x.rs))
 
 extends_over : (view : View) (v : Version) (o : Option Own) (snap : Snap) → slice_get view.own (v.tx.seq - 1) ≡ o → In v view.versions → v.kind ≡ LocalKind → v.ts.0 ≤ snap.rs
     → Extends view snap (take_over o v.tx.seq snap)
@@ -84,6 +127,7 @@ extends_over view v (Some u) snap e i k le =
         | inl q ↦ inr (gains_it v u i k le e (sym q))
         | inr j ↦ (elim (in_union u.snap.deps snap.deps d j) [ inl m ↦ inr (gains_of v u i k le e m) | inr m ↦ inl m ])
       ];
+      kept = λ d h. inl (d, in_insert_dep_old (record { seq = v.tx.seq; rs = stamp u.snap.rs }) (union u.snap.deps snap.deps) d (in_union_right u.snap.deps snap.deps d h), refl);
     }
 
 -- ---- reads
@@ -99,7 +143,7 @@ gated-good view old here snap turn h =
     if_elim (TurnGood view old) (holds snap) turn (Wait (Turns.waits_for here (oldest snap.deps))) (λ e. h) (λ e. tt)
 
 final_good : (view : View) (snap : Snap) (fc : ℕ) → Extends view snap (accept_final snap fc)
-final_good view snap fc = record { rs = refl; deps = λ d h. inl h }
+final_good view snap fc = record { rs = refl; deps = λ d h. inl h; kept = λ d h. inl (d, h, refl) }
 
 read_kind-good : (here : Here) (view : View) (snap : Snap) (v : Version) (k : Kind) → In v view.versions → v.kind ≡ k → v.ts.0 ≤ snap.rs
     → TurnGood view snap (Turns.read_kind here view.own snap v k)
@@ -161,7 +205,7 @@ joined-good view (v ∷ vs) snap f =
     extends_more view snap s (joined view.own vs s) one
     (joined-good view vs s (λ w h. ((f w (inr h)).0, omega (arith, one.rs, (f w (inr h)).1))))
 
-find_none : (p : Version → Bool) (vs : List Version) (v : Version) → find p vs ≡ None → In v vs → p v ≡ false
+pub find_none : {A : Type 0} (p : A → Bool) (vs : List A) (v : A) → find p vs ≡ None → In v vs → p v ≡ false
 find_none p [] v e h = absurd h
 find_none p (w ∷ vs) v e h = by_test (find_none p vs v) (p w) refl e h
   where

@@ -4,10 +4,13 @@ pub mod Members
 pub mod Gaining
 pub mod Acting
 pub mod Operating
+pub mod Meeting
+pub mod Evicting
 pub mod Ruling
 pub mod Along
 pub mod Everywhere
 pub mod Owning
+pub mod Going
 pub mod Sorted
 pub mod AtMoments
 pub mod LastMoment

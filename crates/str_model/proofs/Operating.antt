@@ -1,5 +1,5 @@
 -- What an own transaction does with its script and its snapshot is a path of single changes.
-use Rattle.std.proofs.Common.{Bool, List, None, Option, Some, [], ap, arith, false, find, if◌then◌else◌, inl, inr, is_some, map, max, nat_lt, not, refl, slice_get, subst, sym, true, ℕ, ◌-◌, ◌||◌, ◌∙◌, ◌∷◌, ◌≡◌, ◌≤◌}
+use Rattle.std.proofs.Common.{Bool, List, None, Option, Some, [], ap, arith, false, find, if◌then◌else◌, inl, inr, is_some, ltb-false, map, max, nat_lt, not, refl, slice_get, subst, sym, true, ℕ, ◌-◌, ◌||◌, ◌∙◌, ◌∷◌, ◌≡◌, ◌≤◌, ◌⊎◌}
 use Rattle.partition_map.specs.declared.rows.Asked.{Asked}
 use Rattle.dependency_set.specs.declared.names.Dep.{Dep}
 use Rattle.str_base.specs.declared.names.KeyId.{KeyId}
@@ -22,9 +22,9 @@ use Rattle.str_model.specs.Scripts
 use Rattle.dependency_set.specs.Snapshots.{Snap}
 use Rattle.str_model.specs.Turns.{Away, CertTurn, Certified, Conflict, DepTurn, Keep, Late, Lost, Plain, ReadTurn, Speculative, Wait, WaitGate, cert_turn, dep_turn, greatest, read_turn}
 use Rattle.str_model.specs.Turns
-use Rattle.str_model.specs.Views.{CertWait, Closing, Doing, Own, Phase, ReadWait, Remote, View, is_decided, lc_of, put}
-use Rattle.str_model.proofs.Acting.{GoesOn, IsOwn, Path, Touches, Where, act_abort, act_certify, act_mark, act_put, act_request, and_then, by_certification, by_script, one, stay}
-use Rattle.str_model.proofs.Gaining.{Extends, Gains, TurnGood, extends_self, gains_it, gains_of, if_elim, read_turn-good}
+use Rattle.str_model.specs.Views.{Active, CertWait, Closing, Doing, Own, Phase, ReadWait, Remote, View, is_decided, lc_of, put}
+use Rattle.str_model.proofs.Acting.{AsksCommit, Change, GoesOn, IsMasters, IsOwn, JustMarked, Needs, Path, Reads, Touches, Where, act_abort, act_certify, act_mark, act_put, act_request, and_then, asks_new, by_certification, by_script, ch_away, ch_blind, ch_close, ch_gate, ch_known, ch_read, ch_wait, one, reads_new, stay, to_final, to_local}
+use Rattle.str_model.proofs.Gaining.{Extends, Gains, Names, Settles, TurnGood, extends_self, gains_it, gains_of, if_elim, read_turn-good}
 use Rattle.str_model.proofs.Members.{In}
 
 pub nor_left : (a b : Bool) → not (a || b) ≡ true → a ≡ false
@@ -37,10 +37,11 @@ nor_right false true e = absurd cc
 nor_right false false e = refl
 
 -- a Prepare that is judged is new at its master
-pub record IsFresh (d : Doing) (a : Arrived) (turn : MasterTurn) : Type 0 where
+pub record IsFresh (here : Here) (d : Doing) (a : Arrived) (turn : MasterTurn) : Type 0 where
   pub is : master_turn d.view a ≡ turn
   pub unknown : Proposals.is_known d.view a.tx a.part ≡ false
   pub unparked : Proposals.is_parked d.view a.tx a.part ≡ false
+  pub mine : IsMasters here a
 
 -- a gate that commits has no dependency left, and commits at or above the local commit timestamp
 pub gate_commits : (snap : Snap) (lc : ℕ) (parts : List Asked) (wrote : List DepParts) (fc : ℕ) → gate_turn snap lc parts wrote ≡ CommitAt fc → (snap.deps ≡ []) × (lc ≤ fc)
@@ -96,7 +97,7 @@ free_marked w k t d i x f = record { own = f.own; open_ = f.open_; no_lc = f.no_
 pub extends_marked : (k : KeyId) (x : Own) (d : Doing) (snap : Snap) → Extends d.view x.snap snap → Extends (marked k x.snap.rs d).view x.snap snap
 unfolding marked
 extends_marked k x d snap h =
-    record { rs = h.rs; deps = λ y i. elim (h.deps y i) [ inl a ↦ inl a | inr g ↦ inr (gains_marked y g) ] }
+    record { rs = h.rs; deps = λ y i. elim (h.deps y i) [ inl a ↦ inl a | inr g ↦ inr (gains_marked y g) ]; kept = h.kept }
   where
     gains_marked : (y : Dep) → Gains d.view x.snap.rs y → Gains (marked k x.snap.rs d).view x.snap.rs y
     gains_marked y (gains_it v u i l le o q) = gains_it v u i l le o q
@@ -133,64 +134,109 @@ resolve_all-sub own rs (d ∷ ds) ffc f es e x h =
         by_test true q k = absurd (cc q)
         by_test false q k = rec (max ffc fc) es q k
 
-pub resolved-extends : (own : List Own) (x : Own) (ffc : ℕ) (ds : List Dep) (d : Doing) → dep_turn own x.snap ≡ Keep ffc ds
+-- what is no longer there has committed at or below the snapshot
+pub resolve_all-kept : (view : View) (rs : ℕ) (ds : List Dep) (ffc f : ℕ) (es : List Dep) → Turns.resolve_all view.own rs ds ffc ≡ Keep f es → (x : Dep) → In x ds → Names x.seq es ⊎ Settles view rs x
+resolve_all-kept view rs [] ffc f es e x h = absurd h
+resolve_all-kept view rs (d ∷ ds) ffc f es e x h =
+    by_fate-kept (Turns.own_fate (slice_get view.own (d.seq - 1))) refl (λ g es' e' h'. resolve_all-kept view rs ds g f es' e' x h') e h
+  where
+    by_fate-kept : (t : Turns.Fate) → Turns.own_fate (slice_get view.own (d.seq - 1)) ≡ t → ((g : ℕ) (es' : List Dep) → Turns.resolve_all view.own rs ds g ≡ Keep f es' → In x ds → Names x.seq es' ⊎ Settles view rs x)
+        → Turns.by_fate rs d ffc (λ g. Turns.resolve_all view.own rs ds g) t ≡ Keep f es → In x (d ∷ ds) → Names x.seq es ⊎ Settles view rs x
+    by_fate-kept Turns.Open s rec q k = kept_also (Turns.resolve_all view.own rs ds ffc) refl q k
+      where
+        kept_also : (r : DepTurn) → Turns.resolve_all view.own rs ds ffc ≡ r → Turns.keep_also d r ≡ Keep f es → In x (d ∷ ds) → Names x.seq es ⊎ Settles view rs x
+        kept_also (Lost a) p q k = absurd (cc q)
+        kept_also (Late a b) p q k = absurd (cc q)
+        kept_also (Keep a bs) p q (inl z) =
+            let same : d ∷ bs ≡ es = cc q in inl (d, subst (In d) same (inl refl), ap (λ (y : Dep). y.seq) z)
+        kept_also (Keep a bs) p q (inr z) =
+            let same : d ∷ bs ≡ es = cc q in
+            let f' : a ≡ f = cc q in
+            elim (rec ffc bs (p ∙ ap (λ n. Keep n bs) f') z) [ inl n ↦ inl (n.0, subst (In n.0) same (inr n.1), n.2) | inr t ↦ inr t ]
+    by_fate-kept Turns.Gone s rec q k = absurd (cc q)
+    by_fate-kept (Turns.CommittedAt fc) s rec q k = by_test (nat_lt rs fc) refl q k
+      where
+        by_test : (b : Bool) → nat_lt rs fc ≡ b → (if b then Late d.seq fc else Turns.resolve_all view.own rs ds (max ffc fc)) ≡ Keep f es → In x (d ∷ ds) → Names x.seq es ⊎ Settles view rs x
+        by_test true t q k = absurd (cc q)
+        by_test false t q (inl z) = inr (fc, subst (λ (y : Dep). Turns.own_fate (slice_get view.own (y.seq - 1)) ≡ Turns.CommittedAt fc) z s, ltb-false rs fc t)
+        by_test false t q (inr z) = rec (max ffc fc) es q z
+
+pub resolved-extends : (x : Own) (ffc : ℕ) (ds : List Dep) (d : Doing) → dep_turn d.view.own x.snap ≡ Keep ffc ds
     → Extends d.view x.snap (record (x.snap) { ffc = ffc; deps = ds })
 unfolding dep_turn
-resolved-extends own x ffc ds d e = record { rs = refl; deps = λ y h. inl (resolve_all-sub own x.snap.rs x.snap.deps x.snap.ffc ffc ds e y h) }
+resolved-extends x ffc ds d e =
+    record { rs = refl; deps = λ y h. inl (resolve_all-sub d.view.own x.snap.rs x.snap.deps x.snap.ffc ffc ds e y h); kept = resolve_all-kept d.view x.snap.rs x.snap.deps x.snap.ffc ffc ds e }
+
+-- marks change nothing that a read looks at
+read_again : (here : Here) (k : KeyId) (t : ℕ) (snap : Snap) (d : Doing) → read_turn here (marked k t d).view snap k ≡ read_turn here d.view snap k
+unfolding marked read_turn
+read_again here k t snap d = refl
+
+just_marked : (k : KeyId) (t : ℕ) (d : Doing) → JustMarked (marked k t d).view k t
+unfolding marked
+just_marked k t d = (d.view.marks, refl)
 
 module _ (here : Here) (input : Input) (w : Where) where
   pub with_value-path : (i : ℕ) (k : KeyId) (v : Value) (by : Option TxId) (snap : Snap) (x : Own) (d : Doing)
-      → IsFree w d i x → Extends d.view x.snap snap → Path here input w d (with_value here i k v by snap x d)
-  with_value-path i k v by snap x d f e =
-      one (act_put i x _ d f.own (finish_next-goes d.view (own_op here x) v x (noted k v by snap x) (record { was_open = f.open_; is_open = f.open_; same_place = refl; snap = e; same_lc = refl }) f.no_lc))
+      → IsFree w d i x → Extends d.view x.snap snap → Change here input d i x (finish_next (own_op here x) v (noted k v by snap x)) → Path here input w d (with_value here i k v by snap x d)
+  with_value-path i k v by snap x d f e c =
+      one (act_put i x _ d f.own (record {
+        goes = finish_next-goes d.view (own_op here x) v x (noted k v by snap x) (record { was_open = f.open_; is_open = f.open_; same_place = refl; snap = e; same_lc = refl }) f.no_lc;
+        change = c;
+      }))
 
   pub read_done-path : (i : ℕ) (k : KeyId) (x : Own) (turn : ReadTurn) (d : Doing)
-      → IsFree w d i x → TurnGood d.view x.snap turn → Path here input w d (read_done here i k x turn d)
-  read_done-path i k x (Plain v by fc snap) d f e = with_value-path i k v by snap x d f e
-  read_done-path i k x (Speculative v by snap) d f e = with_value-path i k v (Some by) snap x d f e
-  read_done-path i k x (Wait by) d f e = one (act_put i x _ d f.own (phase-goes w d i x (ReadWait k) f refl refl))
-  read_done-path i k x (Away n) d f e = one (act_request i k n x d f.own (phase-goes w d i x (Remote k) f refl refl))
+      → IsFree w d i x → TurnGood d.view x.snap turn → Reads here x k → JustMarked d.view k x.snap.rs → read_turn here d.view x.snap k ≡ turn → Path here input w d (read_done here i k x turn d)
+  read_done-path i k x (Plain v by fc snap) d f e r m q = with_value-path i k v by snap x d f e (ch_read k v by snap r m (to_final fc q))
+  read_done-path i k x (Speculative v by snap) d f e r m q = with_value-path i k v (Some by) snap x d f e (ch_read k v (Some by) snap r m (to_local by refl q))
+  read_done-path i k x (Wait by) d f e r m q = one (act_put i x _ d f.own (record { goes = phase-goes w d i x (ReadWait k) f refl refl; change = ch_wait k by r m q }))
+  read_done-path i k x (Away n) d f e r m q = one (act_request i k n x d f.own (record { goes = phase-goes w d i x (Remote k) f refl refl; change = ch_away k n r m q }))
 
-  pub read_now-path : (i : ℕ) (k : KeyId) (x : Own) (d : Doing) → IsFree w d i x → Path here input w d (read_now here i k x d)
+  pub read_now-path : (i : ℕ) (k : KeyId) (x : Own) (d : Doing) → IsFree w d i x → Reads here x k → Path here input w d (read_now here i k x d)
   unfolding read_now
-  read_now-path i k x d f =
+  read_now-path i k x d f r =
       and_then d (marked k x.snap.rs d) _ (one (act_mark k x.snap.rs d))
-      (read_done-path i k x (read_turn here d.view x.snap k) (marked k x.snap.rs d) (free_marked w k x.snap.rs d i x f) (read_marked here k x d (read_turn here d.view x.snap k) (read_turn-good here d.view x.snap k)))
+      (read_done-path i k x (read_turn here d.view x.snap k) (marked k x.snap.rs d) (free_marked w k x.snap.rs d i x f)
+      (read_marked here k x d (read_turn here d.view x.snap k) (read_turn-good here d.view x.snap k)) r (just_marked k x.snap.rs d) (read_again here k x.snap.rs x.snap d))
 
-  pub cert_done-path : (i : ℕ) (x : Own) (turn : CertTurn) (d : Doing) → IsFree w d i x → cert_turn here d.view x.snap x.writes ≡ turn
+  pub cert_done-path : (i : ℕ) (x : Own) (turn : CertTurn) (d : Doing) → IsFree w d i x → AsksCommit here x → cert_turn here d.view x.snap x.writes ≡ turn
       → Path here input w d (cert_done here i x turn d)
-  cert_done-path i x (Certified lc snap) d f e = one (act_certify i lc snap x d f.own f.open_ f.no_lc e)
-  cert_done-path i x (Conflict u k) d f e = one (act_abort i _ x d f.own f.open_ (by_certification u k e))
-  cert_done-path i x (WaitGate by) d f e = one (act_put i x _ d f.own (phase-goes w d i x CertWait f refl refl))
+  cert_done-path i x (Certified lc snap) d f a e = one (act_certify i lc snap x d (f.own.0, f.own.1, a) f.open_ f.no_lc e)
+  cert_done-path i x (Conflict u k) d f a e = one (act_abort i _ x d f.own f.open_ (by_certification u k e))
+  cert_done-path i x (WaitGate by) d f a e = one (act_put i x _ d f.own (record { goes = phase-goes w d i x CertWait f refl refl; change = ch_gate a }))
 
-  pub certify_now-path : (i : ℕ) (x : Own) (d : Doing) → IsFree w d i x → Path here input w d (certify_now here i x d)
+  pub certify_now-path : (i : ℕ) (x : Own) (d : Doing) → IsFree w d i x → AsksCommit here x → Path here input w d (certify_now here i x d)
   unfolding certify_now
-  certify_now-path i x d f = cert_done-path i x (cert_turn here d.view x.snap x.writes) d f refl
+  certify_now-path i x d f a = cert_done-path i x (cert_turn here d.view x.snap x.writes) d f a refl
 
-  pub finish-path : (i : ℕ) (op : Op) (v : Value) (x : Own) (d : Doing) → IsFree w d i x → Path here input w d (put i (finish op v x) d)
-  finish-path i op v x d f =
-      one (act_put i x _ d f.own (finish-goes d.view op v x x (record { was_open = f.open_; is_open = f.open_; same_place = refl; snap = extends_self d.view x.snap; same_lc = refl }) f.no_lc))
+  pub finish-path : (i : ℕ) (op : Op) (v : Value) (x : Own) (d : Doing) → IsFree w d i x → Change here input d i x (finish op v x) → Path here input w d (put i (finish op v x) d)
+  finish-path i op v x d f c =
+      one (act_put i x _ d f.own (record {
+        goes = finish-goes d.view op v x x (record { was_open = f.open_; is_open = f.open_; same_place = refl; snap = extends_self d.view x.snap; same_lc = refl }) f.no_lc;
+        change = c;
+      }))
 
-  pub need_value-path : (i : ℕ) (op : Op) (k : KeyId) (x : Own) (o : Option Value) (d : Doing) → IsFree w d i x → Path here input w d (need_value here i op k x o d)
-  need_value-path i op k x (Some v) d f = finish-path i op v x d f
-  need_value-path i op k x None d f = read_now-path i k x d f
+  pub need_value-path : (i : ℕ) (op : Op) (k : KeyId) (x : Own) (o : Option Value) (d : Doing) → IsFree w d i x → x.phase ≡ Active → own_op here x ≡ Some op → Needs op k → known x k ≡ o
+      → Path here input w d (need_value here i op k x o d)
+  need_value-path i op k x (Some v) d f a e n q = finish-path i op v x d f (ch_known op k v a e n q)
+  need_value-path i op k x None d f a e n q = read_now-path i k x d f (reads_new op a e n q)
 
-  pub do_op-path : (i : ℕ) (x : Own) (op : Op) (d : Doing) → IsFree w d i x → Path here input w d (do_op here i x op d)
-  do_op-path i x (Get k) d f = need_value-path i (Get k) k x (known x k) d f
-  do_op-path i x (Put k n) d f = finish-path i (Put k n) Absent x d f
-  do_op-path i x (Puts k t) d f = finish-path i (Puts k t) Absent x d f
-  do_op-path i x (Add k n) d f = need_value-path i (Add k n) k x (known x k) d f
-  do_op-path i x (Del k) d f = finish-path i (Del k) Absent x d f
-  do_op-path i x (Need k n) d f = need_value-path i (Need k n) k x (known x k) d f
-  do_op-path i x Stop d f = one (act_abort i _ x d f.own f.open_ by_script)
+  pub do_op-path : (i : ℕ) (x : Own) (op : Op) (d : Doing) → IsFree w d i x → x.phase ≡ Active → own_op here x ≡ Some op → Path here input w d (do_op here i x op d)
+  do_op-path i x (Get k) d f a e = need_value-path i (Get k) k x (known x k) d f a e refl refl
+  do_op-path i x (Put k n) d f a e = finish-path i (Put k n) Absent x d f (ch_blind (Put k n) Absent a e tt)
+  do_op-path i x (Puts k t) d f a e = finish-path i (Puts k t) Absent x d f (ch_blind (Puts k t) Absent a e tt)
+  do_op-path i x (Add k n) d f a e = need_value-path i (Add k n) k x (known x k) d f a e refl refl
+  do_op-path i x (Del k) d f a e = finish-path i (Del k) Absent x d f (ch_blind (Del k) Absent a e tt)
+  do_op-path i x (Need k n) d f a e = need_value-path i (Need k n) k x (known x k) d f a e refl refl
+  do_op-path i x Stop d f a e = one (act_abort i _ x d f.own f.open_ by_script)
 
-  pub ask_commit-path : (i : ℕ) (x : Own) (ws : List Write) (d : Doing) → IsFree w d i x → Path here input w d (ask_commit here i x ws d)
-  ask_commit-path i x [] d f = one (act_put i x _ d f.own (phase-goes w d i x (Closing false) f refl refl))
-  ask_commit-path i x (w ∷ ws) d f = certify_now-path i x d f
+  pub ask_commit-path : (i : ℕ) (x : Own) (ws : List Write) (d : Doing) → IsFree w d i x → x.phase ≡ Active → own_op here x ≡ None → x.writes ≡ ws → Path here input w d (ask_commit here i x ws d)
+  ask_commit-path i x [] d f a e q = one (act_put i x _ d f.own (record { goes = phase-goes w d i x (Closing false) f refl refl; change = ch_close a e q }))
+  ask_commit-path i x (w ∷ ws) d f a e q = certify_now-path i x d f (asks_new a e)
 
-  pub op_or_commit-path : (i : ℕ) (x : Own) (o : Option Op) (d : Doing) → IsFree w d i x → Path here input w d (op_or_commit here i x o d)
-  op_or_commit-path i x (Some op) d f = do_op-path i x op d f
-  op_or_commit-path i x None d f = ask_commit-path i x x.writes d f
+  pub op_or_commit-path : (i : ℕ) (x : Own) (o : Option Op) (d : Doing) → IsFree w d i x → x.phase ≡ Active → own_op here x ≡ o → Path here input w d (op_or_commit here i x o d)
+  op_or_commit-path i x (Some op) d f a e = do_op-path i x op d f a e
+  op_or_commit-path i x None d f a e = ask_commit-path i x x.writes d f a e refl
 
   -- ---- own transactions as they stand
 

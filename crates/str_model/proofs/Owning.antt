@@ -31,8 +31,8 @@ module _ (here : Here) (input : Input) (w : Where) where
   unfolding begun marked aborted committed closed certified asked acked requested accepted taken refused waits replied commit_came abort_came
   own_step d e (act_begin place rs d' r h) = starts_one place rs h.above refl refl
   own_step d e (act_mark k t d') = rests refl refl
-  own_step d e (act_put i x y d' own g) = turns_one i x y own.0 refl (goes_on g refl)
-  own_step d e (act_request i k m x d' own g) = turns_one i x _ own.0 refl (goes_on g refl)
+  own_step d e (act_put i x y d' own g) = turns_one i x y own.0 refl (goes_on g.goes refl)
+  own_step d e (act_request i k m x d' own g) = turns_one i x _ own.0 refl (goes_on g.goes refl)
   own_step d e (act_certify i lc snap x d' own f n c) =
       let good : CertGood d'.view x.snap (Certified lc snap) = subst (CertGood d'.view x.snap) c (cert_turn-good here d'.view x.snap x.writes) in
       turns_one i x _ own.0 refl (certifies lc f n refl refl good.0 good.1 refl)

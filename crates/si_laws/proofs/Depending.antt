@@ -13,7 +13,7 @@ use Rattle.str_model.proofs.Acting.{Act, Where}
 use Rattle.str_model.proofs.Gaining.{Extends, Gains, gains_it, gains_of}
 use Rattle.str_model.proofs.Lists.{got_push, got_set}
 use Rattle.str_model.proofs.Members.{In}
-use Rattle.spsi_laws.proofs.Owners.{Depends, Locals, WeakDep, after_own, locals-act, same_own}
+use Rattle.si_laws.proofs.Owners.{Depends, Locals, WeakDep, after_own, locals-act, same_own}
 use Rattle.str_model.proofs.Owning.{Becomes, OwnStep, aborts, certifies, closes, commits, goes_on, own_step, rests, starts_one, turns_one}
 use Rattle.si_laws.proofs.Times.{timed-step}
 

@@ -1,11 +1,9 @@
 -- After each event every dependency of an undecided transaction stands: one pass upwards finishes every cascade.
 use Rattle.std.proofs.Common.{Bool, List, None, Option, Some, add-sub_cancel, ap, arith, false, inl, inr, length, refl, slice_get, slice_set, subst, suc, sym, true, zero, ℕ, ◌-◌, ◌<◌, ◌∙◌, ◌≡◌, ◌≢◌, ◌⊎◌}
-use Rattle.std.proofs.lemmas.Option.{slice_get_within}
 use Rattle.dependency_set.specs.declared.names.Dep.{Dep}
 use Rattle.str_model.specs.declared.messages.Input.{Input}
 use Rattle.str_model.specs.Acts.{aborted}
-use Rattle.spsi_laws.specs.Laws.Dependencies.{DependenciesStand}
-use Rattle.si_laws.specs.Laws.Times.{DependenciesEarlier, IsTimed}
+use Rattle.si_laws.specs.Laws.Times.{IsTimed}
 use Rattle.str_model.specs.Owned.{Owns}
 use Rattle.str_model.specs.Pass
 use Rattle.str_model.specs.Runs.{opening_view}
@@ -16,12 +14,11 @@ use Rattle.str_model.specs.Turns
 use Rattle.str_model.specs.Views.{Aborted, Committed, Doing, Own, Phase, View, is_decided, lc_of, starts}
 use Rattle.str_model.proofs.Acting.{Act, InRule, InTurn, InWait, Where, along}
 use Rattle.str_model.proofs.Along.{StepPath, first-path, resolved_first, rest-path, turn-path}
-use Rattle.spsi_laws.proofs.Beneath.{Below, OpenAt, UpTo, fate_same, keeps_below, keeps_up_to, leaves, resolve_all-open}
-use Rattle.spsi_laws.proofs.Depending.{depends-act}
-use Rattle.str_model.proofs.Everywhere.{at_each_event}
+use Rattle.si_laws.proofs.Beneath.{Below, OpenAt, UpTo, fate_same, keeps_below, keeps_up_to, leaves, resolve_all-open}
+use Rattle.si_laws.proofs.Depending.{depends-act}
 use Rattle.str_model.proofs.Lists.{get_set, get_set_other}
-use Rattle.str_model.proofs.Members.{In, in_at}
-use Rattle.spsi_laws.proofs.Owners.{Depends, same_own}
+use Rattle.str_model.proofs.Members.{In}
+use Rattle.si_laws.proofs.Owners.{Depends, same_own}
 use Rattle.si_laws.proofs.Times.{timed_opening}
 
 -- ---- the first part of a turn leaves open dependencies alone
@@ -97,7 +94,7 @@ module _ (here : Here) (input : Input) where
       along here input (InTurn i) (λ e. length e.view.own ≡ length d.view.own) (same_length (InTurn i) (λ q. cc q) (length d.view.own))
       (Pass.pass_to here i d) (Pass.turn here i (Pass.pass_to here i d)) (turn-path here input (InTurn i) i (Pass.pass_to here i d) refl) (pass_length i d)
 
-  step_open : (v : View) (e : Doing) → StepPath here input (starts v) e → Below here (length v.own) v → Below here (length e.view.own) e.view
+  pub step_open : (v : View) (e : Doing) → StepPath here input (starts v) e → Below here (length v.own) v → Below here (length e.view.own) e.view
   step_open v e s h =
       let r = s.ruled in
       let n = length r.view.own in
@@ -107,7 +104,7 @@ module _ (here : Here) (input : Input) where
       let len : length e.view.own ≡ n = along here input InWait (λ d. length d.view.own ≡ n) (same_length InWait (λ q. cc q) n) (Pass.pass_to here n r) e s.waits (pass_length n r) in
       subst (λ k. Below here k e.view) (sym len) end
 
-open_opening : (here : Here) (scene : Scene) → Below here (length (opening_view scene).own) (opening_view scene)
+pub open_opening : (here : Here) (scene : Scene) → Below here (length (opening_view scene).own) (opening_view scene)
 open_opening here scene =
     record {
       base = record { times = timed_opening scene; locals = λ u h k. absurd h; deps = λ i x dep own op m. absurd (cc own) };
@@ -115,7 +112,7 @@ open_opening here scene =
     }
 
 -- what has an LC and the fate of an undecided one is undecided
-fate_open : (f lc : ℕ) (x : Own) → IsTimed f x → lc_of x.phase ≡ Some lc → phase_fate x.phase ≡ Turns.Open → is_decided x.phase ≡ false
+pub fate_open : (f lc : ℕ) (x : Own) → IsTimed f x → lc_of x.phase ≡ Some lc → phase_fate x.phase ≡ Turns.Open → is_decided x.phase ≡ false
 fate_open f lc x t l o = by_phase x.phase refl
   where
     by_phase : (p : Phase) → x.phase ≡ p → is_decided x.phase ≡ false
@@ -123,30 +120,3 @@ fate_open f lc x t l o = by_phase x.phase refl
     by_phase (Committed m (Some fc)) e = absurd (cc (ap phase_fate e, o))
     by_phase (Aborted m c) e = absurd (cc (ap phase_fate e, o))
     by_phase _ e = ap is_decided e
-
-pub dependencies_stand : DependenciesStand
-dependencies_stand scene ok events n v is i k x dep own op at =
-    let h = at_each_event scene ok (λ here v. Below here (length v.own) v) (λ here. open_opening here scene) (λ here good input v e p h. step_open here input v e p h) events n v is in
-    let mem : In dep x.snap.deps = in_at x.snap.deps k dep at in
-    let w = h.base.deps i x dep own op mem in
-    let t = h.base.times.each w.place w.owner w.owns in
-    let fate : phase_fate w.owner.phase ≡ Turns.Open =
-    sym (ap own_fate (ap (λ m. slice_get v.own m) (ap (λ m. m - 1) w.seq ∙ add-sub_cancel w.place 1) ∙ w.owns)) ∙ h.below i x dep (slice_get_within v.own i x own) own op mem in
-    record {
-      place = w.place;
-      owner = w.owner;
-      seq = w.seq;
-      owns = w.owns;
-      rs = w.rs;
-      open_ = fate_open v.floor w.lc w.owner t w.is_lc fate;
-      lc = w.lc;
-      is_lc = w.is_lc;
-      above = (t.lc w.lc w.is_lc).0;
-      below = w.below;
-    }
-
-pub dependencies_earlier : DependenciesEarlier
-dependencies_earlier scene ok events n v is i k x dep own op at =
-    let h = at_each_event scene ok (λ here v. Below here (length v.own) v) (λ here. open_opening here scene) (λ here good input v e p h. step_open here input v e p h) events n v is in
-    let w = h.base.deps i x dep own op (in_at x.snap.deps k dep at) in
-    omega (arith, w.seq, w.before)

@@ -9,11 +9,11 @@ use Rattle.str_model.specs.Turns.{DepTurn, Keep, Late, Lost, own_fate}
 use Rattle.str_model.specs.Turns
 use Rattle.str_model.specs.Views.{Doing, Own, View, is_decided}
 use Rattle.str_model.proofs.Acting.{Act, InRule, InTurn, Touches, Where, act_abort, act_abort_came, act_accept, act_ack, act_ask, act_begin, act_certify, act_close, act_commit, act_commit_came, act_mark, act_put, act_refuse, act_reply, act_request, act_take, act_unwait, act_wait}
-use Rattle.spsi_laws.proofs.Depending.{depends-act, earlier}
+use Rattle.si_laws.proofs.Depending.{depends-act, earlier}
 use Rattle.str_model.proofs.Gaining.{Extends, Gains, gains_it, gains_of}
 use Rattle.str_model.proofs.Lists.{get_set_other, got_set}
 use Rattle.str_model.proofs.Members.{In}
-use Rattle.spsi_laws.proofs.Owners.{Depends, open-fate, same_own}
+use Rattle.si_laws.proofs.Owners.{Depends, open-fate, same_own}
 use Rattle.str_model.proofs.Owning.{Becomes, OwnStep, aborts, certifies, closes, commits, goes_on, own_step, rests, starts_one, turns_one}
 
 -- a change outside the rule leaves the own transactions that it does not touch
