@@ -25,3 +25,5 @@ pub mod Around
 pub mod Carrying
 pub mod AroundActs
 pub mod Apart
+pub mod Marking
+pub mod HomeMarks
