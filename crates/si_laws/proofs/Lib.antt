@@ -39,3 +39,5 @@ pub mod Mastering
 pub mod Masters
 pub mod MasterLaw
 pub mod Scripting
+pub mod Marking
+pub mod HomeMarks
