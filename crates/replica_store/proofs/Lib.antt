@@ -1,1 +1,5 @@
 pub mod Parking
+pub mod Commuting
+pub mod Merging
+pub mod MergedReads
+pub mod MergedChanges
