@@ -1,5 +1,5 @@
 use Rattle.std.proofs.Common.{append_assoc}
-use Rattle.strun.proofs.lines.push_commit.Goals as goal
+use Rattle.held_answer.proofs.lines.push_commit.Goals as goal
 
 pub returns-clause-ok : goal.returns-clause-ok
 returns-clause-ok c =

@@ -1,6 +1,8 @@
 use Rattle.str_scene.proofs.KeepingLemmas.{keeps_start}
 use Rattle.top_status.proofs.Failing.{on_err}
 use Rattle.strun.proofs.lines.push_abort.Goals as goal
+use Rattle.held_answer.proofs.Failing.{on_err}
+use Rattle.held_answer.proofs.lines.push_abort.Goals as goal
 
 pub returns-in_err-push_cause-clause-err : goal.returns-in_err-push_cause-clause-err
 returns-in_err-push_cause-clause-err c =

@@ -1,0 +1,4 @@
+pub mod Written
+pub mod OfNode
+pub mod OfEvaluation
+pub mod Reaching
