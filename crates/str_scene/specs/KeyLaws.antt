@@ -2,7 +2,7 @@
 use Rattle.std.specs.Prelude.{Bool, List, false, true, ℕ, ◌&&◌, ◌++◌, ◌≡◌}
 use Rattle.std.proofs.Common.{eqb, refl, sym}
 use Rattle.std.specs.Bool.{Decides}
-use Rattle.std.specs.Cmp.{IsEquivalence, IsPartialEquivalence, decided, partial_equiv_from_equiv}
+use Rattle.std.specs.Cmp.{IsEquivalence, decided}
 use Rattle.std.specs.Hash as fed
 use Rattle.std.specs.Str.{bytes_eq}
 use Rattle.std.proofs.lemmas.Bool.Decides.{Decides-eqb}
