@@ -69,6 +69,15 @@ impl SessionText {
         self.txs.as_slice()
     }
 
+    /// One more script. Where memory runs out nothing changes.
+    pub(crate) fn push(&mut self, ops: OpList) -> Result<(), AllocError>
+        ensures ok { OnOk result (self.new ≡ record self.old { txs = self.old.txs ++ ops ∷ [] }) }
+        ensures err { OnErr result (self.new ≡ self.old) }
+    {
+        self.txs.push(ops)?;
+        Ok(())
+    }
+
     /// An equal session.
     pub fn copy(&self, alloc: Global) -> Result<SessionText, AllocError>
         ensures { IfOk result (λ s. s ≡ self.now) }
@@ -167,7 +176,7 @@ impl Scene {
             version: self.version,
             nodes: self.nodes,
             parts: copied_rows(alloc, self.parts.as_slice())?,
-            keys: self.keys.copy(alloc)?,
+            keys: self.keys.copy()?,
             sessions: copied_sessions(alloc, self.sessions.as_slice())?,
             schedule: copied_events(alloc, self.schedule.as_slice())?,
             drain: self.drain,
