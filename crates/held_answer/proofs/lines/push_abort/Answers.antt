@@ -1,6 +1,4 @@
 use Rattle.str_scene.proofs.KeepingLemmas.{keeps_start}
-use Rattle.top_status.proofs.Failing.{on_err}
-use Rattle.strun.proofs.lines.push_abort.Goals as goal
 use Rattle.held_answer.proofs.Failing.{on_err}
 use Rattle.held_answer.proofs.lines.push_abort.Goals as goal
 
