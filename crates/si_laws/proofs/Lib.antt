@@ -38,3 +38,4 @@ pub mod Mastering
 pub mod Masters
 pub mod MasterLaw
 pub mod Scripting
+pub mod Overlapping

@@ -57,7 +57,7 @@ or_split : (a b : Bool) → (a || b) ≡ true → (a ≡ true) ⊎ (b ≡ true)
 or_split true b e = inl refl
 or_split false b e = inr e
 
-or_first : (a b : Bool) → a ≡ true → (a || b) ≡ true
+pub or_first : (a b : Bool) → a ≡ true → (a || b) ≡ true
 or_first true b e = refl
 or_first false b e = absurd cc
 

@@ -4,7 +4,7 @@ ghost use Rattle.si_laws.specs.Laws.Lasting.{AnswersGrow, DecidedStay};
 ghost use Rattle.si_laws.specs.Laws.Asking.{PresAsked};
 ghost use Rattle.si_laws.specs.Laws.Session.{SessionHolds};
 ghost use Rattle.si_laws.specs.Laws.Stages.{AcksKnown, StagesForward};
-ghost use Rattle.si_laws.specs.Laws.Apart.{OrderHolds};
+ghost use Rattle.si_laws.specs.Laws.Apart.{ApartHolds, OrderHolds};
 
 /// Times at a node, over every list of events.
 pub fn times_hold()
@@ -45,4 +45,10 @@ pub fn acks_known()
 /// are Local.
 pub fn order_at_master()
     ensures { OrderHolds }
+{}
+
+/// Conflicting versions do not meet: a Pre and a Local version of one key never stand together, a master has one Pre version of a key at
+/// most, and of two committed transactions that wrote one key one is final at or below the other's snapshot.
+pub fn apart_holds()
+    ensures { ApartHolds }
 {}
