@@ -233,8 +233,8 @@ module _ (scene : Scene) (s : Stage) (i : ℕ) (v : View) (input : Input) (w : W
   told_stays from to (Prepare tx p rs lc ws) r = writes_stay tx p rs.0 lc.0 ws r
   told_stays from to (Replicate tx p rs lc ws) r = writes_stay tx p rs.0 lc.0 ws r
   told_stays from to (Ack tx p ts) r = ack_stays from tx p ts r
-  told_stays from to (Commit tx p fc ms) r = (r.0, dec_stays tx r.0 r.1, r.2, r.3)
-  told_stays from to (Abort tx p) r = (r.0, dec_stays tx r.0 r.1, r.2, r.3)
+  told_stays from to (Commit tx p fc ms) r = (r.0, dec_stays tx r.0 r.1, r.2, r.3, r.4, r.5)
+  told_stays from to (Abort tx p) r = (r.0, dec_stays tx r.0 r.1, r.2, r.3, r.4)
   told_stays from to (ReadReq tx k rs) r = tt
   told_stays from to (ReadReply tx k u by fc) r = tt
   told_stays from to (Refusal tx p by k) r = tt
@@ -273,9 +273,11 @@ module _ (scene : Scene) (s : Stage) (i : ℕ) (v : View) (input : Input) (w : W
       subst (λ (b : Body). Told scene (during s i e) m.sender m.receiver b) (sym q) (writes_stay a.tx a.part a.rs.0 a.lc.0 a.writes (here_writes a k).0)
   new_told m (n_ack a ts k from q vs ds) = subst (λ (b : Body). Told scene (during s i e) m.sender m.receiver b) (sym q) (new_ack m a ts k from vs ds)
   new_told m (n_commit j lc fc x a ms own own' k r q) =
-      subst (λ (b : Body). Told scene (during s i e) m.sender m.receiver b) (sym q) (in_phase (Committed (Some lc) (Some fc)) x, own_decided j (in_phase (Committed (Some lc) (Some fc)) x) own' refl, (Some lc, refl), (a, k, refl, sym r))
+      subst (λ (b : Body). Told scene (during s i e) m.sender m.receiver b) (sym q.0)
+      (in_phase (Committed (Some lc) (Some fc)) x, own_decided j (in_phase (Committed (Some lc) (Some fc)) x) own' refl, (Some lc, refl), (a, k, refl, sym r.1), r.0, q.1)
   new_told m (n_abort j cause x a own own' k r q) =
-      subst (λ (b : Body). Told scene (during s i e) m.sender m.receiver b) (sym q) (in_phase (Aborted (lc_of x.phase) cause) x, own_decided j (in_phase (Aborted (lc_of x.phase) cause) x) own' refl, (lc_of x.phase, cause, refl), (a, k, refl, sym r))
+      subst (λ (b : Body). Told scene (during s i e) m.sender m.receiver b) (sym q)
+      (in_phase (Aborted (lc_of x.phase) cause) x, own_decided j (in_phase (Aborted (lc_of x.phase) cause) x) own' refl, (lc_of x.phase, cause, refl), (a, k, refl, sym r.1), r.0)
   new_told m (n_plain q) = plain_told scene (during s i e) m.sender m.receiver m.body q
 
   told_e : (m : Message) → In m (s.sent ++ e.sent) → Told scene (during s i e) m.sender m.receiver m.body
