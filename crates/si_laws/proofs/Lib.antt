@@ -39,3 +39,5 @@ pub mod Masters
 pub mod MasterLaw
 pub mod Scripting
 pub mod Overlapping
+pub mod Deciding
+pub mod Delivering
