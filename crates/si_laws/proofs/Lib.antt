@@ -41,3 +41,5 @@ pub mod Scripting
 pub mod Overlapping
 pub mod Deciding
 pub mod Delivering
+pub mod Deciders
+pub mod PresenceLaw

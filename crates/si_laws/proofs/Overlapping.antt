@@ -46,7 +46,7 @@ none_above (y ∷ xs) (suc n) (suc j) x e f = let rec = none_above xs n j x e f 
 
 -- ---- the master of a key that is written
 
-key_of_table : (version : ℕ) (table : KeyTable) (op : Op) (k : KeyId) → IsOp version table op → WritesKey op k → k.0 < length table.names
+pub key_of_table : (version : ℕ) (table : KeyTable) (op : Op) (k : KeyId) → IsOp version table op → WritesKey op k → k.0 < length table.names
 key_of_table version table (Put l n) k o q = subst (λ (z : KeyId). z.0 < length table.names) q o.0
 key_of_table version table (Puts l t) k o q = subst (λ (z : KeyId). z.0 < length table.names) q o.0
 key_of_table version table (Add l n) k o q = subst (λ (z : KeyId). z.0 < length table.names) q o.0
@@ -56,7 +56,7 @@ key_of_table version table (Need l n) k o q = absurd q
 key_of_table version table Stop k o q = absurd q
 
 -- each operation of a script of the scene is one of the scene
-script_op : (scene : Scene) → IsScene scene → (place : TxPlace) (j : ℕ) (op : Op) → slice_get (script_at scene place) j ≡ Some op → IsOp scene.version scene.keys op
+pub script_op : (scene : Scene) → IsScene scene → (place : TxPlace) (j : ℕ) (op : Op) → slice_get (script_at scene place) j ≡ Some op → IsOp scene.version scene.keys op
 script_op scene ok place j op e = by_session (nth scene.sessions place.session.0) refl e
   where
     by_script : (s : Session) (i : ℕ) → slice_get scene.sessions i ≡ Some s → (o : Option (List Op)) → nth s.txs place.index ≡ o → slice_get (or_none o) j ≡ Some op → IsOp scene.version scene.keys op
