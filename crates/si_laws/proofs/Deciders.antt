@@ -1,7 +1,7 @@
 -- Decisions are not strange to their receivers, where no timestamp reaches the limit.
 use Rattle.si_laws.proofs.Delivering.{DecisionsValid}
 use Rattle.si_laws.proofs.Linked.{IsDecidedAs, IsSeat, Told}
-use Rattle.si_laws.proofs.Linking.{linked}
+use Rattle.si_laws.proofs.LinkingAll.{linked}
 use Rattle.si_laws.proofs.Mastering.{AreDistinct}
 use Rattle.si_laws.proofs.Overlapping.{key_of_table, script_op}
 use Rattle.si_laws.proofs.Scripting.{ScriptGood, scripts_after}

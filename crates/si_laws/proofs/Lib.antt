@@ -18,11 +18,13 @@ pub mod Stages
 pub mod Acks
 pub mod Turning
 pub mod Homes
+pub mod Counting
 pub mod Pairs
 pub mod PairSteps
 pub mod Letters
 pub mod Linked
 pub mod Linking
+pub mod LinkingAll
 pub mod Seats
 pub mod Arriving
 pub mod WorkedLists
@@ -36,6 +38,7 @@ pub mod AroundActs
 pub mod Apart
 pub mod Mastering
 pub mod Masters
+pub mod MasterOrder
 pub mod MasterLaw
 pub mod Scripting
 pub mod Overlapping

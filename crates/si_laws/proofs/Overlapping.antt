@@ -1,6 +1,6 @@
 -- Overlapping writers are kept apart, and the law Apart.
 use Rattle.si_laws.proofs.Apart.{pre_apart_local}
-use Rattle.si_laws.proofs.Arriving.{Arrived_, FoundAt, Standing_, a_final, a_pre, committed_stands}
+use Rattle.si_laws.proofs.Arriving.{ArrivedAs, BegunAt, FoundAt, a_final, a_pre, committed_stands}
 use Rattle.si_laws.proofs.Homes.{OwnGood}
 use Rattle.si_laws.proofs.Linked.{IsCertified, one_certified, one_of}
 use Rattle.si_laws.proofs.MasterLaw.{governed, one_pre}
@@ -91,9 +91,9 @@ master_of scene ok k less =
 
 module _ (scene : Scene) (ok : IsScene scene) (events : List Event) where
   -- a committed answer, its transaction, and its version at the master of a key that its script writes
-  pub record Stands_ (a : Answer) (f : ℕ) (k : KeyId) : Type 0 where
+  pub record CommitAtMaster (a : Answer) (f : ℕ) (k : KeyId) : Type 0 where
     pub x : Own
-    pub stand : Standing_ scene (stage_of (run scene events)) a.tx x
+    pub stand : BegunAt scene (stage_of (run scene events)) a.tx x
     pub rs : a.rs.0 ≡ x.snap.rs
     pub r : NodeId
     pub master : is_master scene r (part_of scene k) ≡ true
@@ -115,12 +115,12 @@ module _ (scene : Scene) (ok : IsScene scene) (events : List Event) where
             (sg.covers z.0 z.1 k (none_above (script_at scene x.place) x.next z.0 z.1 no_op e) e z.3, key_of_table scene.version scene.keys z.1 k (script_op scene ok x.place z.0 z.1 e) z.3))
       ]
 
-  stands_ : (i : ℕ) (a : Answer) (f : ℕ) (k : KeyId) → IsAnswer (run scene events).answers i a → IsCommittedAt a f → wrote_key k (seen scene (run scene events).answers a).writes ≡ true → Stands_ a f k
-  stands_ i a f k ia c wrote_ =
+  commit_at_master : (i : ℕ) (a : Answer) (f : ℕ) (k : KeyId) → IsAnswer (run scene events).answers i a → IsCommittedAt a f → wrote_key k (seen scene (run scene events).answers a).writes ≡ true → CommitAtMaster a f k
+  commit_at_master i a f k ia c wrote_ =
       let en = entry scene ok (run scene events) (good_everywhere scene events) i a ia in
       let x : Own = en.made.x in
       let phase = committed_phase x.phase x.gets f c.0 en.made.decided (ap (λ (z : Answer). z.outcome) (sym en.made.same) ∙ c.1) in
-      let st : Standing_ scene (stage_of (run scene events)) a.tx x =
+      let st : BegunAt scene (stage_of (run scene events)) a.tx x =
       record { n = en.m; i = en.made.i; view = en.v; there = en.is_view; own = en.made.owns; name = ap (λ (z : Answer). z.tx) en.made.same } in
       let wr = wrote_it (run scene events).answers a en.m en.made.i en.v x f k en.is_view en.made.owns (ap (λ (z : Answer). z.place) en.made.same) phase wrote_ in
       let h = any_has (λ (u : Write). same_key u.key k) x.writes wr.0 in
@@ -145,18 +145,18 @@ module _ (scene : Scene) (ok : IsScene scene) (events : List Event) where
       by_row [] e g = absurd (cc e)
       by_row (z ∷ zs) e g = λ j. record { 0 = (sym (eqb-true z.0 r.0 e) ∙ eqb-true z.0 t.0 g) j }
 
-  kinds : (v : View) (f : ℕ) (q : Version) → Arrived_ v f q → q.kind ≢ LocalKind
+  kinds : (v : View) (f : ℕ) (q : Version) → ArrivedAs v f q → q.kind ≢ LocalKind
   kinds v f q (a_final k t) z = cc (sym k ∙ z)
   kinds v f q (a_pre k t n) z = cc (sym k ∙ z)
 
-  at_final : (v : View) (f : ℕ) (q : Version) → Arrived_ v f q → q.kind ≡ Final → q.ts.0 ≡ f
+  at_final : (v : View) (f : ℕ) (q : Version) → ArrivedAs v f q → q.kind ≡ Final → q.ts.0 ≡ f
   at_final v f q (a_final k t) z = t
   at_final v f q (a_pre k t n) z = absurd (cc (sym k ∙ z))
 
   pub no_overlap : NoOverlap scene (run scene events).answers
   no_overlap i j f g a b k ia ib ne ca cb wa wb =
-      let A = stands_ i a f k ia ca wa in
-      let B = stands_ j b g k ib cb wb in
+      let A = commit_at_master i a f k ia ca wa in
+      let B = commit_at_master j b g k ib cb wb in
       let fa = A.found in
       let fb = B.found in
       let rr : A.r ≡ B.r = one_master (part_of scene k) A.r B.r A.master B.master in
@@ -173,7 +173,7 @@ module _ (scene : Scene) (ok : IsScene scene) (events : List Event) where
         | inr z ↦ inr (below b g a B A z (at_final fb.1 g fb.2 fb.7 z.final) fa.6.tx_is)
       ]
     where
-      below : (a : Answer) (f : ℕ) (b : Answer) {g : ℕ} → Stands_ a f k → Stands_ b g k → {q r : Version} → (z : IsBefore scene (stage_of (run scene events)) q r) → q.ts.0 ≡ f → r.tx ≡ b.tx → f ≤ b.rs.0
+      below : (a : Answer) (f : ℕ) (b : Answer) {g : ℕ} → CommitAtMaster a f k → CommitAtMaster b g k → {q r : Version} → (z : IsBefore scene (stage_of (run scene events)) q r) → q.ts.0 ≡ f → r.tx ≡ b.tx → f ≤ b.rs.0
       below a f b A B {q} {r} z t u =
           let c : IsCertified scene (stage_of (run scene events)) b.tx z.rs z.lc z.ws = subst (λ (y : TxId). IsCertified scene (stage_of (run scene events)) y z.rs z.lc z.ws) u z.certified in
           let o = one_certified scene (stage_of (run scene events)) B.stand.n B.stand.i B.stand.view B.x b.tx z.rs z.lc z.ws B.stand.there B.stand.own B.stand.name c in

@@ -1,9 +1,9 @@
 -- The law Presence: by done lists, and from the bound of timestamps by what was given.
-use Rattle.si_laws.proofs.Arriving.{Arrived_, IsOf, a_final, a_pre, answered_stands, begun_at, committed_stands}
+use Rattle.si_laws.proofs.Arriving.{ArrivedAs, IsOf, a_final, a_pre, answered_stands, begun_at, committed_stands}
 use Rattle.si_laws.proofs.Deciders.{Bounded, bounded_from, decisions_are_valid}
 use Rattle.si_laws.proofs.Delivering.{Delivered, delivered}
 use Rattle.si_laws.proofs.Linked.{one_of, pre_of}
-use Rattle.si_laws.proofs.Linking.{linked}
+use Rattle.si_laws.proofs.LinkingAll.{linked}
 use Rattle.si_laws.proofs.Seats.{of_nth, to_nth}
 use Rattle.si_laws.proofs.SessionLaw.{get_within}
 use Rattle.si_laws.proofs.Stages.{Has, any_has, has_at, not_both}
@@ -20,7 +20,6 @@ use Rattle.str_base.specs.declared.names.Version.{Version}
 use Rattle.str_base.specs.declared.names.Write.{Write}
 use Rattle.str_model.proofs.Everywhere.{stage_of}
 use Rattle.str_model.proofs.Members.{In, at_in, in_at}
-use Rattle.str_model.proofs.Worked.Words.{key}
 use Rattle.str_model.specs.Proposals.{is_done, is_pair}
 use Rattle.str_model.specs.Runs.{run}
 use Rattle.str_model.specs.Views.{Own, View}
@@ -52,7 +51,7 @@ module _ (scene : Scene) (events : List Event) where
       let f = committed_stands scene (stage_of (run scene events)) (linked scene events) t x st fc c wr (in_at x.writes w.1.0 wr w.1.1) r hosted in
       (f.2, holds_there r t k f.2 f.0 f.1 f.3 f.4 f.5 f.6.tx_is f.6.key_is, by_arrival f.0 f.1 f.2 f.3 f.4 f.6 f.7)
     where
-      by_arrival : (n : ℕ) (v : View) (q : Version) → r ≡ record { 0 = n + 1 } → slice_get (run scene events).nodes n ≡ Some v → IsOf scene t k q → Arrived_ v fc q
+      by_arrival : (n : ℕ) (v : View) (q : Version) → r ≡ record { 0 = n + 1 } → slice_get (run scene events).nodes n ≡ Some v → IsOf scene t k q → ArrivedAs v fc q
           → IsStanding (run scene events) r t (part_of scene k) fc q
       by_arrival n v q is there o (a_final z e) = inl (z, e)
       by_arrival n v q is there o (a_pre z le none) =
