@@ -21,7 +21,7 @@ pub mod Homes
 pub mod Counting
 pub mod Pairs
 pub mod PairSteps
-pub mod Letters
+pub mod Sending
 pub mod Linked
 pub mod Linking
 pub mod LinkingAll

@@ -1,7 +1,7 @@
 -- What messages, replicas and origins have to do with one another, in every state of a run.
 use Rattle.partition_map.specs.declared.rows.Asked.{Asked}
 use Rattle.si_laws.proofs.Homes.{AtHome}
-use Rattle.si_laws.proofs.Letters.{AreMarked}
+use Rattle.si_laws.proofs.Sending.{AreMarked}
 use Rattle.si_laws.proofs.Pairs.{AtMaster, Quiet}
 use Rattle.si_laws.proofs.Stages.{Has}
 use Rattle.si_laws.proofs.Staying.{decided-step}

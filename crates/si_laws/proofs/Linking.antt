@@ -2,7 +2,7 @@
 use Rattle.partition_map.specs.declared.rows.Asked.{Asked}
 use Rattle.si_laws.proofs.Acks.{comes_some}
 use Rattle.si_laws.proofs.Homes.{OwnGood}
-use Rattle.si_laws.proofs.Letters.{AsksWith, NewLetter, as_prepare, as_replicate, is_plain, letter_step, n_abort, n_ack, n_ask, n_commit, n_copy, n_plain}
+use Rattle.si_laws.proofs.Sending.{AsksWith, NewLetter, as_prepare, as_replicate, is_plain, letter_step, n_abort, n_ack, n_ask, n_commit, n_copy, n_plain}
 use Rattle.si_laws.proofs.Linked.{Acknowledged, AreWrites, IsCertified, IsDecidedAs, Kept, Linked, Told, certified_stays, decided_stays, k_ended, k_stands, one_of, pre_of}
 use Rattle.si_laws.proofs.PairSteps.{PairStep, pair_step, ps_aborts, ps_commits, ps_refused, ps_rests}
 use Rattle.si_laws.proofs.Pairs.{Knows, here_unknown, one_pair, unknown_not}
