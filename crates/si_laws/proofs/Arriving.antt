@@ -32,12 +32,12 @@ pub record IsOf (scene : Scene) (tx : TxId) (k : KeyId) (q : Version) : Type 0 w
   pub part_is : q.part ≡ part_of scene k
 
 -- Final at fc, or Pre at or below fc and its pair is not done
-pub data Arrived_ (v : View) (fc : ℕ) (q : Version) : Type 0 where
-  a_final : q.kind ≡ Final → q.ts.0 ≡ fc → Arrived_ v fc q
-  a_pre : q.kind ≡ Pre → q.ts.0 ≤ fc → (Has (is_pair q.tx q.part) v.done → ⊥) → Arrived_ v fc q
+pub data ArrivedAs (v : View) (fc : ℕ) (q : Version) : Type 0 where
+  a_final : q.kind ≡ Final → q.ts.0 ≡ fc → ArrivedAs v fc q
+  a_pre : q.kind ≡ Pre → q.ts.0 ≤ fc → (Has (is_pair q.tx q.part) v.done → ⊥) → ArrivedAs v fc q
 
 -- a begun transaction, by its place at its node
-pub record Standing_ (scene : Scene) (s : Stage) (t : TxId) (x : Own) : Type 0 where
+pub record BegunAt (scene : Scene) (s : Stage) (t : TxId) (x : Own) : Type 0 where
   pub n : ℕ
   pub i : ℕ
   pub view : View
@@ -45,7 +45,7 @@ pub record Standing_ (scene : Scene) (s : Stage) (t : TxId) (x : Own) : Type 0 w
   pub own : Owns view i x
   pub name : t ≡ name_of (at_place scene n) i
 
-pub begun_at : (scene : Scene) (w : World) (t : TxId) (x : Own) → Begun w t x → Standing_ scene (stage_of w) t x
+pub begun_at : (scene : Scene) (w : World) (t : TxId) (x : Own) → Begun w t x → BegunAt scene (stage_of w) t x
 begun_at scene w t x b =
     let p = of_nth w.nodes t.node.0 b.0 b.1 in
     let q = of_nth b.0.own t.seq x b.2 in
@@ -57,11 +57,11 @@ in_own_part scene ws w h = filter_keeps (in_part scene (part_of scene w.key)) ws
 
 module _ (scene : Scene) (s : Stage) (h : Linked scene s) where
   -- the Ack of a participant is of the transaction as it stands
-  ack_writes : (t : TxId) (x : Own) (st : Standing_ scene s t x) (a : Asked) (ts : Ts) (k : Acknowledged scene s a.node (name_of (at_place scene st.n) st.i) a.part ts) → x.writes ≡ k.all
+  ack_writes : (t : TxId) (x : Own) (st : BegunAt scene s t x) (a : Asked) (ts : Ts) (k : Acknowledged scene s a.node (name_of (at_place scene st.n) st.i) a.part ts) → x.writes ≡ k.all
   ack_writes t x st a ts k = (one_certified scene s st.n st.i st.view x (name_of (at_place scene st.n) st.i) k.rs k.lc k.all st.there st.own refl k.certified).0
 
   -- of an undecided transaction, at a participant that has answered
-  pub answered_stands : (t : TxId) (x : Own) (st : Standing_ scene s t x) → is_decided x.phase ≡ false → (a : Asked) → In a x.parts → (ts : Ts) → a.ack ≡ Some ts → (w : Write) → In w x.writes
+  pub answered_stands : (t : TxId) (x : Own) (st : BegunAt scene s t x) → is_decided x.phase ≡ false → (a : Asked) → In a x.parts → (ts : Ts) → a.ack ≡ Some ts → (w : Write) → In w x.writes
       → part_of scene w.key ≡ a.part → (n : ℕ) × (v : View) × (a.node ≡ record { 0 = n + 1 }) × (slice_get s.nodes n ≡ Some v) × In (pre_of t a.part ts w) v.versions
   answered_stands t x st f a k ts q w m p =
       let c = answer_known scene s h st.n st.view st.there st.i x st.own a k ts q in
@@ -86,10 +86,10 @@ module _ (scene : Scene) (s : Stage) (h : Linked scene s) where
 
   -- the replica has its version of the write
   abbrev pub FoundAt : TxId → ℕ → Write → NodeId → Type 0
-  FoundAt t fc w r = (n : ℕ) × (v : View) × (q : Version) × (r ≡ record { 0 = n + 1 }) × (slice_get s.nodes n ≡ Some v) × In q v.versions × IsOf scene t w.key q × Arrived_ v fc q
+  FoundAt t fc w r = (n : ℕ) × (v : View) × (q : Version) × (r ≡ record { 0 = n + 1 }) × (slice_get s.nodes n ≡ Some v) × In q v.versions × IsOf scene t w.key q × ArrivedAs v fc q
 
   -- of a committed transaction, at each replica of what it wrote
-  pub committed_stands : (t : TxId) (x : Own) (st : Standing_ scene s t x) (fc : ℕ) → IsCommitted x fc → (w : Write) → In w x.writes → (r : NodeId) → hosts scene r (part_of scene w.key) ≡ true
+  pub committed_stands : (t : TxId) (x : Own) (st : BegunAt scene s t x) (fc : ℕ) → IsCommitted x fc → (w : Write) → In w x.writes → (r : NodeId) → hosts scene r (part_of scene w.key) ≡ true
       → FoundAt t fc w r
   committed_stands t x st fc cm w m r hosted = by_place (same_or_not r.0 (st.n + 1))
     where

@@ -1,6 +1,7 @@
 -- What messages, replicas and origins have to do with one another, in every state of a run.
 use Rattle.partition_map.specs.declared.rows.Asked.{Asked}
 use Rattle.si_laws.proofs.Homes.{AtHome}
+use Rattle.si_laws.proofs.Sending.{AreMarked}
 use Rattle.si_laws.proofs.Pairs.{AtMaster, Quiet}
 use Rattle.si_laws.proofs.Stages.{Has}
 use Rattle.si_laws.proofs.Staying.{decided-step}
@@ -93,8 +94,9 @@ abbrev pub Told : Scene → Stage → NodeId → NodeId → Body → Type 0
 Told scene s from to (Prepare tx p rs lc ws) = AreWrites scene s tx p rs.0 lc.0 ws
 Told scene s from to (Replicate tx p rs lc ws) = AreWrites scene s tx p rs.0 lc.0 ws
 Told scene s from to (Ack tx p ts) = Acknowledged scene s from tx p ts
-Told scene s from to (Commit tx p fc ms) = (x : Own) × IsDecidedAs scene s tx x × ((l : Option ℕ) × (x.phase ≡ Committed l (Some fc.0))) × IsSeat x p to
-Told scene s from to (Abort tx p) = (x : Own) × IsDecidedAs scene s tx x × ((l : Option ℕ) × (cause : Cause) × (x.phase ≡ Aborted l cause)) × IsSeat x p to
+Told scene s from to (Commit tx p fc ms) = (x : Own) × IsDecidedAs scene s tx x × ((l : Option ℕ) × (x.phase ≡ Committed l (Some fc.0))) × IsSeat x p to × (from ≡ tx.node)
+    × AreMarked ms (filter (in_part scene p) x.writes)
+Told scene s from to (Abort tx p) = (x : Own) × IsDecidedAs scene s tx x × ((l : Option ℕ) × (cause : Cause) × (x.phase ≡ Aborted l cause)) × IsSeat x p to × (from ≡ tx.node)
 Told scene s from to (ReadReq tx k rs) = Unit {0}
 Told scene s from to (ReadReply tx k v by fc) = Unit {0}
 Told scene s from to (Refusal tx p by k) = Unit {0}

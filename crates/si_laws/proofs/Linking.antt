@@ -1,36 +1,32 @@
 -- Each single change keeps what messages, replicas and origins have to do with one another.
 use Rattle.partition_map.specs.declared.rows.Asked.{Asked}
 use Rattle.si_laws.proofs.Acks.{comes_some}
-use Rattle.si_laws.proofs.Asking.{pre_from}
-use Rattle.si_laws.proofs.Homes.{AckStep, AtHome, OwnGood, a_new, a_old, acked_parts, asked_part, home-step}
-use Rattle.si_laws.proofs.Letters.{AsksWith, NewLetter, as_prepare, as_replicate, is_plain, letter_step, n_abort, n_ack, n_ask, n_commit, n_copy, n_plain}
-use Rattle.si_laws.proofs.Linked.{AckSent, Acknowledged, AreWrites, IsCertified, IsDecidedAs, Kept, Linked, Told, certified_stays, decided_stays, k_ended, k_stands, one_of, pre_of}
+use Rattle.si_laws.proofs.Homes.{OwnGood}
+use Rattle.si_laws.proofs.Sending.{AsksWith, NewLetter, as_prepare, as_replicate, is_plain, letter_step, n_abort, n_ack, n_ask, n_commit, n_copy, n_plain}
+use Rattle.si_laws.proofs.Linked.{Acknowledged, AreWrites, IsCertified, IsDecidedAs, Kept, Linked, Told, certified_stays, decided_stays, k_ended, k_stands, one_of, pre_of}
 use Rattle.si_laws.proofs.PairSteps.{PairStep, pair_step, ps_aborts, ps_commits, ps_refused, ps_rests}
-use Rattle.si_laws.proofs.Pairs.{AtMaster, DoneNow, Knows, Quiet, d_aborts, d_commits, d_refused, d_was, done_back, here_unknown, one_pair, quiet_step, unknown_not}
-use Rattle.si_laws.proofs.Parts.{Placed, WaitStep, by_master, by_slave, sent_step, version_step, w_fewer, w_more, wait_step}
+use Rattle.si_laws.proofs.Pairs.{Knows, here_unknown, one_pair, unknown_not}
+use Rattle.si_laws.proofs.Parts.{Placed, by_master, by_slave, sent_step}
 use Rattle.si_laws.proofs.Stages.{Has, done-act, same_pair}
-use Rattle.si_laws.proofs.Turning.{OwnChange, o_aborts, o_acks, o_asks, o_begins, o_certifies, o_closes, o_commits, o_puts, o_rests, own_change}
-use Rattle.std.proofs.Common.{List, Some, [], ap, arith, eq-eqb, eqb-true, false, filter, inl, inr, map, not, refl, replicate, slice_get, slice_set, subst, subst₂, sym, true, ℕ, ◌&&◌, ◌++◌, ◌+◌, ◌∙◌, ◌∷◌, ◌≡◌, ◌≢◌, ◌⊎◌}
-use Rattle.str_base.specs.Versions.{insert_all, of_pair, same_node, same_part, same_tx, settled, stamp, without}
-use Rattle.str_base.specs.declared.names.Kind.TheVariants.{Pre}
+use Rattle.std.proofs.Common.{List, Some, ap, arith, eq-eqb, eqb-true, false, filter, inl, inr, map, refl, slice_get, slice_set, subst, subst₂, sym, true, ℕ, ◌&&◌, ◌++◌, ◌+◌, ◌∙◌, ◌∷◌, ◌≡◌, ◌≢◌, ◌⊎◌}
+use Rattle.str_base.specs.Versions.{insert_all, of_pair, same_node, same_part, same_tx, settled, stamp}
 use Rattle.str_base.specs.declared.names.NodeId.{NodeId}
 use Rattle.str_base.specs.declared.names.PartId.{PartId}
 use Rattle.str_base.specs.declared.names.Ts.{Ts}
 use Rattle.str_base.specs.declared.names.TxId.{TxId}
 use Rattle.str_base.specs.declared.names.Version.{Version}
 use Rattle.str_base.specs.declared.names.Write.{Write}
-use Rattle.str_model.proofs.Acting.{Act, Arrives, Comes, IsHere, IsMasters, Where, a_prepare, a_read, it_comes, it_waits}
-use Rattle.str_model.proofs.Everywhere.{IsSeen, Sent, Stage, at_place, during, everywhere, stage_of}
+use Rattle.str_model.proofs.Acting.{Act, Comes, IsHere, Where, it_comes, it_waits}
+use Rattle.str_model.proofs.Everywhere.{IsSeen, Sent, Stage, at_place, during}
 use Rattle.str_model.proofs.Gaining.{and_left}
-use Rattle.str_model.proofs.Lists.{get_set, get_set_other, got_push, got_replicate, got_set}
-use Rattle.str_model.proofs.Members.{In, in_all_new, in_append, in_at, in_filter, in_flat_map, in_insert_all, in_left, in_map, in_right, map_in}
-use Rattle.str_model.specs.Acts.{fresh, in_phase, pre_version, with_asked}
+use Rattle.str_model.proofs.Lists.{get_set, get_set_other, got_set}
+use Rattle.str_model.proofs.Members.{In, in_all_new, in_append, in_at, in_flat_map, in_left, in_map, in_right, map_in}
+use Rattle.str_model.specs.Acts.{in_phase, pre_version}
 use Rattle.str_model.specs.Owned.{Owns}
 use Rattle.str_model.specs.Proposals.{is_pair}
-use Rattle.str_model.specs.Runs.{opening, opening_view, run}
 use Rattle.str_model.specs.Strange
 use Rattle.str_model.specs.Strange.{has_named, has_node}
-use Rattle.str_model.specs.Views.{Aborted, Committed, Doing, Global, Own, View, is_decided, lc_of, name_of}
+use Rattle.str_model.specs.Views.{Aborted, Committed, Doing, Own, View, is_decided, lc_of, name_of}
 use Rattle.str_model.specs.declared.messages.Arrived.{Arrived}
 use Rattle.str_model.specs.declared.messages.Body.TheVariants.{Abort, Ack, Commit, Prepare, ReadReply, ReadReq, Refuse as Refusal, Replicate}
 use Rattle.str_model.specs.declared.messages.Body.{Body}
@@ -38,10 +34,8 @@ use Rattle.str_model.specs.declared.messages.Input.TheVariants.{Deliver}
 use Rattle.str_model.specs.declared.messages.Input.{Input}
 use Rattle.str_model.specs.declared.messages.Message.{Message}
 use Rattle.str_model.specs.declared.messages.Waiter.TheVariants.{Held}
-use Rattle.str_model.specs.declared.messages.Waiter.{Waiter}
 use Rattle.str_model.specs.declared.names.KeyMark.{KeyMark}
 use Rattle.str_scene.specs.Scenes.{Scene, in_part, others, participants, replicas, unasked, written_parts}
-use Rattle.str_scene.specs.declared.names.Event.{Event}
 
 -- a version of the pair stands where the pair is kept
 pub kept_known : (scene : Scene) (s : Stage) (v : View) (tx : TxId) (p : PartId) (ts : Ts) (ws : List Write) → (w : Write) × In w ws → Kept scene s v tx p ts ws → Knows tx p v
@@ -83,7 +77,7 @@ asks_told scene s from to tx p rs lc all b as_replicate c = (all, c, refl)
 not_same : (a b : NodeId) → same_node a b ≡ false → a.0 ≢ b.0
 not_same a b f e = cc (eq-eqb a.0 b.0 e, f)
 
-unasked_none : (scene : Scene) (n : NodeId) (ws : List Write) (a : Asked) (ts : Ts) → In a (participants scene n ws) → a.ack ≡ Some ts → ⊥
+pub unasked_none : (scene : Scene) (n : NodeId) (ws : List Write) (a : Asked) (ts : Ts) → In a (participants scene n ws) → a.ack ≡ Some ts → ⊥
 unasked_none scene n ws a ts h e =
     let r = in_flat_map (λ (p : PartId). map (unasked p) (others n (replicas scene p))) (written_parts scene ws) a h in
     let m = in_map (unasked r.0) (others n (replicas scene r.0)) a r.2 in cc (ap (λ (z : Asked). z.ack) m.2, e)
@@ -100,7 +94,7 @@ module _ (scene : Scene) (s : Stage) (i : ℕ) (v : View) (input : Input) (w : W
   pub node_e : (n : ℕ) (u : View) → slice_get (slice_set s.nodes i e.view) n ≡ Some u → ((n ≡ i) × (u ≡ e.view)) ⊎ ((n ≢ i) × (slice_get (slice_set s.nodes i d.view) n ≡ Some u))
   node_e n u g = elim (got_set s.nodes i n e.view u g) [ inl q ↦ inl q | inr q ↦ inr (q.0, get_set_other s.nodes i n d.view q.0 ∙ q.1) ]
 
-  sent_more : (m : Message) → In m (s.sent ++ d.sent) → In m (s.sent ++ e.sent)
+  pub sent_more : (m : Message) → In m (s.sent ++ d.sent) → In m (s.sent ++ e.sent)
   sent_more m k = elim (in_append s.sent d.sent m k) [
     | inl j ↦ in_left s.sent e.sent m j
     | inr j ↦ (let new = sent_step (at_place scene i) input w d e act in in_right s.sent e.sent m (subst (In m) (sym new.are) (in_left d.sent new.new m j)))
@@ -116,10 +110,10 @@ module _ (scene : Scene) (s : Stage) (i : ℕ) (v : View) (input : Input) (w : W
   receiver_here from b c =
       eqb-true c.0.receiver.0 (i + 1) (and_left (same_node c.0.receiver (at_place scene i).node) (Strange.has_node (at_place scene i) c.0.sender && Strange.has_named (at_place scene i) c.0.body) c.4)
 
-  writes_stay : (tx : TxId) (p : PartId) (rs lc : ℕ) (ws : List Write) → AreWrites scene (during s i d) tx p rs lc ws → AreWrites scene (during s i e) tx p rs lc ws
+  pub writes_stay : (tx : TxId) (p : PartId) (rs lc : ℕ) (ws : List Write) → AreWrites scene (during s i d) tx p rs lc ws → AreWrites scene (during s i e) tx p rs lc ws
   writes_stay tx p rs lc ws r = (r.0, certified_stays scene s i v input w d e is act tx rs lc r.0 r.1, r.2)
 
-  dec_stays : (tx : TxId) (x : Own) → IsDecidedAs scene (during s i d) tx x → IsDecidedAs scene (during s i e) tx x
+  pub dec_stays : (tx : TxId) (x : Own) → IsDecidedAs scene (during s i d) tx x → IsDecidedAs scene (during s i e) tx x
   dec_stays = decided_stays scene s i v input w d e is act
 
   -- ---- what comes to be placed
@@ -148,7 +142,7 @@ module _ (scene : Scene) (s : Stage) (i : ℕ) (v : View) (input : Input) (w : W
 
   -- ---- who is told of a commit has answered
 
-  known_by_commit : (from : NodeId) (t : TxId) (q : PartId) (fc : Ts) (ms : List KeyMark) → Comes (at_place scene i) input from (Commit t q fc ms) → Knows t q d.view
+  pub known_by_commit : (from : NodeId) (t : TxId) (q : PartId) (fc : Ts) (ms : List KeyMark) → Comes (at_place scene i) input from (Commit t q fc ms) → Knows t q d.view
   known_by_commit from t q fc ms c =
       let told = came_told from (Commit t q fc ms) c in
       let dec = told.1 in
@@ -233,8 +227,8 @@ module _ (scene : Scene) (s : Stage) (i : ℕ) (v : View) (input : Input) (w : W
   told_stays from to (Prepare tx p rs lc ws) r = writes_stay tx p rs.0 lc.0 ws r
   told_stays from to (Replicate tx p rs lc ws) r = writes_stay tx p rs.0 lc.0 ws r
   told_stays from to (Ack tx p ts) r = ack_stays from tx p ts r
-  told_stays from to (Commit tx p fc ms) r = (r.0, dec_stays tx r.0 r.1, r.2, r.3)
-  told_stays from to (Abort tx p) r = (r.0, dec_stays tx r.0 r.1, r.2, r.3)
+  told_stays from to (Commit tx p fc ms) r = (r.0, dec_stays tx r.0 r.1, r.2, r.3, r.4, r.5)
+  told_stays from to (Abort tx p) r = (r.0, dec_stays tx r.0 r.1, r.2, r.3, r.4)
   told_stays from to (ReadReq tx k rs) r = tt
   told_stays from to (ReadReply tx k u by fc) r = tt
   told_stays from to (Refusal tx p by k) r = tt
@@ -273,12 +267,14 @@ module _ (scene : Scene) (s : Stage) (i : ℕ) (v : View) (input : Input) (w : W
       subst (λ (b : Body). Told scene (during s i e) m.sender m.receiver b) (sym q) (writes_stay a.tx a.part a.rs.0 a.lc.0 a.writes (here_writes a k).0)
   new_told m (n_ack a ts k from q vs ds) = subst (λ (b : Body). Told scene (during s i e) m.sender m.receiver b) (sym q) (new_ack m a ts k from vs ds)
   new_told m (n_commit j lc fc x a ms own own' k r q) =
-      subst (λ (b : Body). Told scene (during s i e) m.sender m.receiver b) (sym q) (in_phase (Committed (Some lc) (Some fc)) x, own_decided j (in_phase (Committed (Some lc) (Some fc)) x) own' refl, (Some lc, refl), (a, k, refl, sym r))
+      subst (λ (b : Body). Told scene (during s i e) m.sender m.receiver b) (sym q.0)
+      (in_phase (Committed (Some lc) (Some fc)) x, own_decided j (in_phase (Committed (Some lc) (Some fc)) x) own' refl, (Some lc, refl), (a, k, refl, sym r.1), r.0, q.1)
   new_told m (n_abort j cause x a own own' k r q) =
-      subst (λ (b : Body). Told scene (during s i e) m.sender m.receiver b) (sym q) (in_phase (Aborted (lc_of x.phase) cause) x, own_decided j (in_phase (Aborted (lc_of x.phase) cause) x) own' refl, (lc_of x.phase, cause, refl), (a, k, refl, sym r))
+      subst (λ (b : Body). Told scene (during s i e) m.sender m.receiver b) (sym q)
+      (in_phase (Aborted (lc_of x.phase) cause) x, own_decided j (in_phase (Aborted (lc_of x.phase) cause) x) own' refl, (lc_of x.phase, cause, refl), (a, k, refl, sym r.1), r.0)
   new_told m (n_plain q) = plain_told scene (during s i e) m.sender m.receiver m.body q
 
-  told_e : (m : Message) → In m (s.sent ++ e.sent) → Told scene (during s i e) m.sender m.receiver m.body
+  pub told_e : (m : Message) → In m (s.sent ++ e.sent) → Told scene (during s i e) m.sender m.receiver m.body
   told_e m k = elim (in_append s.sent e.sent m k) [
     | inl j ↦ told_stays m.sender m.receiver m.body (h.told m (in_left s.sent d.sent m j))
     | inr j ↦ (elim (letter_step (at_place scene i) input w d e act m j) [
@@ -286,160 +282,3 @@ module _ (scene : Scene) (s : Stage) (i : ℕ) (v : View) (input : Input) (w : W
       | inr n ↦ new_told m n
     ])
   ]
-
-  -- ---- parked Prepares
-
-  AreHeld : Arrived → Type 0
-  AreHeld a = AreWrites scene (during s i e) a.tx a.part a.rs.0 a.lc.0 a.writes × ((x : Write) × In x a.writes)
-
-  held_e : (a : Arrived) → WaitStep (at_place scene i) input d e → In (Held a) e.view.waiters → AreHeld a × IsMasters (at_place scene i) a
-  unfolding AreHeld
-  held_e a (w_fewer f) k =
-      let r = h.held i d.view there_d a (f (Held a) k) in ((writes_stay a.tx a.part a.rs.0 a.lc.0 a.writes r.0, r.1), h.master i d.view there_d a (f (Held a) k))
-  held_e a (w_more r c q) k = elim (in_append d.view.waiters (r ∷ []) (Held a) (subst (In (Held a)) q k)) [
-    | inl j ↦ (let z = h.held i d.view there_d a j in ((writes_stay a.tx a.part a.rs.0 a.lc.0 a.writes z.0, z.1), h.master i d.view there_d a j))
-    | inr j ↦ (elim j [ inl g ↦ arrived r c g | inr z ↦ absurd z ])
-  ]
-    where
-      arrived : (r : Waiter) → Arrives (at_place scene i) input d r → r ≡ Held a → AreHeld a × IsMasters (at_place scene i) a
-      arrived r (a_read from tx k rs c) g = absurd (cc g)
-      arrived r (a_prepare from b c u z m) g =
-          let same : b ≡ a = cc g in
-          let ws = writes_stay b.tx b.part b.rs.0 b.lc.0 b.writes (came_told from (Prepare b.tx b.part b.rs b.lc b.writes) c) in
-          let some = comes_some (at_place scene i) input w from b (Prepare b.tx b.part b.rs b.lc b.writes) c refl in
-          subst (λ (y : Arrived). (AreWrites scene (during s i e) y.tx y.part y.rs.0 y.lc.0 y.writes × ((x : Write) × In x y.writes)) × IsMasters (at_place scene i) y) same ((ws, some), m)
-
-  -- ---- answers
-
-  ack_more : (tx : TxId) (p : PartId) (from : NodeId) (ts : Ts) → AckSent (during s i d) tx p from ts → AckSent (during s i e) tx p from ts
-  ack_more tx p from ts k = record { message = k.message; sent = sent_more k.message k.sent; sender = k.sender; body = k.body }
-
-  -- the answers of an own transaction were sent
-  AreSent : ℕ → List Asked → Type 0
-  AreSent j parts = (a : Asked) → In a parts → (ts : Ts) → a.ack ≡ Some ts → AckSent (during s i e) (name_of (at_place scene i) j) a.part a.node ts
-
-  old_acks : (j : ℕ) (x : Own) → Owns d.view j x → AreSent j x.parts
-  unfolding AreSent
-  old_acks j x own a k ts q = ack_more (name_of (at_place scene i) j) a.part a.node ts (h.acks i d.view there_d j x own a k ts q)
-
-  set_acks : (k : ℕ) (y : Own) → e.view.own ≡ slice_set d.view.own k y → AreSent k y.parts → (j : ℕ) (z : Own) → Owns e.view j z → AreSent j z.parts
-  set_acks k y q new j z own = elim (got_set d.view.own k j y z (subst (λ (xs : List Own). slice_get xs j ≡ Some z) q own)) [
-    | inl p ↦ subst₂ (λ (n : ℕ) (u : Own). AreSent n u.parts) (sym p.0) (sym p.1) new
-    | inr p ↦ old_acks j z p.1
-  ]
-
-  acks_e : OwnChange (at_place scene i) input d.view e.view → (j : ℕ) (z : Own) → Owns e.view j z → AreSent j z.parts
-  unfolding AreSent
-  acks_e (o_rests q) j z own = old_acks j z (subst (λ (xs : List Own). slice_get xs j ≡ Some z) q own)
-  acks_e (o_begins place rs q) j z own = elim (got_push d.view.own j (fresh place rs) z (subst (λ (xs : List Own). slice_get xs j ≡ Some z) q own)) [
-    | inl p ↦ (λ a k ts r. absurd (subst (λ (u : Own). In a u.parts) p.1 k))
-    | inr p ↦ old_acks j z p
-  ]
-  acks_e (o_puts k x y o g q) j z own = set_acks k y q (subst (λ (ps : List Asked). AreSent k ps) (sym g.same_parts) (old_acks k x o)) j z own
-  acks_e (o_certifies k lc snap x o f n r q t) j z own =
-      set_acks k _ q (λ a m ts u. absurd (unasked_none scene (at_place scene i).node x.writes a ts m u)) j z own
-  acks_e (o_asks k lc p x o f l q) j z own =
-      set_acks k (record x { parts = with_asked p x.parts; phase = Global lc }) q (λ a m ts u. let b = asked_part p x.parts a m in
-      subst₂ (λ (r : PartId) (n : NodeId). AckSent (during s i e) (name_of (at_place scene i) k) r n ts) (sym b.2) (sym b.3) (old_acks k x o b.0 b.1 ts (sym b.4 ∙ u))) j z own
-  acks_e (o_acks k lc from tx p ts parts x o c g b q) j z own = set_acks k (record x { parts = parts }) q (λ a m t u. by_new a ((acked_parts x.parts p from ts.0 parts b.parts_are).each a m) t u) j z own
-    where
-      by_new : (a : Asked) → AckStep from p ts.0 x.parts a → (t : Ts) → a.ack ≡ Some t → AckSent (during s i e) (name_of (at_place scene i) k) a.part a.node t
-      by_new a (a_old m) t u = old_acks k x o a m t u
-      by_new a (a_new y m sp sn r) t u =
-          let part : a.part ≡ p = ap (λ (z : Asked). z.part) r ∙ (λ j. record { 0 = eqb-true y.part.0 p.0 sp j }) in
-          let node : a.node ≡ from = ap (λ (z : Asked). z.node) r ∙ (λ j. record { 0 = eqb-true y.node.0 from.0 sn j }) in
-          let both : Some ts ≡ Some t = sym (ap (λ (z : Asked). z.ack) r) ∙ u in
-          let time : ts ≡ t = cc both in
-          record {
-            message = c.0;
-            sent = in_left s.sent e.sent c.0 (came c.0 c.1);
-            sender = c.2 ∙ sym node;
-            body = c.3 ∙ (λ j. Ack (b.named j) (sym part j) (time j));
-          }
-  acks_e (o_aborts k cause x o f q) j z own = set_acks k _ q (old_acks k x o) j z own
-  acks_e (o_commits k lc fc x o f l gate q t) j z own = set_acks k _ q (old_acks k x o) j z own
-  acks_e (o_closes k x o p q) j z own = set_acks k _ q (old_acks k x o) j z own
-
-  -- ---- Pre versions
-
-  pres_e : (q : Version) → In q e.view.versions → q.kind ≡ Pre → Has (is_pair q.tx q.part) e.view.done → ⊥
-  pres_e q k pre dn = by_done (done_back (at_place scene i) input w q.tx q.part d e act dn)
-    where
-      self : (t : TxId) (r : PartId) → (same_tx t q.tx && same_part r q.part) ≡ true → of_pair t r q ≡ true
-      self t r same = let o = one_pair t q.tx r q.part same in
-          subst₂ (λ a b. of_pair a b q ≡ true) (sym o.0) (sym o.1) (same_pair q.tx q.tx q.part q.part (record { node = refl; seq = refl; part = refl }))
-
-      not_left : (t : TxId) (r : PartId) → (same_tx t q.tx && same_part r q.part) ≡ true → In q (without (of_pair t r) d.view.versions) → ⊥
-      not_left t r same j = let f = (in_filter (λ (x : Version). not (of_pair t r x)) d.view.versions q j).1 in absurd (cc (ap not (self t r same), f))
-
-      knows_of : (a : Arrived) → (same_tx a.tx q.tx && same_part a.part q.part) ≡ true → Knows q.tx q.part d.view → Knows a.tx a.part d.view
-      knows_of a same n = let o = one_pair a.tx q.tx a.part q.part same in subst₂ (λ t r. Knows t r d.view) (sym o.0) (sym o.1) n
-
-      by_done : DoneNow (at_place scene i) input w q.tx q.part d.view e.view d → ⊥
-      by_done (d_was n) = elim (pre_from (at_place scene i) input d e q (version_step (at_place scene i) input w d e act) k pre) [
-        | inl j ↦ h.pres i d.view there_d q j pre n
-        | inr r ↦ placed_unknown r.0 r.1 (subst₂ (λ t u. Knows t u d.view) r.2 r.3 (inl n))
-      ]
-      by_done (d_refused a hh same r) =
-          let j : In q d.view.versions = subst (λ (vs : List Version). In q vs) r k in
-          placed_unknown a (by_master hh) (knows_of a same (inr (q, j, same_pair q.tx q.tx q.part q.part (record { node = refl; seq = refl; part = refl }))))
-      by_done (d_commits t u fc same r) =
-          elim (in_insert_all (map (settled fc) (filter (of_pair t u) d.view.versions)) (without (of_pair t u) d.view.versions) q (subst (λ (vs : List Version). In q vs) r k)) [
-            | inl j ↦ (let m = in_map (settled fc) (filter (of_pair t u) d.view.versions) q j in absurd (cc (ap (λ (z : Version). z.kind) m.2, pre)))
-            | inr j ↦ not_left t u same j
-          ]
-      by_done (d_aborts t u same r) = not_left t u same (subst (λ (vs : List Version). In q vs) r k)
-
-  -- ---- all of it
-
-  pub linked_step : Linked scene (during s i e)
-  unfolding AreSent AreHeld
-  linked_step = record {
-    home = λ n u g. elim (node_e n u g) [
-      | inl q ↦ subst₂ (λ (k : ℕ) (z : View). AtHome (at_place scene k) z) (sym q.0) (sym q.1) (home-step (at_place scene i) input w d e act (h.home i d.view there_d))
-      | inr q ↦ h.home n u q.1
-    ];
-    master = λ n u g. elim (node_e n u g) [
-      | inl q ↦ subst₂ (λ (k : ℕ) (z : View). AtMaster (at_place scene k) z) (sym q.0) (sym q.1) (λ a k. (held_e a (wait_step (at_place scene i) input w d e act) k).1)
-      | inr q ↦ h.master n u q.1
-    ];
-    quiet = λ n u g tx p other. elim (node_e n u g) [
-      | inl q ↦ (let other_i : tx.node.0 ≢ i + 1 = λ z. other (z ∙ ap (λ (k : ℕ). k + 1) (sym q.0)) in
-          subst (λ (z : View). Quiet tx p z) (sym q.1) (quiet_step (at_place scene i) input w tx p other_i d e act (h.master i d.view there_d)
-          (λ from t r fc ms c same. let o = one_pair t tx r p same in subst₂ (λ a b. Knows a b d.view) o.0 o.1 (known_by_commit from t r fc ms c)) (h.quiet i d.view there_d tx p other_i)))
-      | inr q ↦ h.quiet n u q.1 tx p other
-    ];
-    told = told_e;
-    held = λ n u g a k. elim (node_e n u g) [
-      | inl q ↦ (held_e a (wait_step (at_place scene i) input w d e act) (subst (λ (z : View). In (Held a) z.waiters) q.1 k)).0
-      | inr q ↦ (let r = h.held n u q.1 a k in (writes_stay a.tx a.part a.rs.0 a.lc.0 a.writes r.0, r.1))
-    ];
-    acks = λ n u g j x own a k ts r. elim (node_e n u g) [
-      | inl q ↦ subst (λ (m : ℕ). AckSent (during s i e) (name_of (at_place scene m) j) a.part a.node ts) (sym q.0)
-          (acks_e (own_change (at_place scene i) input w d e act) j x (subst (λ (z : View). Owns z j x) q.1 own) a k ts r)
-      | inr q ↦ ack_more (name_of (at_place scene n) j) a.part a.node ts (h.acks n u q.1 j x own a k ts r)
-    ];
-    pres = λ n u g q k pre dn. elim (node_e n u g) [
-      | inl z ↦ pres_e q (subst (λ (y : View). In q y.versions) z.1 k) pre (subst (λ (y : View). Has (is_pair q.tx q.part) y.done) z.1 dn)
-      | inr z ↦ h.pres n u z.1 q k pre dn
-    ];
-  }
-
--- ---- over every run
-
-linked_opening : (scene : Scene) → Linked scene (stage_of (opening scene))
-linked_opening scene = record {
-  home = λ n v g i x own. absurd (cc (ap (λ (z : View). slice_get z.own i) (sym (empty n v g)), own));
-  master = λ n v g a k. absurd (subst (λ (z : View). In (Held a) z.waiters) (empty n v g) k);
-  quiet = λ n v g tx p other. subst (λ (z : View). Quiet tx p z) (sym (empty n v g)) (record { few = omega arith; apart = λ k. refl });
-  told = λ m k. absurd k;
-  held = λ n v g a k. absurd (subst (λ (z : View). In (Held a) z.waiters) (empty n v g) k);
-  acks = λ n v g i x own a k ts q. absurd (cc (ap (λ (z : View). slice_get z.own i) (sym (empty n v g)), own));
-  pres = λ n v g q k pre dn. absurd (subst (λ (z : View). In q z.versions) (empty n v g) k);
-}
-  where
-    empty : (n : ℕ) (v : View) → slice_get (replicate scene.nodes (opening_view scene)) n ≡ Some v → v ≡ opening_view scene
-    empty n v g = got_replicate scene.nodes n (opening_view scene) v g
-
-pub linked : (scene : Scene) (es : List Event) → Linked scene (stage_of (run scene es))
-linked scene es = everywhere scene (Linked scene) (λ s i v input w d e is seen hs a h. linked_step scene s i v input w d e is seen a h) (linked_opening scene) es

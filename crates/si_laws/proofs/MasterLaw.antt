@@ -4,9 +4,11 @@ use Rattle.si_laws.proofs.Around.{AroundAfter, Stand, after_above, after_below, 
 use Rattle.si_laws.proofs.AroundActs.{stand-act}
 use Rattle.si_laws.proofs.Arriving.{begun_at}
 use Rattle.si_laws.proofs.Linked.{IsCertified, Linked, one_certified, one_of}
-use Rattle.si_laws.proofs.Linking.{linked, linked_step}
-use Rattle.si_laws.proofs.Masters.{Masters, masters_step}
+use Rattle.si_laws.proofs.LinkingAll.{linked, linked_step}
+use Rattle.si_laws.proofs.Masters.{Masters}
+use Rattle.si_laws.proofs.MasterOrder.{masters_step}
 use Rattle.si_laws.proofs.Seats.{of_nth}
+use Rattle.si_laws.specs.Commits.{seen}
 use Rattle.si_laws.specs.Laws.Apart.{IsOrdered, OnePre, OrderAtMaster, OrderHolds}
 use Rattle.si_laws.specs.Standing.{Begun}
 use Rattle.std.proofs.Common.{Bool, List, Some, [], ap, arith, eq-eqb, false, inl, inr, refl, replicate, slice_get, subst, subst₂, sym, true, ℕ, ◌+◌, ◌∙◌, ◌≡◌, ◌≢◌, ◌≤◌, ◌⊎◌}
@@ -21,7 +23,6 @@ use Rattle.str_model.proofs.Acting.{Act, Where}
 use Rattle.str_model.proofs.Everywhere.{IsSeen, Stage, at_place, during, everywhere, stage_of}
 use Rattle.str_model.proofs.Lists.{get_set, get_set_other, got_replicate, got_set}
 use Rattle.str_model.proofs.Members.{In, in_at}
-use Rattle.str_model.proofs.Worked.Words.{key}
 use Rattle.str_model.specs.Owned.{Owns}
 use Rattle.str_model.specs.Runs.{opening, opening_view, run}
 use Rattle.str_model.specs.Views.{Doing, Own, View}

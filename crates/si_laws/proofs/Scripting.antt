@@ -1,8 +1,10 @@
 -- What the write buffer of a transaction covers: each key that its operations so far write; and a certified one has done them all.
 use Rattle.dependency_set.specs.Snapshots.{Snap}
-use Rattle.si_laws.proofs.Stages.{or_right_true}
+use Rattle.si_laws.proofs.Mastering.{AreDistinct}
+use Rattle.si_laws.proofs.Stages.{not_both, or_right_true}
 use Rattle.si_laws.specs.Commits.{wrote_key}
-use Rattle.std.proofs.Common.{Bool, List, None, Option, Some, [], ap, arith, eq-eqb, eqb-true, false, if◌then◌else◌, inl, inr, refl, slice_get, slice_set, subst, suc, sym, true, ℕ, ◌+◌, ◌<◌, ◌||◌, ◌∙◌, ◌∷◌, ◌≡◌, ◌≢◌, ◌⊎◌}
+use Rattle.std.proofs.Common.{Bool, List, None, Option, Some, [], ap, arith, eq-eqb, eqb-true, false, if◌then◌else◌, inl, inr, map, not, refl, slice_get, slice_set, subst, suc, sym, true, ℕ, ◌&&◌, ◌+◌, ◌<◌, ◌||◌, ◌∙◌, ◌∷◌, ◌≡◌, ◌≢◌, ◌⊎◌}
+use Rattle.std.specs.List.{list_any}
 use Rattle.str_base.specs.Values.{is_below, set_write}
 use Rattle.str_base.specs.Versions.{same_key}
 use Rattle.str_base.specs.declared.names.KeyId.{KeyId}
@@ -12,7 +14,7 @@ use Rattle.str_base.specs.declared.names.Write.{Write}
 use Rattle.str_model.proofs.Acting.{Act, AsksCommit, Change, Reads, Where, act_abort, act_abort_came, act_accept, act_ack, act_ask, act_begin, act_certify, act_close, act_commit, act_commit_came, act_mark, act_put, act_refuse, act_reply, act_request, act_take, act_unwait, act_wait, asks_again, asks_new, ch_away, ch_blind, ch_close, ch_gate, ch_known, ch_read, ch_reply, ch_resolve, ch_take, ch_wait, reads_again, reads_new}
 use Rattle.str_model.proofs.Along.{step-keeps}
 use Rattle.str_model.proofs.Everywhere.{at_each_event, at_place}
-use Rattle.str_model.proofs.Gaining.{if_elim}
+use Rattle.str_model.proofs.Gaining.{and_left, and_right, if_elim}
 use Rattle.str_model.proofs.Lists.{got_push, got_set, same_or_not}
 use Rattle.str_model.specs.Acts.{abort_came, aborted, accepted, acked, asked, begun, certified, closed, commit_came, committed, fresh, in_phase, marked, refused, replied, requested, taken, waits, with_asked}
 use Rattle.str_model.specs.Evaluation
@@ -21,6 +23,8 @@ use Rattle.str_model.specs.Owned.{Owns}
 use Rattle.str_model.specs.Runs.{run}
 use Rattle.str_model.specs.Scripts
 use Rattle.str_model.specs.Scripts.{finish, finish_next, noted, own_op, wrote}
+use Rattle.str_model.specs.Strange
+use Rattle.str_model.specs.Strange.{distinct_keys}
 use Rattle.str_model.specs.Views.{Aborted, Active, CertWait, Closing, Committed, Doing, Global, Local, Own, Phase, ReadWait, Remote, Reply, View, lc_of, starts}
 use Rattle.str_model.specs.declared.messages.Input.{Input}
 use Rattle.str_model.specs.declared.names.Got.{Got}
@@ -39,11 +43,18 @@ WritesKey (Add l n) k = l ≡ k
 WritesKey (Del l) k = l ≡ k
 WritesKey _ k = ⊥
 
--- the operations before the next one have their keys in the buffer; where it asks to commit or was certified there is no next one
+-- some operation of the list writes the key
+abbrev pub WrittenIn : List Op → KeyId → Type 0
+WrittenIn ops k = (j : ℕ) × (op : Op) × (slice_get ops j ≡ Some op) × WritesKey op k
+
+-- the operations before the next one have their keys in the buffer; where it asks to commit or was certified there is no next one;
+-- and each key of the buffer is one of the script, and stands once
 pub record ScriptGood (here : Here) (x : Own) : Type 0 where
   pub covers : (j : ℕ) (op : Op) (k : KeyId) → j < x.next → slice_get (script_at here.scene x.place) j ≡ Some op → WritesKey op k → wrote_key k x.writes ≡ true
   pub whole : (lc : ℕ) → lc_of x.phase ≡ Some lc → own_op here x ≡ None
   pub waits_ : x.phase ≡ CertWait → own_op here x ≡ None
+  pub inside : (k : KeyId) → wrote_key k x.writes ≡ true → WrittenIn (script_at here.scene x.place) k
+  pub once : AreDistinct x.writes
 
 -- ---- writes
 
@@ -57,7 +68,7 @@ or_split : (a b : Bool) → (a || b) ≡ true → (a ≡ true) ⊎ (b ≡ true)
 or_split true b e = inl refl
 or_split false b e = inr e
 
-or_first : (a b : Bool) → a ≡ true → (a || b) ≡ true
+pub or_first : (a b : Bool) → a ≡ true → (a || b) ≡ true
 or_first true b e = refl
 or_first false b e = absurd cc
 
@@ -87,11 +98,41 @@ key_back w (u ∷ us) k e = by_test (same_key u.key w.key) e (key_back w us k)
       | inr q ↦ (elim (rec q) [ inl z ↦ inl (or_right_true (same_key u.key k) (wrote_key k us) z) | inr z ↦ inr z ])
     ]
 
--- ---- what a script writes is in it
+not_false : (b : Bool) → not b ≡ true → b ≡ false
+not_false true e = absurd cc
+not_false false e = refl
 
--- some operation of the list writes the key
-abbrev pub WrittenIn : List Op → KeyId → Type 0
-WrittenIn ops k = (j : ℕ) × (op : Op) × (slice_get ops j ≡ Some op) × WritesKey op k
+both_false : (a b : Bool) → (a || b) ≡ false → (a ≡ false) × (b ≡ false)
+both_false true b e = absurd cc
+both_false false b e = (refl, e)
+
+other_way : (a b : KeyId) → same_key a b ≡ false → same_key b a ≡ false
+other_way a b e = not_both (same_key b a) (λ q. absurd (cc (eq-eqb a.0 b.0 (sym (eqb-true b.0 a.0 q)), e)))
+
+-- a key that was not there is not there after a write of another one
+none_of : (w : Write) (ws : List Write) (k : KeyId) → list_any (same_key k) (map (λ (z : Write). z.key) ws) ≡ false → same_key k w.key ≡ false
+    → list_any (same_key k) (map (λ (z : Write). z.key) (set_write w ws)) ≡ false
+none_of w [] k e f = rw f refl
+none_of w (u ∷ us) k e f =
+    let n = both_false (same_key k u.key) (list_any (same_key k) (map (λ (z : Write). z.key) us)) e in
+    if_elim (λ zs. list_any (same_key k) (map (λ (z : Write). z.key) zs) ≡ false) (same_key u.key w.key) (w ∷ us) (u ∷ set_write w us)
+    (λ t. rw f n.1) (λ t. rw n.0 (none_of w us k n.1 f))
+
+-- each key stands once after one more write
+set_once : (w : Write) (ws : List Write) → AreDistinct ws → AreDistinct (set_write w ws)
+set_once w [] d = refl
+set_once w (u ∷ us) d = by_test (same_key u.key w.key) refl (set_once w us (and_right (not (list_any (same_key u.key) (map (λ (z : Write). z.key) us))) _ d))
+  where
+    fresh_ : list_any (same_key u.key) (map (λ (z : Write). z.key) us) ≡ false
+    fresh_ = not_false (list_any (same_key u.key) (map (λ (z : Write). z.key) us)) (and_left _ (Strange.distinct_keys (map (λ (z : Write). z.key) us)) d)
+
+    by_test : (b : Bool) → same_key u.key w.key ≡ b → AreDistinct (set_write w us) → AreDistinct (if b then w ∷ us else u ∷ set_write w us)
+    by_test true q rec =
+        let same : u.key ≡ w.key = λ j. record { 0 = eqb-true u.key.0 w.key.0 q j } in
+        subst (λ (z : KeyId). (not (list_any (same_key z) (map (λ (z : Write). z.key) us)) && Strange.distinct_keys (map (λ (z : Write). z.key) us)) ≡ true) same d
+    by_test false q rec = rw (none_of w us u.key fresh_ q) rec
+
+-- ---- what a script writes is in it
 
 later_op : (op : Op) (ops : List Op) (k : KeyId) → WrittenIn ops k → WrittenIn (op ∷ ops) k
 later_op op ops k h = (suc h.0, h.1, h.2, h.3)
@@ -127,6 +168,8 @@ module _ (here : Here) where
         (g.covers j op k (omega (arith, l, n)) (subst (λ (z : TxPlace). slice_get (script_at here.scene z) j ≡ Some op) p e) q);
     whole = λ lc l. ops_same ∙ whole lc l;
     waits_ = λ e. ops_same ∙ wait e;
+    inside = λ k h. subst (λ (z : TxPlace). WrittenIn (script_at here.scene z) k) (sym p) (g.inside k (subst (λ (zs : List Write). wrote_key k zs ≡ true) ws h));
+    once = subst (λ (zs : List Write). AreDistinct zs) (sym ws) g.once;
   }
     where
       ops_same : own_op here y ≡ own_op here x
@@ -134,11 +177,14 @@ module _ (here : Here) where
 
   -- one more operation, which is the next one
   next_good : (x y : Own) (op : Op) → own_op here x ≡ Some op → y.next ≡ x.next + 1 → y.place ≡ x.place → ((k : KeyId) → wrote_key k x.writes ≡ true → wrote_key k y.writes ≡ true)
-      → ((k : KeyId) → WritesKey op k → wrote_key k y.writes ≡ true) → (lc_of y.phase ≡ None) → (y.phase ≡ CertWait → ⊥) → ScriptGood here x → ScriptGood here y
-  next_good x y op e n p keep own lc wait g = record {
+      → ((k : KeyId) → WritesKey op k → wrote_key k y.writes ≡ true) → (lc_of y.phase ≡ None) → (y.phase ≡ CertWait → ⊥) → ((k : KeyId) → wrote_key k y.writes ≡ true → (wrote_key k x.writes ≡ true) ⊎ WritesKey op k) → AreDistinct y.writes
+      → ScriptGood here x → ScriptGood here y
+  next_good x y op e n p keep own lc wait back dist g = record {
     covers = λ j o k l f q. by_place j o k l (subst (λ (z : TxPlace). slice_get (script_at here.scene z) j ≡ Some o) p f) q (same_or_not j x.next);
     whole = λ m l. absurd (cc (lc, l));
     waits_ = λ q. absurd (wait q);
+    inside = λ k h. subst (λ (z : TxPlace). WrittenIn (script_at here.scene z) k) (sym p) (elim (back k h) [ inl z ↦ g.inside k z | inr z ↦ (x.next, op, e, z) ]);
+    once = dist;
   }
     where
       below : (a b c : ℕ) → a < b → b ≡ c + 1 → a ≢ c → a < c
@@ -150,20 +196,21 @@ module _ (here : Here) where
           let same : o ≡ op = cc both in own k (subst (λ (z : Op). WritesKey z k) same q)
       by_place j o k l f q (inr s) = keep k (g.covers j o k (below j y.next x.next l n s) f q)
 
-  wrote_good : (x : Own) (op : Op) (l : KeyId) (v : Value) → own_op here x ≡ Some op → ((k : KeyId) → WritesKey op k → l ≡ k) → ScriptGood here x → ScriptGood here (Scripts.wrote l v x)
-  wrote_good x op l v e f g =
-      next_good x (Scripts.wrote l v x) op e refl refl (λ k h. keep_key (record { key = l; value = v }) x.writes k h) (λ k q. set_key (record { key = l; value = v }) x.writes k (f k q)) refl (λ q. cc q) g
+  wrote_good : (x : Own) (op : Op) (l : KeyId) (v : Value) → own_op here x ≡ Some op → ((k : KeyId) → WritesKey op k → l ≡ k) → ((k : KeyId) → l ≡ k → WritesKey op k) → ScriptGood here x → ScriptGood here (Scripts.wrote l v x)
+  wrote_good x op l v e f b g =
+      next_good x (Scripts.wrote l v x) op e refl refl (λ k h. keep_key (record { key = l; value = v }) x.writes k h) (λ k q. set_key (record { key = l; value = v }) x.writes k (f k q)) refl (λ q. cc q)
+      (λ k h. elim (key_back (record { key = l; value = v }) x.writes k h) [ inl z ↦ inl z | inr z ↦ inr (b k z) ]) (set_once (record { key = l; value = v }) x.writes g.once) g
 
   finish-good : (x : Own) (op : Op) (v : Value) → own_op here x ≡ Some op → (lc_of x.phase ≡ None) → (x.phase ≡ CertWait → ⊥) → ScriptGood here x → ScriptGood here (finish op v x)
-  finish-good x (Get l) v e n f g = next_good x (finish (Get l) v x) (Get l) e refl refl (λ k h. h) (λ k q. absurd q) refl (λ q. cc q) g
-  finish-good x (Put l m) v e n f g = wrote_good x (Put l m) l _ e (λ k q. q) g
-  finish-good x (Puts l t) v e n f g = wrote_good x (Puts l t) l _ e (λ k q. q) g
-  finish-good x (Add l m) v e n f g = wrote_good x (Add l m) l _ e (λ k q. q) g
-  finish-good x (Del l) v e n f g = wrote_good x (Del l) l _ e (λ k q. q) g
+  finish-good x (Get l) v e n f g = next_good x (finish (Get l) v x) (Get l) e refl refl (λ k h. h) (λ k q. absurd q) refl (λ q. cc q) (λ k h. inl h) g.once g
+  finish-good x (Put l m) v e n f g = wrote_good x (Put l m) l _ e (λ k q. q) (λ k q. q) g
+  finish-good x (Puts l t) v e n f g = wrote_good x (Puts l t) l _ e (λ k q. q) (λ k q. q) g
+  finish-good x (Add l m) v e n f g = wrote_good x (Add l m) l _ e (λ k q. q) (λ k q. q) g
+  finish-good x (Del l) v e n f g = wrote_good x (Del l) l _ e (λ k q. q) (λ k q. q) g
   finish-good x (Need l m) v e n f g =
       if_elim (ScriptGood here) (is_below v m) (record x { phase = Closing true }) (record x { next = x.next + 1; phase = Active })
       (λ t. same_good x (record x { phase = Closing true }) refl refl refl (λ lc q. absurd (cc q)) (λ q. absurd (cc q)) g)
-      (λ t. next_good x (record x { next = x.next + 1; phase = Active }) (Need l m) e refl refl (λ k h. h) (λ k q. absurd q) refl (λ q. cc q) g)
+      (λ t. next_good x (record x { next = x.next + 1; phase = Active }) (Need l m) e refl refl (λ k h. h) (λ k q. absurd q) refl (λ q. cc q) (λ k h. inl h) g.once g)
   finish-good x Stop v e n f g = g
 
   finish_next-good : (x : Own) (o : Option Op) (v : Value) → own_op here x ≡ o → (lc_of x.phase ≡ None) → (x.phase ≡ CertWait → ⊥) → ScriptGood here x → ScriptGood here (finish_next o v x)
@@ -171,7 +218,7 @@ module _ (here : Here) where
   finish_next-good x (Some op) v e n f g = finish-good x op v e n f g
 
   noted-good : (k : KeyId) (v : Value) (by : Option TxId) (snap : Snap) (x : Own) → ScriptGood here x → ScriptGood here (noted k v by snap x)
-  noted-good k v by snap x g = record { covers = g.covers; whole = g.whole; waits_ = g.waits_ }
+  noted-good k v by snap x g = record { covers = g.covers; whole = g.whole; waits_ = g.waits_; inside = g.inside; once = g.once }
 
   phase_good : (x : Own) (p : Phase) → lc_of p ≡ None → (p ≡ CertWait → ⊥) → ScriptGood here x → ScriptGood here (in_phase p x)
   phase_good x p n f g = same_good x (in_phase p x) refl refl refl (λ lc q. absurd (cc (n, q))) (λ q. absurd (f q)) g
@@ -185,7 +232,7 @@ module _ (here : Here) where
   asks_end x (asks_again e) g = g.waits_ e
 
   pub change-good : (input : Input) (d : Doing) (i : ℕ) (x y : Own) → Change here input d i x y → ScriptGood here x → ScriptGood here y
-  change-good input d i x y (ch_resolve ffc ds e) g = record { covers = g.covers; whole = g.whole; waits_ = g.waits_ }
+  change-good input d i x y (ch_resolve ffc ds e) g = record { covers = g.covers; whole = g.whole; waits_ = g.waits_; inside = g.inside; once = g.once }
   change-good input d i x y (ch_known op k a e o n q) g = finish-good x op a o (ap lc_of e) (λ z. cc (sym e ∙ z)) g
   change-good input d i x y (ch_blind op a e o n) g = finish-good x op a o (ap lc_of e) (λ z. cc (sym e ∙ z)) g
   change-good input d i x y (ch_read k a by snap r m t) g =
@@ -204,7 +251,7 @@ module _ (here : Here) where
   AllScripts v = (i : ℕ) (x : Own) → Owns v i x → ScriptGood here x
 
   fresh_script : (place : TxPlace) (rs : ℕ) → ScriptGood here (fresh place rs)
-  fresh_script place rs = record { covers = λ j op k l e q. absurd (omega (arith, l)); whole = λ lc l. absurd (cc l); waits_ = λ q. absurd (cc q) }
+  fresh_script place rs = record { covers = λ j op k l e q. absurd (omega (arith, l)); whole = λ lc l. absurd (cc l); waits_ = λ q. absurd (cc q); inside = λ k h. absurd (cc h); once = refl }
 
   script_set : (own : List Own) (i : ℕ) (x y : Own) → slice_get own i ≡ Some x → (ScriptGood here x → ScriptGood here y) → ((j : ℕ) (z : Own) → slice_get own j ≡ Some z → ScriptGood here z)
       → (j : ℕ) (z : Own) → slice_get (slice_set own i y) j ≡ Some z → ScriptGood here z
@@ -223,7 +270,7 @@ module _ (here : Here) where
       script_set d'.view.own i x (record x { parts = with_asked p x.parts; phase = Global lc }) own.0
       (λ s. same_good x (record x { parts = with_asked p x.parts; phase = Global lc }) refl refl refl (λ m q. s.whole lc l) (λ q. absurd (cc q)) s) h
   script-act input w d e (act_ack i lc from tx p ts parts x d' own c q g) h =
-      script_set d'.view.own i x (record x { parts = parts }) own.0 (λ s. record { covers = s.covers; whole = s.whole; waits_ = s.waits_ }) h
+      script_set d'.view.own i x (record x { parts = parts }) own.0 (λ s. record { covers = s.covers; whole = s.whole; waits_ = s.waits_; inside = s.inside; once = s.once }) h
   script-act input w d e (act_abort i cause x d' own f y) h =
       script_set d'.view.own i x (in_phase (Aborted (lc_of x.phase) cause) x) own.0
       (λ s. same_good x (in_phase (Aborted (lc_of x.phase) cause) x) refl refl refl (λ m q. s.whole m q) (λ q. absurd (cc q)) s) h

@@ -71,7 +71,7 @@ session_node : (scene : Scene) → IsScene scene → (s : ℕ) (text : Session) 
 session_node scene ok zero text e = absurd cc
 session_node scene ok (suc k) text e = (ok.sessions k text e).node
 
-entry : (scene : Scene) → IsScene scene → (w : World) → Good scene (stage_of w) → (i : ℕ) (a : Answer) → IsAnswer w.answers i a → Entry scene w i a
+pub entry : (scene : Scene) → IsScene scene → (w : World) → Good scene (stage_of w) → (i : ℕ) (a : Answer) → IsAnswer w.answers i a → Entry scene w i a
 entry scene ok w h i a is =
     let n = h.named a (in_at w.answers i a is) in
     let p : PlacedIn scene n.0 a.place = n.1 in
@@ -83,7 +83,7 @@ entry scene ok w h i a is =
     let c = t.made (count_by (told_in s) (take i w.answers)) a (filter_at (told_in s) w.answers i a is (eq-eqb s s refl)) in
     record { m = n.0; v = v.0; is_view = v.1; good = g; placed = p; made = c.0; index = c.1 }
 
-committed_phase : (p : Phase) (gets : List Got) (fc : ℕ) (g : List Got) → is_decided p ≡ true → outcome_of p gets ≡ Commits (Some (stamp fc)) g → (l : Option ℕ) × (p ≡ Committed l (Some fc))
+pub committed_phase : (p : Phase) (gets : List Got) (fc : ℕ) (g : List Got) → is_decided p ≡ true → outcome_of p gets ≡ Commits (Some (stamp fc)) g → (l : Option ℕ) × (p ≡ Committed l (Some fc))
 committed_phase (Committed l (Some f)) gets fc g d e = let same : stamp f ≡ stamp fc = cc e in (l, ap (λ (k : ℕ). Committed l (Some k)) (ap (λ (t : Ts). t.0) same))
 committed_phase (Committed l None) gets fc g d e = let same : None ≡ Some (stamp fc) = cc e in absurd (cc same)
 committed_phase (Aborted l c) gets fc g d e = absurd (cc e)

@@ -54,12 +54,12 @@ mid_start : (scene : Scene) (n : ℕ) (old : List Answer) (v : View) → NodeGoo
 mid_start scene n old v h =
     record { good = subst (λ (xs : List Answer). NodeGood scene n xs v) (sym (append-nil old)) h; up = r_none; ours = λ a k. absurd k }
 
-length_set : {A : Type 0} (xs : List A) (i : ℕ) (y : A) → length (slice_set xs i y) ≡ length xs
+pub length_set : {A : Type 0} (xs : List A) (i : ℕ) (y : A) → length (slice_set xs i y) ≡ length xs
 length_set [] i y = refl
 length_set (x ∷ xs) zero y = refl
 length_set (x ∷ xs) (suc i) y = ap suc (length_set xs i y)
 
-length_copies : {A : Type 0} (n : ℕ) (y : A) → length (replicate n y) ≡ n
+pub length_copies : {A : Type 0} (n : ℕ) (y : A) → length (replicate n y) ≡ n
 length_copies zero y = refl
 length_copies (suc n) y = ap suc (length_copies n y)
 

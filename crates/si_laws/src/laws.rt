@@ -5,7 +5,8 @@ ghost use Rattle.si_laws.specs.Laws.Cut.{CutHolds};
 ghost use Rattle.si_laws.specs.Laws.Asking.{PresAsked};
 ghost use Rattle.si_laws.specs.Laws.Session.{SessionHolds};
 ghost use Rattle.si_laws.specs.Laws.Stages.{AcksKnown, StagesForward};
-ghost use Rattle.si_laws.specs.Laws.Apart.{OrderHolds};
+ghost use Rattle.si_laws.specs.Laws.Presence.{PresenceByBound, PresenceStands};
+ghost use Rattle.si_laws.specs.Laws.Apart.{ApartHolds, OrderHolds};
 
 /// Times at a node, over every list of events.
 pub fn times_hold()
@@ -51,4 +52,22 @@ pub fn cut_holds()
 /// are Local.
 pub fn order_at_master()
     ensures { OrderHolds }
+{}
+
+/// Conflicting versions do not meet: a Pre and a Local version of one key never stand together, a master has one Pre version of a key at
+/// most, and of two committed transactions that wrote one key one is final at or below the other's snapshot.
+pub fn apart_holds()
+    ensures { ApartHolds }
+{}
+
+/// Where versions of a transaction stand: at each replica of what a committed one wrote, Final, or Pre with the pair not done there; Pre at
+/// the answered timestamp at each participant that answered an undecided one; and no Pre version is of a pair that is done there.
+pub fn presence_stands()
+    ensures { PresenceStands }
+{}
+
+/// The same by what was given: where the pair is not done, its decision was never given to the node. It rests on the bound of timestamps,
+/// since a decision that reaches the limit would be strange to its receiver.
+pub fn presence_by_bound()
+    ensures { PresenceByBound }
 {}

@@ -13,7 +13,9 @@ use Rattle.str_model.specs.declared.messages.Body.TheVariants.{Abort}
 use Rattle.str_model.specs.declared.messages.Body.TheVariants.{Commit}
 use Rattle.str_model.specs.declared.messages.Message.{Message}
 use Rattle.str_model.specs.Owned.{OfEachState}
+use Rattle.str_model.specs.Proposals.{is_done}
 use Rattle.str_model.specs.Runs.{World}
+use Rattle.si_laws.specs.Laws.Times.{TimesBounded}
 use Rattle.str_scene.specs.Scenes.{Scene, hosts, nth, part_of}
 use Rattle.si_laws.specs.Standing.{Begun, IsCommitted, IsOpen, Wrote}
 use Rattle.str_model.specs.Views.{Own, View, is_decided}
@@ -56,6 +58,26 @@ DecidedUntold w =
     (t : TxId) (x : Own) (r : NodeId) (k : KeyId) (q : Version) → Begun w t x → is_decided x.phase ≡ true → Holds w r t k q → q.kind ≡ Pre
     → NeverTold w r t q.part
 
+-- the pair is not in the node's done list
+abbrev pub NotDone : World → NodeId → TxId → PartId → Type 0
+NotDone w r tx p = (v : View) → nth w.nodes r.0 ≡ Some v → is_done v tx p ≡ false
+
+-- Final at fc, or Pre at or below fc with the pair not done
+abbrev pub IsStanding : World → NodeId → TxId → PartId → ℕ → Version → Type 0
+IsStanding w r tx p fc q =
+    ((q.kind ≡ Final) × (q.ts.0 ≡ fc)) ⊎ ((q.kind ≡ Pre) × (q.ts.0 ≤ fc) × NotDone w r tx p)
+
+-- the same three facts by the done lists of the nodes in place of what was given to them
+pub record PresentByDone (scene : Scene) (w : World) : Type 0 where
+  pub committed : (t : TxId) (x : Own) (fc : ℕ) (k : KeyId) (r : NodeId) → Begun w t x → IsCommitted x fc → Wrote x k → hosts scene r (part_of scene k) ≡ true
+      → (q : Version) × Holds w r t k q × IsStanding w r t (part_of scene k) fc q
+  pub answered : AnsweredPresent scene w
+  pub undone : (t : TxId) (r : NodeId) (k : KeyId) (q : Version) → Holds w r t k q → q.kind ≡ Pre → NotDone w r t q.part
+
+-- the law by done lists
+abbrev pub PresenceStands : Type 0
+PresenceStands = OfEachState PresentByDone
+
 -- the three facts on versions of a transaction
 pub record Presence (scene : Scene) (w : World) : Type 0 where
   pub committed : CommittedPresent scene w
@@ -65,3 +87,7 @@ pub record Presence (scene : Scene) (w : World) : Type 0 where
 -- the law
 abbrev pub PresenceHolds : Type 0
 PresenceHolds = OfEachState Presence
+
+-- the law where no timestamp reaches the limit, so that no decision is strange to its receiver
+abbrev pub PresenceByBound : Type 0
+PresenceByBound = TimesBounded → PresenceHolds

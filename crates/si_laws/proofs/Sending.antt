@@ -2,10 +2,11 @@
 use Rattle.partition_map.specs.declared.rows.Asked.{Asked}
 use Rattle.si_laws.proofs.Parts.{Placed, by_master, by_slave}
 use Rattle.std.proofs.Common.{Bool, List, Some, [], ap, false, filter, inl, inr, map, refl, subst, sym, true, ℕ, ◌++◌, ◌∙◌, ◌∷◌, ◌≡◌, ◌⊎◌}
-use Rattle.str_base.specs.Versions.{insert_all, stamp}
+use Rattle.str_base.specs.Versions.{insert_all, mark_of, stamp}
 use Rattle.str_base.specs.declared.names.Cause.{Cause}
 use Rattle.str_base.specs.declared.names.NodeId.{NodeId}
 use Rattle.str_base.specs.declared.names.PartId.{PartId}
+use Rattle.str_base.specs.declared.names.Ts.{Ts}
 use Rattle.str_base.specs.declared.names.TxId.{TxId}
 use Rattle.str_base.specs.declared.names.Write.{Write}
 use Rattle.str_model.proofs.Acting.{Act, IsHere, Where, act_abort, act_abort_came, act_accept, act_ack, act_ask, act_begin, act_certify, act_close, act_commit, act_commit_came, act_mark, act_put, act_refuse, act_reply, act_request, act_take, act_unwait, act_wait}
@@ -37,6 +38,14 @@ pub data AsksWith (tx : TxId) (p : PartId) (rs lc : ℕ) (ws : List Write) : Bod
   as_prepare : AsksWith tx p rs lc ws (Prepare tx p (stamp rs) (stamp lc) ws)
   as_replicate : AsksWith tx p rs lc ws (Replicate tx p (stamp rs) (stamp lc) ws)
 
+-- the marks are of the keys of the writes, in their order
+abbrev pub AreMarked : List KeyMark → List Write → Type 0
+AreMarked ms ws = map (λ (m : KeyMark). m.key) ms ≡ map (λ (w : Write). w.key) ws
+
+marked_keys : (f : Write → Ts) (ws : List Write) → AreMarked (map (λ (w : Write). record { key = w.key; mark = f w }) ws) ws
+marked_keys f [] = refl
+marked_keys f (w ∷ ws) = ap (λ ks. w.key ∷ ks) (marked_keys f ws)
+
 -- a message that has just been sent
 pub data NewLetter (here : Here) (input : Input) (d e : Doing) (m : Message) : Type 0 where
   n_ask : (i lc : ℕ) (p : PartId) (x : Own) → Owns d.view i x → lc_of x.phase ≡ Some lc → AsksWith (name_of here i) p x.snap.rs lc (filter (in_part here.scene p) x.writes) m.body
@@ -44,9 +53,9 @@ pub data NewLetter (here : Here) (input : Input) (d e : Doing) (m : Message) : T
   n_copy : (a : Arrived) → IsHere here input d a → m.body ≡ Replicate a.tx a.part a.rs a.lc a.writes → NewLetter here input d e m
   n_ack : (a : Arrived) (ts : ℕ) → Placed here input d a → m.sender ≡ here.node → m.body ≡ Ack a.tx a.part (stamp ts)
       → e.view.versions ≡ insert_all (map (pre_version a ts) a.writes) d.view.versions → e.view.done ≡ d.view.done → NewLetter here input d e m
-  n_commit : (i lc fc : ℕ) (x : Own) (a : Asked) (ms : List KeyMark) → Owns d.view i x → Owns e.view i (in_phase (Committed (Some lc) (Some fc)) x) → In a x.parts → m.receiver ≡ a.node
-      → m.body ≡ Commit (name_of here i) a.part (stamp fc) ms → NewLetter here input d e m
-  n_abort : (i : ℕ) (cause : Cause) (x : Own) (a : Asked) → Owns d.view i x → Owns e.view i (in_phase (Aborted (lc_of x.phase) cause) x) → In a x.parts → m.receiver ≡ a.node
+  n_commit : (i lc fc : ℕ) (x : Own) (a : Asked) (ms : List KeyMark) → Owns d.view i x → Owns e.view i (in_phase (Committed (Some lc) (Some fc)) x) → In a x.parts → (m.sender ≡ here.node) × (m.receiver ≡ a.node)
+      → (m.body ≡ Commit (name_of here i) a.part (stamp fc) ms) × AreMarked ms (filter (in_part here.scene a.part) x.writes) → NewLetter here input d e m
+  n_abort : (i : ℕ) (cause : Cause) (x : Own) (a : Asked) → Owns d.view i x → Owns e.view i (in_phase (Aborted (lc_of x.phase) cause) x) → In a x.parts → (m.sender ≡ here.node) × (m.receiver ≡ a.node)
       → m.body ≡ Abort (name_of here i) a.part → NewLetter here input d e m
   n_plain : is_plain m.body ≡ true → NewLetter here input d e m
 
@@ -71,12 +80,13 @@ module _ (here : Here) (input : Input) (w : Where) where
   abort_new i cause x d e m own own' h =
       let r = in_map (λ (a : Asked). letter here a.node (Abort (name_of here i) a.part)) (Acts.asked_ones x.parts) m h in
       let k = in_filter (λ (a : Asked). a.asked) x.parts r.0 r.1 in
-      n_abort i cause x r.0 own own' k.0 (ap (λ (z : Message). z.receiver) (sym r.2)) (ap (λ (z : Message). z.body) (sym r.2))
+      n_abort i cause x r.0 own own' k.0 (ap (λ (z : Message). z.sender) (sym r.2), ap (λ (z : Message). z.receiver) (sym r.2)) (ap (λ (z : Message). z.body) (sym r.2))
 
   commit_new : (i lc fc : ℕ) (x : Own) (d e : Doing) (m : Message) → Owns d.view i x → Owns e.view i (in_phase (Committed (Some lc) (Some fc)) x) → In m (Acts.commit_letters here i x fc d.view) → NewLetter here input d e m
   commit_new i lc fc x d e m own own' h =
       let r = in_map (λ (a : Asked). letter here a.node (Commit (name_of here i) a.part (stamp fc) (Acts.marks_in here d.view a.part x.writes))) x.parts m h in
-      n_commit i lc fc x r.0 (Acts.marks_in here d.view r.0.part x.writes) own own' r.1 (ap (λ (z : Message). z.receiver) (sym r.2)) (ap (λ (z : Message). z.body) (sym r.2))
+      n_commit i lc fc x r.0 (Acts.marks_in here d.view r.0.part x.writes) own own' r.1 (ap (λ (z : Message). z.sender) (sym r.2), ap (λ (z : Message). z.receiver) (sym r.2))
+      (ap (λ (z : Message). z.body) (sym r.2), marked_keys (λ (w : Write). stamp (mark_of d.view.marks w.key)) (filter (in_part here.scene r.0.part) x.writes))
 
   pub letter_step : (d e : Doing) → Act here input w d e → (m : Message) → In m e.sent → In m d.sent ⊎ NewLetter here input d e m
   unfolding begun marked aborted committed closed certified asked acked requested accepted taken refused waits replied commit_came abort_came

@@ -1,0 +1,5 @@
+use Rattle.si_laws.proofs.laws.presence_stands.Goals as goal
+use Rattle.si_laws.proofs.PresenceLaw.{presence_stands}
+
+pub returns : goal.returns
+returns c = presence_stands
