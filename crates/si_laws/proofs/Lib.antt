@@ -27,3 +27,6 @@ pub mod AroundActs
 pub mod Apart
 pub mod Marking
 pub mod HomeMarks
+pub mod Fates
+pub mod Gating
+pub mod GateFirst

@@ -19,7 +19,7 @@ becomes-open v f g x y (commits lc fc o l le q e) = o
 becomes-open v f g x y (closes o n q e) = o
 becomes-open v f g x y (aborts cause o q e) = o
 
-decided-step : (i : ℕ) (x : Own) (d e : View) → is_decided x.phase ≡ true → OwnStep d e → Owns d i x → Owns e i x
+pub decided-step : (i : ℕ) (x : Own) (d e : View) → is_decided x.phase ≡ true → OwnStep d e → Owns d i x → Owns e i x
 decided-step i x d e dec (rests o f) h = rw o h
 decided-step i x d e dec (starts_one place rs le o f) h = rw o (get_push d.own i _ x h)
 decided-step i x d e dec (turns_one n x' y' own o b) h = rw o (get_set_other d.own n i y' other ∙ h)
