@@ -46,7 +46,7 @@ set_at : (d e : View) (n i : ℕ) (z y : Own) → Owns d n z → e.own ≡ slice
 set_at d e n i z y is q s = subst (λ k. Owns e k y) (sym s) (rw q (get_set d.own n z y is))
 
 module _ (here : Here) (input : Input) (w : Where) where
-  stays-act : (d e : Doing) → Act here input w d e → (i : ℕ) (x : Own) → Owns d.view i x → is_decided x.phase ≡ false → Stays w e.view i x
+  pub stays-act : (d e : Doing) → Act here input w d e → (i : ℕ) (x : Own) → Owns d.view i x → is_decided x.phase ≡ false → Stays w e.view i x
   unfolding begun marked aborted committed closed certified asked acked requested accepted taken refused waits replied commit_came abort_came
   stays-act d e (act_begin place rs d' r g) i x own op = stays_open x (get_push d'.view.own i (fresh place rs) x own) op
   stays-act d e (act_put n z y d' o g) i x own op = set_after w d'.view e.view n i x z y own op o.0 refl (λ s t. stays_open y (set_at d'.view e.view n i z y o.0 refl s) g.goes.is_open)

@@ -62,7 +62,7 @@ fate_own v k fc e = by_place (slice_get v.own k) refl e
     by_place (Some y) q f = (y, q, committed_is y fc f)
 
 -- one moment before the other, or the same
-order : (j m j' m' : ℕ) → ((Earlier j m j' m') ⊎ ((j ≡ j') × (m ≡ m'))) ⊎ Earlier j' m' j m
+pub order : (j m j' m' : ℕ) → ((Earlier j m j' m') ⊎ ((j ≡ j') × (m ≡ m'))) ⊎ Earlier j' m' j m
 order j m j' m' = by_event (three j j')
   where
     three : (a b : ℕ) → (a < b) ⊎ ((a ≡ b) ⊎ (b < a))

@@ -30,3 +30,8 @@ pub mod HomeMarks
 pub mod Fates
 pub mod Gating
 pub mod GateFirst
+pub mod Letters
+pub mod ReadTurns
+pub mod ReadsBack
+pub mod Reporting
+pub mod WritersFirst
