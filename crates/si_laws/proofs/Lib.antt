@@ -35,3 +35,7 @@ pub mod ReadTurns
 pub mod ReadsBack
 pub mod Reporting
 pub mod WritersFirst
+pub mod Aborting
+pub mod AbortLinks
+pub mod AbortAll
+pub mod Unmet
