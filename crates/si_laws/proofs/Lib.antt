@@ -39,3 +39,4 @@ pub mod Aborting
 pub mod AbortLinks
 pub mod AbortAll
 pub mod Unmet
+pub mod Causes
