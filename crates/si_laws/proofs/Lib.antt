@@ -30,7 +30,7 @@ pub mod HomeMarks
 pub mod Fates
 pub mod Gating
 pub mod GateFirst
-pub mod Letters
+pub mod LetterSources
 pub mod ReadTurns
 pub mod ReadsBack
 pub mod Reporting

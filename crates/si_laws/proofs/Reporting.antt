@@ -34,7 +34,7 @@ use Rattle.si_laws.proofs.Around.{named_more}
 use Rattle.si_laws.proofs.Carrying.{carried}
 use Rattle.si_laws.proofs.Depending.{depends-act}
 use Rattle.si_laws.proofs.Fates.{Stays, now_aborted, now_committed, stays-act, stays_open}
-use Rattle.si_laws.proofs.Letters.{FinalFrom, IsLetter, LetterFrom, ff_came, ff_commit, ff_old, final-act, letter-act, lf_abort, lf_ack, lf_commit, lf_copy, lf_prepare, lf_refuse, lf_replicate, lf_reply, lf_request}
+use Rattle.si_laws.proofs.LetterSources.{FinalFrom, IsLetter, LetterFrom, ff_came, ff_commit, ff_old, final-act, letter-act, lf_abort, lf_ack, lf_commit, lf_copy, lf_prepare, lf_refuse, lf_replicate, lf_reply, lf_request}
 use Rattle.si_laws.proofs.Owners.{Depends, same_own}
 use Rattle.si_laws.proofs.Parts.{WaitStep, w_fewer, w_more, wait_step}
 use Rattle.si_laws.proofs.ReadTurns.{give-is}
