@@ -49,3 +49,16 @@ pub mod Deciding
 pub mod Delivering
 pub mod Deciders
 pub mod PresenceLaw
+pub mod Fates
+pub mod Gating
+pub mod GateFirst
+pub mod LetterSources
+pub mod ReadTurns
+pub mod ReadsBack
+pub mod Reporting
+pub mod WritersFirst
+pub mod Aborting
+pub mod AbortLinks
+pub mod AbortAll
+pub mod Unmet
+pub mod Causes
