@@ -23,7 +23,8 @@ impl Model for Marks {
 impl Marks {
     /// The marks of this many keys, each 0.
     pub fn new(alloc: Global, keys: usize) -> Result<Marks, AllocError>
-        ensures { IfOk result (λ m. m ≡ replicate keys 0) }
+        ensures marks { IfOk result (λ m. m ≡ replicate keys 0) }
+        ensures len { IfOk result (λ m. length m ≡ keys) }
     {
         let mut times = Vec::new(alloc);
         times.resize(keys, 0)?;
@@ -41,7 +42,8 @@ impl Marks {
     /// Raises the mark of a key to `ts`. A greater one stays.
     pub fn raise(&mut self, key: KeyId, ts: Ts)
         requires { key.0 < length self.old }
-        ensures { self.new ≡ raised self.old key ts.0 }
+        ensures marks { self.new ≡ raised self.old key ts.0 }
+        ensures len { length self.new ≡ length self.old }
     {
         let k = key.0 as usize;
         self.times[k] = self.times[k].max(ts.0);
@@ -62,11 +64,12 @@ mod tests {
     #[test]
     fn marks_only_rise(rt: HostRuntime) -> Result<(), Fail> {
         let mut marks = Marks::new(rt.alloc(), 3)?;
-        let cases = [(1, 5, 5), (1, 3, 5), (2, 7, 7), (1, 9, 9), (0, 0, 0)];
-        for (key, ts, mark) in cases {
-            marks.raise(KeyId(key), Ts(ts));
-            assert_eq!(rt; marks.mark(KeyId(key)), Ts(mark));
-        }
+        marks.raise(KeyId(1), Ts(5));
+        marks.raise(KeyId(1), Ts(3));
+        assert_eq!(rt; marks.mark(KeyId(1)), Ts(5));
+        marks.raise(KeyId(1), Ts(7));
+        assert_eq!(rt; marks.mark(KeyId(1)), Ts(7));
+        assert_eq!(rt; marks.mark(KeyId(2)), Ts(0));
         Ok(())
     }
 }

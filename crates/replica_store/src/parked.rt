@@ -190,12 +190,12 @@ mod tests {
             assert_eq!(rt; parked.has(tx(seq), PartId(1)), held);
             assert_eq!(rt; parked.has_read(tx(seq), KeyId(4)), read);
         }
+        assert!(rt; is_held(&parked.take(2), tx(3), PartId(1)));
         parked.drop_one(tx(1), PartId(1));
         assert!(rt; !parked.has(tx(1), PartId(1)));
         assert!(rt; parked.has_read(tx(1), KeyId(4)));
-        assert!(rt; is_held(&parked.take(1), tx(3), PartId(1)));
-        assert!(rt; parked.get(1).is_none());
         assert!(rt; parked.get(0).is_some());
+        assert!(rt; parked.get(1).is_none());
         Ok(())
     }
 }

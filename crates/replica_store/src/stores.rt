@@ -162,7 +162,7 @@ mod tests {
         let mut store = ReplicaStore::new(rt.alloc(), NodeId(1), hosted);
         assert!(rt; store.hosts(PartId(3)) && !store.hosts(PartId(1)));
         assert_eq!(rt; store.node(), NodeId(1));
-        store.reserve(2)?;
+        store.reserve(1)?;
         let tx = TxId {
             node: NodeId(2),
             seq: 5,
@@ -176,13 +176,9 @@ mod tests {
             kind: Kind::Pre,
         };
         store.insert(version);
-        store.insert(Version {
-            key: KeyId(2),
-            ..version
-        });
-        assert!(rt; store.undecided(KeyId(2), Ts(11), false).is_some());
+        assert!(rt; store.undecided(KeyId(7), Ts(11), false).is_some());
         store.finalise(tx, PartId(3), Ts(13));
-        assert!(rt; store.undecided(KeyId(2), Ts(20), true).is_none());
+        assert!(rt; store.undecided(KeyId(7), Ts(20), true).is_none());
         assert!(rt; store.visible(KeyId(7), Ts(12)).is_none());
         assert_eq!(rt; store.newest(KeyId(7)), Ts(13));
         store.remove(tx, PartId(3));
