@@ -8,8 +8,7 @@ ghost use Rattle.str_scene.specs.declared.names.Op.{Op as AnyOp};
 
 use crate::checks::{are_known, first_fault, is_entry, is_row, is_script, is_up_to, sessions_at};
 use crate::faults::SceneFault;
-use crate::keys::KeyTable;
-use crate::lines::spells_name;
+use crate::keys::{KeyTable, spells_name};
 use crate::names::{Event, OpList};
 use crate::numbered::{Numbered, counts_to, seen_in_sessions};
 use crate::scenes::{Scene, SessionText};
