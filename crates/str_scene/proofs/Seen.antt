@@ -8,8 +8,8 @@ use Rattle.str_scene.specs.Numbers.{numbers_of, scene_numbers, script_numbers, s
 use Rattle.str_scene.specs.Refusals.{counts_to, keys_in_order, texts_in_order}
 use Rattle.str_scene.specs.SceneLimits.{all_ops, counted, key_of, text_of}
 use Rattle.str_scene.specs.Scenes.{Scene, Session}
-use Rattle.str_scene.specs.declared.build.Numbered.{Numbered}
-use Rattle.str_scene.specs.declared.build.Numbered.TheVariants.{Keys, Texts}
+use Rattle.str_scene.specs.declared.numbered.Numbered.{Numbered}
+use Rattle.str_scene.specs.declared.numbered.Numbered.TheVariants.{Keys, Texts}
 use Rattle.str_scene.specs.declared.names.Op.{Op}
 
 -- a list from one item on

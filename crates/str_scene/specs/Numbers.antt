@@ -2,8 +2,8 @@
 use Rattle.std.specs.Prelude.{List, flat_map, ℕ}
 use Rattle.str_scene.specs.SceneLimits.{key_of, text_of}
 use Rattle.str_scene.specs.Scenes.{Session}
-use Rattle.str_scene.specs.declared.build.Numbered.{Numbered}
-use Rattle.str_scene.specs.declared.build.Numbered.TheVariants.{Keys, Texts}
+use Rattle.str_scene.specs.declared.numbered.Numbered.{Numbered}
+use Rattle.str_scene.specs.declared.numbered.Numbered.TheVariants.{Keys, Texts}
 use Rattle.str_scene.specs.declared.names.Op.{Op}
 
 -- the number of a kind that an operation names

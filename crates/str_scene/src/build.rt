@@ -1,19 +1,16 @@
 //! A scene that is built item by item. An item that no scene has at its place is refused.
-ghost use Rattle.std.specs.List.{list_all, list_any};
-ghost use Rattle.std.specs.Prelude.{◌≡◌, ◌⊎◌, ◌≤◌, ℕ, None, Some, length, option_to_list, slice_get, IsTrue, IfNone, OnOk, IfOk, IfErr, OnErr};
-ghost use Rattle.str_base.specs.Versions.{same_node};
+ghost use Rattle.std.specs.Prelude.{◌≡◌, ◌⊎◌, ◌≤◌, ℕ, None, Some, length, slice_get, IfNone, OnOk, IfOk, IfErr, OnErr};
 ghost use Rattle.str_scene.specs.DraftLimits.{HasNumber, HasReading, IsDraft};
 ghost use Rattle.str_scene.specs.Drafts.{add_tx, drained, empty_draft, is_before_schedule, may_have_tx, with_entry, with_key, with_nodes, with_row, with_session, with_text, with_tx};
 ghost use Rattle.str_scene.specs.Keys.{number_of, string_number};
-ghost use Rattle.str_scene.specs.Numbers.{numbers_of, scene_numbers, script_numbers, session_numbers};
-ghost use Rattle.str_scene.specs.Refusals.{IsRefused, are_distinct, counts_to, drain_fault, entry_fault, finish_fault, first_fault, is_entry, is_known, is_puts, is_row, is_script, is_up_to, key_fault, keys_in_order, nodes_fault, part_fault, session_fault, sessions_at, text_fault, texts_in_order, transaction_count, tx_fault};
-ghost use Rattle.str_scene.specs.SceneLimits.{counted};
+ghost use Rattle.str_scene.specs.Refusals.{IsRefused, drain_fault, entry_fault, finish_fault, key_fault, keys_in_order, nodes_fault, part_fault, session_fault, text_fault, texts_in_order, transaction_count, tx_fault};
 ghost use Rattle.str_scene.specs.declared.names.Op.{Op as AnyOp};
 
+use crate::checks::{are_known, first_fault, is_entry, is_row, is_script, is_up_to, sessions_at};
 use crate::faults::SceneFault;
-use crate::keys::KeyTable;
-use crate::lines::spells_name;
-use crate::names::{Event, Op, OpList};
+use crate::keys::{KeyTable, spells_name};
+use crate::names::{Event, OpList};
+use crate::numbered::{Numbered, counts_to, seen_in_sessions};
 use crate::scenes::{Scene, SessionText};
 use partition_map::PartRow;
 use std::alloc::{AllocError, Global};
@@ -377,128 +374,6 @@ impl SceneBuild {
     }
 }
 
-/// The first that fails, as a fault.
-fn first_fault(stands: bool, in_range: bool, has_room: bool) -> Option<SceneFault>
-    ensures { result ≡ first_fault stands in_range has_room }
-{
-    if !stands {
-        return Some(SceneFault::Form);
-    }
-    if !in_range {
-        return Some(SceneFault::Range);
-    }
-    if !has_room {
-        return Some(SceneFault::Count);
-    }
-    None
-}
-
-/// Whether a number is from 1 to the last.
-fn is_up_to(last: usize, n: u8) -> bool
-    ensures { result ≡ is_up_to last n }
-{
-    1 <= n && usize::from(n) <= last
-}
-
-/// Whether the node is one of these.
-fn is_among(n: NodeId, nodes: &[NodeId]) -> bool
-    ensures { result ≡ list_any (same_node n) nodes.now }
-{
-    nodes.iter().any(|m| n.0 == m.0)
-}
-
-/// Whether no node stands twice.
-fn are_distinct(row: &[NodeId]) -> bool
-    ensures { result ≡ are_distinct row.now }
-{
-    for i in 0..row.len() {
-        if is_among(row[i], &row[i + 1..]) {
-            return false;
-        }
-    }
-    true
-}
-
-/// Whether these are nodes of the scene, none twice.
-fn is_row(nodes: u8, row: &[NodeId]) -> bool
-    ensures { result ≡ is_row nodes row.now }
-{
-    are_nodes(nodes, row) && are_distinct(row)
-}
-
-/// Whether these are nodes of the scene.
-fn are_nodes(nodes: u8, row: &[NodeId]) -> bool
-    ensures { result ≡ list_all (λ n. is_up_to nodes n.0) row.now }
-{
-    let last = usize::from(nodes);
-    row.iter().all(|n| is_up_to(last, n.0))
-}
-
-/// How many sessions are at a node.
-fn sessions_at(n: NodeId, sessions: &[SessionText]) -> usize
-    ensures { result ≡ sessions_at n sessions.now }
-{
-    sessions.iter().filter(|s| s.node().0 == n.0).count()
-}
-
-/// Whether an operation writes a byte string.
-fn is_puts(op: Op) -> bool
-    ensures { result ≡ is_puts op }
-{
-    matches!(op, Op::Puts(..))
-}
-
-/// Whether the operations are some, and write byte strings in version 2 alone.
-fn is_script(version: u8, ops: &[Op]) -> bool
-    ensures { result ≡ is_script version ops.now }
-{
-    !ops.is_empty() && (version == 2 || !has_puts(ops))
-}
-
-/// Whether one of the operations writes a byte string.
-fn has_puts(ops: &[Op]) -> bool
-    ensures { result ≡ list_any is_puts ops.now }
-{
-    ops.iter().any(|op| is_puts(*op))
-}
-
-/// Whether the keys and byte strings that an operation names are in the table.
-fn is_known(table: &KeyTable, op: Op) -> bool
-    ensures known { result ≡ is_known table.now op }
-    ensures number { HasNumber op }
-{
-    match op {
-        Op::Get(k) | Op::Del(k) => k.0 < table.len(),
-        Op::Put(k, _) | Op::Add(k, _) | Op::Need(k, _) => k.0 < table.len(),
-        Op::Puts(k, t) => k.0 < table.len() && t.0 < table.texts(),
-        Op::Abort => true,
-    }
-}
-
-/// Whether the keys and byte strings that the operations name are in the table.
-fn are_known(table: &KeyTable, ops: &[Op]) -> bool
-    ensures known { result ≡ list_all (is_known table.now) ops.now }
-    ensures numbers { IsTrue result → (i : ℕ) (op : AnyOp) → slice_get ops.now i ≡ Some op → HasNumber op }
-{
-    for op in ops {
-        if !is_known(table, *op) {
-            return false;
-        }
-    }
-    true
-}
-
-/// Whether what an entry names is in range, with so many sessions.
-fn is_entry(sessions: usize, event: Event) -> bool
-    ensures entry { result ≡ is_entry sessions event }
-    ensures numbers { HasReading event }
-{
-    match event {
-        Event::Client { session, .. } => is_up_to(sessions, session.0),
-        Event::Deliver { index } => 1 <= index,
-    }
-}
-
 /// The last session with one more transaction, where there is a session. Where memory runs out nothing changes.
 fn push_to_last(sessions: &mut Vec<SessionText>, ops: OpList) -> Result<(), AllocError>
     ensures ok { OnOk result (sessions.new.items ≡ add_tx ops sessions.old.items) }
@@ -509,89 +384,4 @@ fn push_to_last(sessions: &mut Vec<SessionText>, ops: OpList) -> Result<(), Allo
     };
     session.push(ops)?;
     Ok(())
-}
-
-/// What operations name by number.
-#[derive(Clone, Copy)]
-enum Numbered {
-    Keys,
-    Texts,
-}
-
-/// The number of a kind that an operation names.
-fn number_in(what: Numbered, op: Op) -> Option<u32>
-    ensures { option_to_list result ≡ numbers_of what op }
-{
-    match (what, op) {
-        (Numbered::Keys, Op::Get(k) | Op::Del(k) | Op::Puts(k, _)) => Some(k.0),
-        (Numbered::Keys, Op::Put(k, _) | Op::Add(k, _) | Op::Need(k, _)) => Some(k.0),
-        (Numbered::Texts, Op::Puts(_, t)) => Some(t.0),
-        _ => None,
-    }
-}
-
-/// How many numbers have been seen with those of an operation.
-fn seen_in_op(what: Numbered, seen: u64, op: Op) -> Option<u64>
-    ensures { result ≡ counted seen (numbers_of what op) }
-{
-    let Some(number) = number_in(what, op) else {
-        return Some(seen);
-    };
-    let number = u64::from(number);
-    if number < seen {
-        return Some(seen);
-    }
-    if number == seen {
-        return Some(number + 1);
-    }
-    None
-}
-
-/// How many numbers have been seen with those of a script.
-fn seen_in_script(what: Numbered, start: u64, ops: &[Op]) -> Option<u64>
-    ensures { result ≡ counted start (script_numbers what ops.now) }
-{
-    let mut seen = start;
-    for op in ops {
-        seen = seen_in_op(what, seen, *op)?;
-    }
-    Some(seen)
-}
-
-/// How many numbers have been seen with those of a session.
-fn seen_in_session(what: Numbered, start: u64, txs: &[OpList]) -> Option<u64>
-    ensures { result ≡ counted start (session_numbers what txs.now) }
-{
-    let mut seen = start;
-    for ops in txs {
-        let Some(next) = seen_in_script(what, seen, ops.as_slice()) else {
-            return None;
-        };
-        seen = next;
-    }
-    Some(seen)
-}
-
-/// How many numbers the sessions name, where they first appear in the order 0, 1, 2 and so on.
-fn seen_in_sessions(what: Numbered, sessions: &[SessionText]) -> Option<u64>
-    ensures { result ≡ counted 0 (scene_numbers what sessions.now) }
-{
-    let mut seen = 0;
-    for session in sessions {
-        let Some(next) = seen_in_session(what, seen, session.txs()) else {
-            return None;
-        };
-        seen = next;
-    }
-    Some(seen)
-}
-
-/// Whether the numbers count to so many.
-fn counts_to(count: Option<u64>, n: u64) -> bool
-    ensures { result ≡ counts_to count n }
-{
-    match count {
-        None => false,
-        Some(m) => m == n,
-    }
 }

@@ -1,12 +1,13 @@
 //! The keys of a scene by number, and its byte strings.
 ghost use Rattle.std.specs.Cmp.{partial_equiv_from_equiv};
 ghost use Rattle.std.specs.Hash as fed;
+ghost use Rattle.std.specs.List.{list_all};
 ghost use Rattle.std.specs.Prelude.{◌≡◌, ◌≤◌, ◌<◌, ◌++◌, [], Some, true, flat_map, length, nat_le, OnOk, OnErr, OnSome, IfOk, IfNone, slice_get};
 ghost use Rattle.std.specs.Str.{bytes_eq};
 ghost use Rattle.str_scene.specs.Keeping.{Keeps};
 ghost use Rattle.str_scene.specs.KeyLaws.{bytes-Alike, bytes_equiv, pair_writes, same_pair-Alike, same_pair_equiv};
 ghost use Rattle.str_scene.specs.Keys.{number_of, same_pair, string_number, with_pair, with_string};
-ghost use Rattle.str_scene.specs.SceneLimits.{is_name};
+ghost use Rattle.str_scene.specs.SceneLimits.{in_name, is_name};
 ghost use Rattle.str_scene.specs.Scenes.{KeyTable as Table, named_part};
 ghost use Rattle.str_scene.specs.Spelling.{hex_byte, hex_digit, key_spelled, name_spelled, text_spelled};
 
@@ -338,8 +339,37 @@ fn push_bytes(bytes: &[u8], out: &mut Vec<u8>) -> Result<(), AllocError>
     Ok(())
 }
 
+/// The byte may stand in a name after its first letter.
+fn may_follow(byte: u8) -> bool
+    ensures { result ≡ in_name byte }
+{
+    byte.is_ascii_lowercase() || byte.is_ascii_digit() || byte == b'_'
+}
+
+/// All of the bytes may stand in a name after its first letter.
+fn all_may_follow(bytes: &[u8]) -> bool
+    ensures { result ≡ list_all in_name bytes.now }
+{
+    for byte in bytes {
+        if !may_follow(*byte) {
+            return false;
+        }
+    }
+    true
+}
+
+/// The bytes are a name: a letter, then at most 15 letters, digits or underscores.
+pub(crate) fn spells_name(bytes: &[u8]) -> bool
+    ensures { result ≡ is_name bytes.now }
+{
+    let Some((first, rest)) = bytes.split_first() else {
+        return false;
+    };
+    first.is_ascii_lowercase() && all_may_follow(rest) && rest.len() <= 15
+}
+
 /// A name of these bytes.
-fn short_name(bytes: &[u8]) -> Name
+pub(crate) fn short_name(bytes: &[u8]) -> Name
     requires { length bytes.now ≤ 16 }
     ensures { result ≡ bytes.now }
 {

@@ -4,12 +4,14 @@
 pub mod build;
 #[cfg(test)]
 mod build_tests;
+mod checks;
 pub mod faults;
 pub mod first;
 mod first_build;
 pub mod keys;
 pub mod lines;
 pub mod names;
+mod numbered;
 pub mod scenes;
 
 pub use build::SceneBuild;

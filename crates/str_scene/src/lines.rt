@@ -1,14 +1,13 @@
 //! The lines of the text of a first scene.
 ghost use Rattle.std.specs.Fmt.{signed_decimal};
-ghost use Rattle.std.specs.List.{list_all};
 ghost use Rattle.std.specs.Prelude.{◌≡◌, ◌<◌, ◌≤◌, ◌+◌, ◌^◌, ◌++◌, ◌∷◌, [], ◌==◌, ℕ, ℤ, List, true, false, not, IfSome, IsNone, codes, decimal, drop, length, slice_get, slice_range, take};
-ghost use Rattle.str_scene.specs.SceneLimits.{IsNumber, in_name, is_name};
+ghost use Rattle.str_scene.specs.SceneLimits.{IsNumber, is_name};
 ghost use Rattle.str_scene.specs.TextLines.{IsLine, is_without, is_word_line, line_spelled};
 ghost use Rattle.str_scene.specs.declared.lines.Line.{Line};
 ghost use Rattle.str_scene.specs.declared.lines.Line.TheVariants.{Client as LClient, Get as LGet, Put as LPut};
 ghost use Rattle.str_base.specs.declared.names.SessionId.{SessionId as Session};
 
-use crate::keys::Name;
+use crate::keys::{Name, short_name, spells_name};
 use str_base::{SessionId, read_i64, read_u64};
 
 /// A line of the text of a first scene.
@@ -79,54 +78,13 @@ fn split_at_byte(bytes: &[u8], byte: u8) -> Option<(&[u8], &[u8])>
     Some((&bytes[..place], &bytes[place + 1..]))
 }
 
-/// The byte may stand in a name after its first letter.
-fn may_follow(byte: u8) -> bool
-    ensures { result ≡ in_name byte }
-{
-    byte.is_ascii_lowercase() || byte.is_ascii_digit() || byte == b'_'
-}
-
-/// All of the bytes may stand in a name after its first letter.
-fn all_may_follow(bytes: &[u8]) -> bool
-    ensures { result ≡ list_all in_name bytes.now }
-{
-    for byte in bytes {
-        if !may_follow(*byte) {
-            return false;
-        }
-    }
-    true
-}
-
-/// The bytes are a name: a letter, then at most 15 letters, digits or underscores.
-pub(crate) fn spells_name(bytes: &[u8]) -> bool
-    ensures { result ≡ is_name bytes.now }
-{
-    let Some((first, rest)) = bytes.split_first() else {
-        return false;
-    };
-    first.is_ascii_lowercase() && all_may_follow(rest) && rest.len() <= 15
-}
-
-/// A list of these bytes.
-fn listed(bytes: &[u8]) -> Name
-    requires { length bytes.now ≤ 16 }
-    ensures { result ≡ bytes.now }
-{
-    let mut name = Name::new();
-    for byte in bytes {
-        name.push(*byte);
-    }
-    name
-}
-
 /// The name that the bytes are, and `None` where they are no name.
 fn read_name(bytes: &[u8]) -> Option<Name>
     ensures name { IfSome result (λ name. (is_name name ≡ true) × (name ≡ bytes.now)) }
     ensures none { IsNone result → is_name bytes.now ≡ false }
 {
     if spells_name(bytes) {
-        Some(listed(bytes))
+        Some(short_name(bytes))
     } else {
         None
     }

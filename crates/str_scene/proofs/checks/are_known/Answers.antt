@@ -3,7 +3,7 @@ use Rattle.str_scene.proofs.Seen.{all_on, each_on}
 use Rattle.str_scene.proofs.Seen.{within}
 use Rattle.str_scene.specs.DraftLimits.{HasNumber}
 use Rattle.str_scene.specs.Refusals.{is_known}
-use Rattle.str_scene.proofs.build.are_known.Goals as goal
+use Rattle.str_scene.proofs.checks.are_known.Goals as goal
 
 pub loop-op-preserved : goal.loop-op-preserved
 loop-op-preserved c = record {

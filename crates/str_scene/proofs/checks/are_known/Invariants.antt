@@ -3,7 +3,7 @@ use Rattle.std.specs.List.{list_all}
 use Rattle.str_scene.specs.DraftLimits.{HasNumber}
 use Rattle.str_scene.specs.Refusals.{is_known}
 use Rattle.str_scene.specs.declared.names.Op.{Op}
-use Rattle.str_scene.proofs.build.are_known.Given as goal
+use Rattle.str_scene.proofs.checks.are_known.Given as goal
 
 abbrev pub invariant-loop-op : goal.invariant-loop-op
 invariant-loop-op l = record {

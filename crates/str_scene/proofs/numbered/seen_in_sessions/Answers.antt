@@ -2,7 +2,7 @@ use Rattle.std.proofs.Common.{ap, sym, ◌∙◌}
 use Rattle.str_scene.proofs.Seen.{seen_none, seen_some}
 use Rattle.str_scene.specs.Numbers.{scene_numbers, session_numbers}
 use Rattle.str_scene.specs.SceneLimits.{counted}
-use Rattle.str_scene.proofs.build.seen_in_sessions.Goals as goal
+use Rattle.str_scene.proofs.numbered.seen_in_sessions.Goals as goal
 
 pub returns-in_default : goal.returns-in_default
 returns-in_default c =
