@@ -94,7 +94,7 @@ pub record Carried (d e : View) : Type 0 where
       → (y.snap.rs ≡ x.snap.rs) × ((dep : Dep) → In dep x.snap.deps → Names dep.seq y.snap.deps ⊎ Settles d x.snap.rs dep)
   pub fates : (k fc : ℕ) → own_fate (slice_get d.own k) ≡ CommittedAt fc → own_fate (slice_get e.own k) ≡ CommittedAt fc
 
-named_more : (d : View) (rs s : ℕ) (old new : List Dep) → ((dep : Dep) → In dep old → Names dep.seq new ⊎ Settles d rs dep) → Names s old
+pub named_more : (d : View) (rs s : ℕ) (old new : List Dep) → ((dep : Dep) → In dep old → Names dep.seq new ⊎ Settles d rs dep) → Names s old
     → Names s new ⊎ ((fc : ℕ) × (own_fate (slice_get d.own (s - 1)) ≡ CommittedAt fc) × (fc ≤ rs))
 named_more d rs s old new f n =
     elim (f n.0 n.1) [

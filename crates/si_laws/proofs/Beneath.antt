@@ -8,7 +8,7 @@ use Rattle.str_scene.specs.Scenes.{Here}
 use Rattle.str_model.specs.Turns.{DepTurn, Keep, Late, Lost, own_fate}
 use Rattle.str_model.specs.Turns
 use Rattle.str_model.specs.Views.{Doing, Own, View, is_decided}
-use Rattle.str_model.proofs.Acting.{Act, InRule, InTurn, Touches, Where, act_abort, act_abort_came, act_accept, act_ack, act_ask, act_begin, act_certify, act_close, act_commit, act_commit_came, act_mark, act_put, act_refuse, act_reply, act_request, act_take, act_unwait, act_wait}
+use Rattle.str_model.proofs.Acting.{Act, InRule, InTurn, Touches, Where, act_abort, act_abort_came, act_accept, act_ack, act_ask, act_begin, act_certify, act_close, act_commit, act_commit_came, act_mark, act_put, act_refuse, act_reply, act_request, act_take, act_unwait, act_wait, touches_turn}
 use Rattle.si_laws.proofs.Depending.{depends-act, earlier}
 use Rattle.str_model.proofs.Gaining.{Extends, Gains, gains_it, gains_of}
 use Rattle.str_model.proofs.Lists.{get_set_other, got_set}
@@ -35,8 +35,8 @@ module _ (here : Here) (input : Input) (w : Where) where
   leaves d e n (act_ask i lc p x d' own f l g) = record { others = at_one w d'.view.own i _ own.1; same_length = length-set d'.view.own i _ }
   leaves d e n (act_ack i lc from tx p ts parts x d' own c q g) = record { others = at_one w d'.view.own i _ own.1; same_length = length-set d'.view.own i _ }
   leaves d e n (act_abort i cause x d' own f y) = record { others = at_one w d'.view.own i _ own.1; same_length = length-set d'.view.own i _ }
-  leaves d e n (act_commit i lc fc x d' own l m le f g) = record { others = at_one w d'.view.own i _ own.1; same_length = length-set d'.view.own i _ }
-  leaves d e n (act_close i x d' own p m) = record { others = at_one w d'.view.own i _ own.1; same_length = length-set d'.view.own i _ }
+  leaves d e n (act_commit i lc fc x d' own l m le f g) = record { others = at_one w d'.view.own i _ (touches_turn w i own.1); same_length = length-set d'.view.own i _ }
+  leaves d e n (act_close i x d' own p m) = record { others = at_one w d'.view.own i _ (touches_turn w i own.1); same_length = length-set d'.view.own i _ }
   leaves d e n (act_accept a ts d' h m) = record { others = λ j f. refl; same_length = refl }
   leaves d e n (act_refuse a u k d' h m) = record { others = λ j f. refl; same_length = refl }
   leaves d e n (act_take from a d' c l) = record { others = λ j f. refl; same_length = refl }

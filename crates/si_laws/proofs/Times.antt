@@ -22,7 +22,7 @@ becomes-higher v f g x y (commits lc fc o l le q e) = omega arith
 becomes-higher v f g x y (closes o n q e) = omega arith
 becomes-higher v f g x y (aborts cause o q e) = omega arith
 
-becomes-rs : (v : View) (f g : ℕ) (x y : Own) → Becomes v f g x y → y.snap.rs ≡ x.snap.rs
+pub becomes-rs : (v : View) (f g : ℕ) (x y : Own) → Becomes v f g x y → y.snap.rs ≡ x.snap.rs
 becomes-rs v f g x y (goes_on r e) = r.snap.rs
 becomes-rs v f g x y (certifies lc o n p q s l e) = s.rs
 becomes-rs v f g x y (commits lc fc o l le q e) = ap (λ z. z.snap.rs) q

@@ -1,6 +1,6 @@
 -- A step as a chain of single changes, each under the facts at which it is made. A law over runs looks at each
 -- change once, and never at the order in which a step makes them.
-use Rattle.std.proofs.Common.{List, None, Option, Some, [], false, nat_lt, slice_get, true, ℕ, ◌++◌, ◌+◌, ◌-◌, ◌∷◌, ◌≡◌, ◌≤◌}
+use Rattle.std.proofs.Common.{List, None, Option, Some, [], false, nat_lt, refl, slice_get, subst, sym, true, ℕ, ◌++◌, ◌+◌, ◌-◌, ◌∷◌, ◌≡◌, ◌≤◌}
 use Rattle.partition_map.specs.declared.rows.Asked.{Asked}
 use Rattle.str_base.specs.declared.names.Cause.{Cause}
 use Rattle.str_base.specs.declared.names.Cause.TheVariants.{Conflict as ByConflict, Late as IsLate, Lost as IsLost, Wish}
@@ -56,6 +56,13 @@ Touches InWait i = ⊥
 
 abbrev pub IsOwn : Where → Doing → ℕ → Own → Type 0
 IsOwn w d i x = (slice_get d.view.own i ≡ Some x) × Touches w i
+
+-- it is its own turn
+abbrev pub IsTurn : Where → Doing → ℕ → Own → Type 0
+IsTurn w d i x = (slice_get d.view.own i ≡ Some x) × (w ≡ InTurn i)
+
+pub touches_turn : (w : Where) (i : ℕ) → w ≡ InTurn i → Touches w i
+touches_turn w i e = subst (λ v. Touches v i) (sym e) refl
 
 -- the message is the one that the step is given, and it is not strange
 abbrev pub Comes : Here → Input → NodeId → Body → Type 0
@@ -188,6 +195,16 @@ pub record Begins (here : Here) (place : TxPlace) (rs : ℕ) (d : Doing) : Type 
   pub script : nth text.txs place.index ≡ Some ops
   pub next : NextPlace d.view.own place
 
+-- the read was asked for by the message that has come, or waits here
+pub data IsAsked (here : Here) (input : Input) (d : Doing) (tx : TxId) (k : KeyId) (rs : ℕ) : Type 0 where
+  asked_now : (from : NodeId) (t : Ts) → t.0 ≡ rs → Comes here input from (ReadReq tx k t) → IsAsked here input d tx k rs
+  asked_before : (t : Ts) → t.0 ≡ rs → In (Read tx k t) d.view.waiters → IsAsked here input d tx k rs
+
+-- a read of another node is answered
+pub record Serves (here : Here) (input : Input) (d : Doing) (tx : TxId) (k : KeyId) (rs : ℕ) (v : Value) (by : Option TxId) (fc : ℕ) : Type 0 where
+  pub gives : serve_turn d.view.versions k rs ≡ Give v by fc
+  pub was_asked : IsAsked here input d tx k rs
+
 -- no undecided own transaction of these places has a Local version of one of the keys that arrived
 abbrev pub NoneHeld : Here → Arrived → Doing → (ℕ → Type 0) → Type 0
 NoneHeld here a d Of =
@@ -216,9 +233,9 @@ pub data Act (here : Here) (input : Input) (w : Where) : Doing → Doing → Typ
       → x.phase ≡ Global lc → KeepsAck here i x from tx p ts parts → Act here input w d (acked i parts x d)
   act_abort : (i : ℕ) (cause : Cause) (x : Own) (d : Doing) → IsOwn w d i x → is_decided x.phase ≡ false → Why here input d i x cause
       → Act here input w d (aborted here i cause x d)
-  act_commit : (i lc fc : ℕ) (x : Own) (d : Doing) → IsOwn w d i x → lc_of x.phase ≡ Some lc → x.snap.deps ≡ [] → lc ≤ fc
+  act_commit : (i lc fc : ℕ) (x : Own) (d : Doing) → IsTurn w d i x → lc_of x.phase ≡ Some lc → x.snap.deps ≡ [] → lc ≤ fc
       → is_decided x.phase ≡ false → gate_of here d.view lc x ≡ CommitAt fc → Act here input w d (committed here i lc fc x d)
-  act_close : (i : ℕ) (x : Own) (d : Doing) → IsOwn w d i x → x.phase ≡ Closing false → x.snap.deps ≡ [] → Act here input w d (closed here i x d)
+  act_close : (i : ℕ) (x : Own) (d : Doing) → IsTurn w d i x → x.phase ≡ Closing false → x.snap.deps ≡ [] → Act here input w d (closed here i x d)
   act_accept : (a : Arrived) (ts : ℕ) (d : Doing) (h : IsHere here input d a) → master_turn d.view a ≡ Accept ts
       → Act here input w d (accepted here a ts (with_waiters (left_waiting h) d))
   act_refuse : (a : Arrived) (by : TxId) (k : KeyId) (d : Doing) (h : IsHere here input d a) → master_turn d.view a ≡ Refuse by k
@@ -227,7 +244,7 @@ pub data Act (here : Here) (input : Input) (w : Where) : Doing → Doing → Typ
       → Takes here d a → Act here input w d (taken here a (proposed d.view a) d)
   act_wait : (r : Waiter) (d : Doing) → Arrives here input d r → Act here input w d (waits r d)
   act_unwait : (kept rest : List Waiter) (r : Waiter) (d : Doing) → Leaves d.view kept rest r → Act here input w d (with_waiters (kept ++ rest) d)
-  act_reply : (tx : TxId) (k : KeyId) (rs : ℕ) (v : Value) (by : Option TxId) (fc : ℕ) (d : Doing) → serve_turn d.view.versions k rs ≡ Give v by fc
+  act_reply : (tx : TxId) (k : KeyId) (rs : ℕ) (v : Value) (by : Option TxId) (fc : ℕ) (d : Doing) → Serves here input d tx k rs v by fc
       → Act here input w d (replied here tx k v by fc d)
   act_commit_came : (from : NodeId) (tx : TxId) (p : PartId) (fc : Ts) (ms : List KeyMark) (d : Doing) → Comes here input from (Commit tx p fc ms)
       → decides here tx p d.view ≡ true → Act here input w d (commit_came tx p fc.0 ms d)

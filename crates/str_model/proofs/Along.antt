@@ -1,5 +1,5 @@
 -- The pass, those who wait and a whole step are paths of single changes.
-use Rattle.std.proofs.Common.{Bool, List, None, Option, Some, [], ap, append_assoc, false, length, map, option_map, refl, suc, sym, true, zero, ℕ, ◌++◌, ◌∙◌, ◌∷◌, ◌≡◌}
+use Rattle.std.proofs.Common.{Bool, List, None, Option, Some, [], ap, append_assoc, false, length, map, option_map, refl, suc, sym, true, zero, ℕ, ◌++◌, ◌∙◌, ◌∷◌, ◌≡◌, inl, subst}
 use Rattle.str_base.specs.declared.names.KeyId.{KeyId}
 use Rattle.str_base.specs.declared.names.Ts.{Ts}
 use Rattle.str_base.specs.declared.names.TxId.{TxId}
@@ -18,8 +18,9 @@ use Rattle.str_model.specs.Steps
 use Rattle.str_model.specs.Turns.{DepTurn, Give, Keep, Late, Lost, Plain, ReadTurn, ServeTurn, ServeWait, dep_turn, reply_turn, serve_turn}
 use Rattle.str_model.specs.Views.{CertWait, Closing, Doing, Global, Local, Own, Phase, ReadWait, Reply, View, is_decided, lc_of, starts}
 use Rattle.str_model.specs.Waiters
-use Rattle.str_model.proofs.Acting.{Act, InRule, InTurn, InWait, IsOwn, Path, PathTo, Touches, Where, act_abort, act_accept, act_ask, act_close, act_commit, act_put, act_refuse, act_reply, act_unwait, along, and_then, asks_again, by_late, by_lost, by_script, ch_resolve, ch_take, it_waits, one, reads_again, s_read, stay}
+use Rattle.str_model.proofs.Acting.{Act, InRule, InTurn, InWait, IsOwn, Path, PathTo, Touches, Where, act_abort, act_accept, act_ask, act_close, act_commit, act_put, act_refuse, act_reply, act_unwait, along, and_then, asks_again, by_late, by_lost, by_script, ch_resolve, ch_take, it_waits, one, reads_again, s_read, stay, IsTurn, asked_before, touches_turn}
 use Rattle.str_model.proofs.Gaining.{TurnGood, if_elim, reply_turn-good}
+use Rattle.str_model.proofs.Members.{In, in_right}
 use Rattle.str_model.proofs.Operating.{IsFree, at_own-path, certify_now-path, free_at, gate_commits, read_now-path, resolved-extends, with_value-path}
 use Rattle.str_model.proofs.Ruling.{rule-path}
 
@@ -49,8 +50,8 @@ module _ (here : Here) (input : Input) (w : Where) where
   empty-is [] e = refl
   empty-is (x ∷ xs) e = absurd cc
 
-  close_free-path : (i : ℕ) (wish : Bool) (x : Own) (d : Doing) → IsOwn w d i x → x.phase ≡ Closing wish → x.snap.deps ≡ [] → Path here input w d (Pass.close_free here i wish x d)
-  close_free-path i true x d own e n = one (act_abort i _ x d own (ap is_decided e) by_script)
+  close_free-path : (i : ℕ) (wish : Bool) (x : Own) (d : Doing) → IsTurn w d i x → x.phase ≡ Closing wish → x.snap.deps ≡ [] → Path here input w d (Pass.close_free here i wish x d)
+  close_free-path i true x d own e n = one (act_abort i _ x d (own.0, touches_turn w i own.1) (ap is_decided e) by_script)
   close_free-path i false x d own e n = one (act_close i x d own e n)
 
   -- ---- the gate
@@ -58,33 +59,33 @@ module _ (here : Here) (input : Input) (w : Where) where
   again-path : (Doing → Doing) → Type 0
   again-path f = (d : Doing) → Path here input w d (f d)
 
-  gate_done-path : (i : ℕ) (again : Doing → Doing) (lc : ℕ) (x : Own) (turn : GateTurn) (d : Doing) → again-path again → IsOwn w d i x → is_decided x.phase ≡ false → lc_of x.phase ≡ Some lc
+  gate_done-path : (i : ℕ) (again : Doing → Doing) (lc : ℕ) (x : Own) (turn : GateTurn) (d : Doing) → again-path again → IsTurn w d i x → is_decided x.phase ≡ false → lc_of x.phase ≡ Some lc
       → gate_of here d.view lc x ≡ turn → Path here input w d (Pass.gate_done here i again lc x turn d)
   unfolding again-path
   gate_done-path i again lc x (Ask p) d h own f l e =
-      let m : Doing = asked here i lc p x d in and_then d m (again m) (one (act_ask i lc p x d own f l e)) (h m)
+      let m : Doing = asked here i lc p x d in and_then d m (again m) (one (act_ask i lc p x d (own.0, touches_turn w i own.1) f l e)) (h m)
   gate_done-path i again lc x (Shut q) d h own f l e = stay d
   gate_done-path i again lc x (Missing p n) d h own f l e = stay d
   gate_done-path i again lc x (CommitAt fc) d h own f l e =
       let g = gate_commits x.snap lc x.parts (map (dep_parts here d.view.own) x.snap.deps) fc e in one (act_commit i lc fc x d own l g.0 g.1 f e)
 
-  gate_phase-path : (i : ℕ) (again : Doing → Doing) (p : Phase) (x : Own) (d : Doing) → again-path again → IsOwn w d i x → x.phase ≡ p
+  gate_phase-path : (i : ℕ) (again : Doing → Doing) (p : Phase) (x : Own) (d : Doing) → again-path again → IsTurn w d i x → x.phase ≡ p
       → Path here input w d (Pass.gate_phase here i again p x d)
   gate_phase-path i again (Local lc) x d h own e = gate_done-path i again lc x (gate_of here d.view lc x) d h own (ap is_decided e) (ap lc_of e) refl
   gate_phase-path i again (Global lc) x d h own e = gate_done-path i again lc x (gate_of here d.view lc x) d h own (ap is_decided e) (ap lc_of e) refl
   gate_phase-path i again _ x d h own e = stay d
 
-  pub gates-path : (i n : ℕ) (d : Doing) → Touches w i → Path here input w d (Pass.gates here i n d)
+  pub gates-path : (i n : ℕ) (d : Doing) → w ≡ InTurn i → Path here input w d (Pass.gates here i n d)
   unfolding again-path
   gates-path i zero d t = stay d
   gates-path i (suc n) d t =
-      at_own-path here input w i (λ x. Pass.gate_phase here i (Pass.gates here i n) x.phase x) d t
-      (λ x own o. gate_phase-path i (Pass.gates here i n) x.phase x d (λ e. gates-path i n e t) own refl)
+      at_own-path here input w i (λ x. Pass.gate_phase here i (Pass.gates here i n) x.phase x) d (touches_turn w i t)
+      (λ x own o. gate_phase-path i (Pass.gates here i n) x.phase x d (λ e. gates-path i n e t) (own.0, t) refl)
 
-  close_phase-path : (i : ℕ) (p : Phase) (x : Own) (d : Doing) → Touches w i → IsOwn w d i x → x.phase ≡ p → Path here input w d (Pass.close_phase here i p x d)
+  close_phase-path : (i : ℕ) (p : Phase) (x : Own) (d : Doing) → w ≡ InTurn i → IsOwn w d i x → x.phase ≡ p → Path here input w d (Pass.close_phase here i p x d)
   close_phase-path i (Closing wish) x d t own e =
       if_elim (λ e. Path here input w d e) (Pass.is_empty x.snap.deps) (Pass.close_free here i wish x d) d
-      (λ h. close_free-path i wish x d own e (empty-is x.snap.deps h)) (λ h. stay d)
+      (λ h. close_free-path i wish x d (own.0, t) e (empty-is x.snap.deps h)) (λ h. stay d)
   close_phase-path i _ x d t own e = gates-path i (suc (length here.scene.parts)) d t
 
   -- the first part of a turn, and the rest of it
@@ -104,17 +105,17 @@ module _ (here : Here) (input : Input) (w : Where) where
   pub half_turn-path : (i : ℕ) (d : Doing) → Touches w i → Path here input w d (Pass.half_turn here i d)
   half_turn-path i d t = and_then d (resolved_first i d) (Pass.half_turn here i d) (first-path i d t) (again-half i d t)
 
-  close-path : (i : ℕ) (d : Doing) → Touches w i → Path here input w (Pass.half_turn here i d) (Pass.turn here i d)
+  pub close-path : (i : ℕ) (d : Doing) → w ≡ InTurn i → Path here input w (Pass.half_turn here i d) (Pass.turn here i d)
   unfolding Pass.turn
   close-path i d t =
       let e : Doing = Pass.half_turn here i d in
-      at_own-path here input w i (Pass.close_own here i) e t (λ x own o. close_phase-path i x.phase x e t own refl)
+      at_own-path here input w i (Pass.close_own here i) e (touches_turn w i t) (λ x own o. close_phase-path i x.phase x e t own refl)
 
-  pub rest-path : (i : ℕ) (d : Doing) → Touches w i → Path here input w (resolved_first i d) (Pass.turn here i d)
-  rest-path i d t = and_then (resolved_first i d) (Pass.half_turn here i d) (Pass.turn here i d) (again-half i d t) (close-path i d t)
+  pub rest-path : (i : ℕ) (d : Doing) → w ≡ InTurn i → Path here input w (resolved_first i d) (Pass.turn here i d)
+  rest-path i d t = and_then (resolved_first i d) (Pass.half_turn here i d) (Pass.turn here i d) (again-half i d (touches_turn w i t)) (close-path i d t)
 
-  pub turn-path : (i : ℕ) (d : Doing) → Touches w i → Path here input w d (Pass.turn here i d)
-  turn-path i d t = and_then d (resolved_first i d) (Pass.turn here i d) (first-path i d t) (rest-path i d t)
+  pub turn-path : (i : ℕ) (d : Doing) → w ≡ InTurn i → Path here input w d (Pass.turn here i d)
+  turn-path i d t = and_then d (resolved_first i d) (Pass.turn here i d) (first-path i d (touches_turn w i t)) (rest-path i d t)
 
   -- ---- those who wait
 
@@ -130,7 +131,7 @@ module _ (here : Here) (input : Input) (w : Where) where
   unfolding replied
   waiter_read-waited kept rest tx k rs (Give v by fc) d w e =
       let m : Doing = replied here tx k v by fc d in
-      record { path = and_then d m (with_waiters (kept ++ rest) m) (one (act_reply tx k rs.0 v by fc d e)) (one (act_unwait kept rest (Read tx k rs) m (record { waiters = w; served = s_read tx k rs }))); same = refl }
+      record { path = and_then d m (with_waiters (kept ++ rest) m) (one (act_reply tx k rs.0 v by fc d (record { gives = e; was_asked = asked_before rs refl (subst (In (Read tx k rs)) (sym w) (in_right kept (Read tx k rs ∷ rest) (Read tx k rs) (inl refl))) }))) (one (act_unwait kept rest (Read tx k rs) m (record { waiters = w; served = s_read tx k rs }))); same = refl }
   waiter_read-waited kept rest tx k rs (ServeWait by) d w e = stays kept rest (Read tx k rs) d w
 
   waiter_held-waited : (kept rest : List Waiter) (a : Arrived) (turn : MasterTurn) (d : Doing)

@@ -14,5 +14,9 @@ pub mod Going
 pub mod Sorted
 pub mod AtMoments
 pub mod LastMoment
+pub mod Linking
+pub mod LinkPaths
+pub mod Tracing
+pub mod Later
 pub mod Resting
 pub mod Telling

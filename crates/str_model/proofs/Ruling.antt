@@ -20,7 +20,7 @@ use Rattle.str_model.specs.declared.messages.Body.{Body}
 use Rattle.str_model.specs.declared.messages.Body.TheVariants.{Abort, Ack, Commit, Prepare, ReadReply, ReadReq, Refuse as Refusal, Replicate}
 use Rattle.str_model.specs.declared.messages.Input.{Input}
 use Rattle.str_model.specs.declared.messages.Input.TheVariants.{Client, Deliver}
-use Rattle.str_model.specs.declared.messages.Waiter.TheVariants.{Held, Read}
+use Rattle.str_model.specs.declared.messages.Waiter.TheVariants.{Held}
 use Rattle.str_model.specs.Acts.{abort_came, aborted, commit_came, in_phase, marked, taken}
 use Rattle.str_model.specs.Arrivals.{held_key}
 use Rattle.str_model.specs.Arrivals
@@ -39,7 +39,7 @@ use Rattle.str_model.specs.Turns.{Give, ServeTurn, ServeWait, serve_turn}
 use Rattle.str_base.specs.Versions.{of_pair, of_tx, same_key, same_node, stamp, without}
 use Rattle.str_model.specs.Views.{Aborted, Active, Committed, Doing, Global, Own, Phase, Remote, Reply, is_decided, name_of, put}
 use Rattle.str_model.proofs.Evicting.{all_evicted}
-use Rattle.str_model.proofs.Acting.{Arrives, Comes, InRule, IsOwn, NextPlace, NoneHeld, Path, PathTo, Touches, Where, a_prepare, a_read, act_abort, act_abort_came, act_accept, act_ack, act_begin, act_commit_came, act_mark, act_put, act_refuse, act_reply, act_take, act_wait, and_then, by_eviction, by_refusal, ch_reply, is_first, is_next, it_comes, more, one, stay}
+use Rattle.str_model.proofs.Acting.{Comes, InRule, IsOwn, NextPlace, NoneHeld, Path, PathTo, Touches, Where, a_prepare, a_read, act_abort, act_abort_came, act_accept, act_ack, act_begin, act_commit_came, act_mark, act_put, act_refuse, act_reply, act_take, act_wait, and_then, by_eviction, by_refusal, ch_reply, is_first, is_next, it_comes, more, one, stay, asked_now}
 use Rattle.str_model.proofs.Gaining.{and_left, and_right, if_elim, or_false_right}
 use Rattle.str_model.proofs.Operating.{IsFresh, at_own-path, free_at, nor_left, nor_right, op_or_commit-path, phase-goes}
 
@@ -52,6 +52,12 @@ none_of_three false b c d e = absurd cc
 none_of_three true true c d e = absurd cc
 none_of_three true false true d e = absurd cc
 none_of_three true false false d e = (refl, refl, not_is d e)
+
+-- what is taken: the node is a slave, not the origin, and the pair is new
+pub takes_parts : (here : Here) (a : Arrived) (d : Doing) → takes here d.view a ≡ true
+    → (is_master here.scene here.node a.part ≡ false) × (same_node a.tx.node here.node ≡ false) × (Proposals.is_known d.view a.tx a.part ≡ false)
+unfolding takes
+takes_parts here a d h = none_of_three (hosts here.scene here.node a.part) (is_master here.scene here.node a.part) (same_node a.tx.node here.node) (Proposals.is_known d.view a.tx a.part) h
 
 pub or_false_left : (a b : Bool) → (a || b) ≡ false → a ≡ false
 or_false_left true b e = absurd cc
@@ -120,10 +126,10 @@ module _ (here : Here) (input : Input) (w : Where) where
 
     -- ---- a message
 
-    serve_done-path : (tx : TxId) (k : KeyId) (rs : ℕ) (turn : ServeTurn) (d : Doing) → Arrives here input d (Read tx k (stamp rs))
+    serve_done-path : (from : NodeId) (tx : TxId) (k : KeyId) (rs : ℕ) (turn : ServeTurn) (d : Doing) → Comes here input from (ReadReq tx k (stamp rs))
         → serve_turn d.view.versions k rs ≡ turn → Path here input w d (Arrivals.serve_done here tx k rs turn d)
-    serve_done-path tx k rs (Give v by fc) d c e = one (act_reply tx k rs v by fc d e)
-    serve_done-path tx k rs (ServeWait by) d c e = one (act_wait _ d c)
+    serve_done-path from tx k rs (Give v by fc) d c e = one (act_reply tx k rs v by fc d (record { gives = e; was_asked = asked_now from (stamp rs) refl c }))
+    serve_done-path from tx k rs (ServeWait by) d c e = one (act_wait _ d (a_read from tx k (stamp rs) c))
 
     read_req-path : (from : NodeId) (tx : TxId) (k : KeyId) (rs : ℕ) (d : Doing) → Comes here input from (ReadReq tx k (stamp rs)) → PathTo here input w d (Arrivals.read_req here tx k rs d)
     unfolding Arrivals.read_req marked
@@ -131,7 +137,7 @@ module _ (here : Here) (input : Input) (w : Where) where
         if_elim (PathTo here input w d)
         (hosts_key here k && (not (same_node tx.node here.node) && not (list_any (Arrivals.waits_read tx k) d.view.waiters)))
         (Some (Arrivals.serve_done here tx k rs (serve_turn d.view.versions k rs) (marked k rs d))) None
-        (λ e. and_then d (marked k rs d) _ (one (act_mark k rs d)) (serve_done-path tx k rs (serve_turn d.view.versions k rs) (marked k rs d) (a_read from tx k (stamp rs) c) refl)) (λ e. tt)
+        (λ e. and_then d (marked k rs d) _ (one (act_mark k rs d)) (serve_done-path from tx k rs (serve_turn d.view.versions k rs) (marked k rs d) c refl)) (λ e. tt)
 
     nth-get : {X : Type 0} (xs : List X) (n : ℕ) (x : X) → nth xs n ≡ Some x → slice_get xs (n - 1) ≡ Some x
     nth-get xs zero x e = absurd cc
@@ -186,7 +192,7 @@ module _ (here : Here) (input : Input) (w : Where) where
 
     -- ---- evictions
 
-    evict_at-path : (a : Arrived) (from : NodeId) (i : ℕ) (x : Own) (o : Option Write) (d : Doing) → Comes here input from (Replicate a.tx a.part a.rs a.lc a.writes)
+    pub evict_at-path : (a : Arrived) (from : NodeId) (i : ℕ) (x : Own) (o : Option Write) (d : Doing) → Comes here input from (Replicate a.tx a.part a.rs a.lc a.writes)
         → IsOwn w d i x → is_decided x.phase ≡ false → Path here input w d (Arrivals.evict_at here a i x o d)
     evict_at-path a from i x None d c own f = stay d
     evict_at-path a from i x (Some w) d c own f = one (act_abort i _ x d own f (by_eviction from a w c))
@@ -219,7 +225,7 @@ module _ (here : Here) (input : Input) (w : Where) where
         by_phase true = h
         by_phase false = evict_at-unknown a i x (held_key d.view.versions (name_of here i) a.writes) d h
 
-    evict-unknown : (a : Arrived) (n : ℕ) (d : Doing) → Unknown a d → Unknown a (Arrivals.evict here a n d)
+    pub evict-unknown : (a : Arrived) (n : ℕ) (d : Doing) → Unknown a d → Unknown a (Arrivals.evict here a n d)
     evict-unknown a zero d h = h
     evict-unknown a (suc i) d h =
         let e : Doing = Arrivals.evict here a i d in evict_own-unknown a i (slice_get e.view.own i) e (evict-unknown a i d h)
