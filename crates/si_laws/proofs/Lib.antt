@@ -42,6 +42,11 @@ pub mod Masters
 pub mod MasterOrder
 pub mod MasterLaw
 pub mod Scripting
+pub mod Overlapping
+pub mod Deciding
+pub mod Delivering
+pub mod Deciders
+pub mod PresenceLaw
 pub mod Marking
 pub mod HomeMarks
 pub mod Overlapping

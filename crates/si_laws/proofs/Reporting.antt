@@ -255,7 +255,7 @@ module _ (scene : Scene) (s : Stage) (i : ℕ) (v : View) (input : Input) (is : 
           let name : t ≡ tx = cc g in
           let ts : us ≡ rs = cc g in
           subst₂ (λ y (c : Ts). HasRs (during s i e) y c.0) name ts (lift_rs t us.0 (kept.requests c.0 t l us (given c.0 c.1) c.3))
-      arrived r (a_prepare from b c u z ms) g = absurd (cc g)
+      arrived r (a_prepare from b c u z mine) g = absurd (cc g)
 
   -- the transaction that a reply names
   named_place : (tx : TxId) (x : Own) → own_named (at_place scene i) tx d ≡ Some x → (tx.node.0 ≡ i + 1) × (nth d.view.own tx.seq ≡ Some x)

@@ -20,7 +20,7 @@ use Rattle.str_model.specs.Views.{CertWait, Closing, Doing, Global, Local, Own, 
 use Rattle.str_model.specs.Waiters
 use Rattle.str_model.proofs.Acting.{Act, InRule, InTurn, InWait, IsOwn, Path, PathTo, Touches, Where, act_abort, act_accept, act_ask, act_close, act_commit, act_put, act_refuse, act_reply, act_unwait, along, and_then, asks_again, by_late, by_lost, by_script, ch_resolve, ch_take, it_waits, one, reads_again, s_read, stay, IsTurn, asked_before, touches_turn}
 use Rattle.str_model.proofs.Gaining.{TurnGood, if_elim, reply_turn-good}
-use Rattle.str_model.proofs.Members.{In, in_all_new, in_right, map_in}
+use Rattle.str_model.proofs.Members.{In, in_right}
 use Rattle.str_model.proofs.Operating.{IsFree, at_own-path, certify_now-path, free_at, gate_commits, read_now-path, resolved-extends, with_value-path}
 use Rattle.str_model.proofs.Ruling.{rule-path}
 

@@ -39,7 +39,7 @@ use Rattle.str_model.specs.Turns.{Give, ServeTurn, ServeWait, serve_turn}
 use Rattle.str_base.specs.Versions.{of_pair, of_tx, same_key, same_node, stamp, without}
 use Rattle.str_model.specs.Views.{Aborted, Active, Committed, Doing, Global, Own, Phase, Remote, Reply, is_decided, name_of, put}
 use Rattle.str_model.proofs.Evicting.{all_evicted}
-use Rattle.str_model.proofs.Acting.{Arrives, Comes, InRule, IsOwn, NextPlace, NoneHeld, Path, PathTo, Takes, Touches, Where, a_prepare, a_read, act_abort, act_abort_came, act_accept, act_ack, act_begin, act_commit_came, act_mark, act_put, act_refuse, act_reply, act_take, act_wait, and_then, by_eviction, by_refusal, ch_reply, is_first, is_next, it_comes, more, one, stay, asked_now}
+use Rattle.str_model.proofs.Acting.{Comes, InRule, IsOwn, NextPlace, NoneHeld, Path, PathTo, Touches, Where, a_prepare, a_read, act_abort, act_abort_came, act_accept, act_ack, act_begin, act_commit_came, act_mark, act_put, act_refuse, act_reply, act_take, act_wait, and_then, by_eviction, by_refusal, ch_reply, is_first, is_next, it_comes, more, one, stay, asked_now}
 use Rattle.str_model.proofs.Gaining.{and_left, and_right, if_elim, or_false_right}
 use Rattle.str_model.proofs.Operating.{IsFresh, at_own-path, free_at, nor_left, nor_right, op_or_commit-path, phase-goes}
 
@@ -52,6 +52,12 @@ none_of_three false b c d e = absurd cc
 none_of_three true true c d e = absurd cc
 none_of_three true false true d e = absurd cc
 none_of_three true false false d e = (refl, refl, not_is d e)
+
+-- what is taken: the node is a slave, not the origin, and the pair is new
+pub takes_parts : (here : Here) (a : Arrived) (d : Doing) → takes here d.view a ≡ true
+    → (is_master here.scene here.node a.part ≡ false) × (same_node a.tx.node here.node ≡ false) × (Proposals.is_known d.view a.tx a.part ≡ false)
+unfolding takes
+takes_parts here a d h = none_of_three (hosts here.scene here.node a.part) (is_master here.scene here.node a.part) (same_node a.tx.node here.node) (Proposals.is_known d.view a.tx a.part) h
 
 pub or_false_left : (a b : Bool) → (a || b) ≡ false → a ≡ false
 or_false_left true b e = absurd cc
@@ -219,7 +225,7 @@ module _ (here : Here) (input : Input) (w : Where) where
         by_phase true = h
         by_phase false = evict_at-unknown a i x (held_key d.view.versions (name_of here i) a.writes) d h
 
-    evict-unknown : (a : Arrived) (n : ℕ) (d : Doing) → Unknown a d → Unknown a (Arrivals.evict here a n d)
+    pub evict-unknown : (a : Arrived) (n : ℕ) (d : Doing) → Unknown a d → Unknown a (Arrivals.evict here a n d)
     evict-unknown a zero d h = h
     evict-unknown a (suc i) d h =
         let e : Doing = Arrivals.evict here a i d in evict_own-unknown a i (slice_get e.view.own i) e (evict-unknown a i d h)
