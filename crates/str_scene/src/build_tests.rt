@@ -7,16 +7,34 @@ use partition_map::PartRow;
 use std::test::Fail;
 use str_base::{KeyId, NodeId, PartId, SessionId, TextId};
 
-fn one(node: u8) -> PartRow {
-    let mut row = PartRow::new();
-    row.push(NodeId(node));
-    row
+/// An item of a scene.
+#[derive(Clone, Copy)]
+enum Item<'a> {
+    Nodes(u8),
+    Part(&'a [u8]),
+    Session(u8),
+    Key(&'a [u8], u8),
+    Text(&'a [u8]),
+    Tx(Op),
+    NoTx,
+    Client(u8),
+    Deliver(u64),
+    Drain,
 }
 
-fn two(first: u8, second: u8) -> PartRow {
+const FORM: Result<u32, SceneFault> = Err(SceneFault::Form);
+
+const RANGE: Result<u32, SceneFault> = Err(SceneFault::Range);
+
+const COUNT: Result<u32, SceneFault> = Err(SceneFault::Count);
+
+fn row(nodes: &[u8]) -> PartRow {
     let mut row = PartRow::new();
-    row.push(NodeId(first));
-    row.push(NodeId(second));
+    for node in nodes {
+        if row.len() < 8 {
+            row.push(NodeId(*node));
+        }
+    }
     row
 }
 
@@ -26,52 +44,96 @@ fn script(op: Op) -> OpList {
     ops
 }
 
-fn client(session: u8) -> Event {
+fn event(session: u8) -> Event {
     Event::Client {
         session: SessionId(session),
         reading: 7,
     }
 }
 
-/// A build of version 1 with a node, a partition and a session.
-fn begun(rt: &HostRuntime) -> Result<SceneBuild, Fail> {
-    let mut build = SceneBuild::new(rt.alloc(), 1);
-    build.nodes(1)?;
-    build.part(one(1))?;
-    build.session(NodeId(1))?;
-    Ok(build)
+fn zero(answer: Result<(), SceneFault>) -> Result<u32, SceneFault> {
+    answer?;
+    Ok(0)
 }
+
+fn key(build: &mut SceneBuild, name: &[u8], part: u8) -> Result<u32, SceneFault> {
+    let key = build.key(name, PartId(part))?;
+    Ok(key.0)
+}
+
+fn text(build: &mut SceneBuild, bytes: &[u8]) -> Result<u32, SceneFault> {
+    let text = build.text(bytes)?;
+    Ok(text.0)
+}
+
+/// Gives an item, and answers the number of a key or a byte string, and 0 for others.
+fn give(build: &mut SceneBuild, item: Item) -> Result<u32, SceneFault> {
+    match item {
+        Item::Nodes(n) => zero(build.nodes(n)),
+        Item::Part(nodes) => zero(build.part(row(nodes))),
+        Item::Session(node) => zero(build.session(NodeId(node))),
+        Item::Key(name, part) => key(build, name, part),
+        Item::Text(bytes) => text(build, bytes),
+        Item::Tx(op) => zero(build.tx(script(op))),
+        Item::NoTx => zero(build.tx(OpList::new())),
+        Item::Client(session) => zero(build.entry(event(session))),
+        Item::Deliver(index) => zero(build.entry(Event::Deliver { index })),
+        Item::Drain => zero(build.drain()),
+    }
+}
+
+/// Gives items in order. Whether each of them has its answer.
+fn answers(build: &mut SceneBuild, items: &[(Item, Result<u32, SceneFault>)]) -> bool {
+    for (item, want) in items {
+        if give(build, *item) != *want {
+            return false;
+        }
+    }
+    true
+}
+
+/// Gives an item so often. Whether it is taken each time.
+fn repeat(build: &mut SceneBuild, item: Item, times: u32) -> bool {
+    for _ in 0..times {
+        if give(build, item) != Ok(0) {
+            return false;
+        }
+    }
+    true
+}
+
+const BEGUN: [(Item, Result<u32, SceneFault>); 3] = [
+    (Item::Nodes(5), Ok(0)),
+    (Item::Part(&[1]), Ok(0)),
+    (Item::Session(1), Ok(0)),
+];
 
 #[test]
 fn a_whole_scene(rt: HostRuntime) -> Result<(), Fail> {
     let mut build = SceneBuild::new(rt.alloc(), 2);
-    build.nodes(2)?;
-    build.part(two(2, 1))?;
-    build.part(one(1))?;
-    build.session(NodeId(1))?;
-    assert_eq!(rt; build.key(b"a", PartId(1)), Ok(KeyId(0)));
-    assert_eq!(rt; build.text(b"hi"), Ok(TextId(0)));
-    build.tx(script(Op::Puts(KeyId(0), TextId(0))))?;
-    build.session(NodeId(2))?;
-    assert_eq!(rt; build.key(b"a", PartId(1)), Ok(KeyId(0)));
-    build.tx(script(Op::Add(KeyId(0), -1)))?;
-    assert_eq!(rt; build.key(b"a", PartId(2)), Ok(KeyId(1)));
-    build.tx(script(Op::Need(KeyId(1), 5)))?;
-    assert_eq!(rt; build.text(b"hi"), Ok(TextId(0)));
-    build.entry(client(2))?;
-    build.entry(Event::Deliver { index: 1 })?;
-    build.drain()?;
+    let items = [
+        (Item::Nodes(2), Ok(0)),
+        (Item::Part(&[2, 1]), Ok(0)),
+        (Item::Part(&[1]), Ok(0)),
+        (Item::Session(1), Ok(0)),
+        (Item::Key(b"a", 1), Ok(0)),
+        (Item::Text(b"hi"), Ok(0)),
+        (Item::Tx(Op::Puts(KeyId(0), TextId(0))), Ok(0)),
+        (Item::Session(2), Ok(0)),
+        (Item::Key(b"a", 1), Ok(0)),
+        (Item::Tx(Op::Add(KeyId(0), -1)), Ok(0)),
+        (Item::Key(b"a", 2), Ok(1)),
+        (Item::Tx(Op::Need(KeyId(1), 5)), Ok(0)),
+        (Item::Text(b"hi"), Ok(0)),
+        (Item::Client(2), Ok(0)),
+        (Item::Deliver(1), Ok(0)),
+        (Item::Drain, Ok(0)),
+    ];
+    assert!(rt; answers(&mut build, &items));
     assert_eq!(rt; build.parts(), 2);
     assert_eq!(rt; build.sessions(), 2);
     assert_eq!(rt; build.transactions(), 3);
-    assert_eq!(rt; build.keys().len(), 2);
-    assert_eq!(rt; build.keys().texts(), 1);
     let scene = build.finish()?;
-    assert_eq!(rt; scene.nodes(), 2);
-    assert_eq!(rt; scene.parts().len(), 2);
-    assert_eq!(rt; scene.sessions().len(), 2);
-    assert_eq!(rt; scene.schedule().len(), 2);
-    assert!(rt; scene.drain());
     let mut spelled = Vec::new(rt.alloc());
     scene.keys().push_key(KeyId(1), &mut spelled)?;
     scene.keys().push_text(TextId(0), &mut spelled)?;
@@ -81,141 +143,141 @@ fn a_whole_scene(rt: HostRuntime) -> Result<(), Fail> {
 
 #[test]
 fn items_at_wrong_places(rt: HostRuntime) -> Result<(), Fail> {
-    let form = SceneFault::Form;
     let mut build = SceneBuild::new(rt.alloc(), 1);
-    assert_eq!(rt; build.part(one(1)), Err(form));
-    build.nodes(1)?;
-    assert_eq!(rt; build.nodes(1), Err(form));
-    assert_eq!(rt; build.session(NodeId(1)), Err(form));
-    assert_eq!(rt; build.entry(client(1)), Err(form));
-    assert_eq!(rt; build.drain(), Err(form));
-    assert_eq!(rt; build.part(PartRow::new()), Err(form));
-    build.part(one(1))?;
-    assert_eq!(rt; build.tx(script(Op::Abort)), Err(form));
-    assert_eq!(rt; build.key(b"a", PartId(1)), Err(form));
-    assert_eq!(rt; build.text(b"a"), Err(form));
-    build.session(NodeId(1))?;
-    assert_eq!(rt; build.part(one(1)), Err(form));
-    assert_eq!(rt; build.tx(OpList::new()), Err(form));
-    assert_eq!(rt; build.tx(script(Op::Puts(KeyId(9), TextId(9)))), Err(form));
-    build.entry(client(1))?;
-    assert_eq!(rt; build.session(NodeId(1)), Err(form));
-    assert_eq!(rt; build.tx(script(Op::Abort)), Err(form));
-    assert_eq!(rt; build.key(b"a", PartId(1)), Err(form));
-    build.drain()?;
-    assert_eq!(rt; build.entry(client(1)), Err(form));
-    assert_eq!(rt; build.drain(), Err(form));
+    let items = [
+        (Item::Part(&[1]), FORM),
+        (Item::Nodes(1), Ok(0)),
+        (Item::Nodes(9), FORM),
+        (Item::Session(1), FORM),
+        (Item::Client(1), FORM),
+        (Item::Drain, FORM),
+        (Item::Part(&[]), FORM),
+        (Item::Part(&[1]), Ok(0)),
+        (Item::Tx(Op::Abort), FORM),
+        (Item::Key(b"a", 1), FORM),
+        (Item::Text(b"a"), FORM),
+        (Item::Session(1), Ok(0)),
+        (Item::Part(&[1]), FORM),
+        (Item::NoTx, FORM),
+        (Item::Tx(Op::Puts(KeyId(9), TextId(9))), FORM),
+        (Item::Client(1), Ok(0)),
+        (Item::Session(9), FORM),
+        (Item::Tx(Op::Abort), FORM),
+        (Item::Key(b"a", 9), FORM),
+        (Item::Drain, Ok(0)),
+        (Item::Client(1), FORM),
+        (Item::Drain, FORM),
+    ];
+    assert!(rt; answers(&mut build, &items));
     assert!(rt; build.finish().is_ok());
     Ok(())
 }
 
 #[test]
 fn numbers_out_of_range(rt: HostRuntime) -> Result<(), Fail> {
-    let range = SceneFault::Range;
     let mut build = SceneBuild::new(rt.alloc(), 2);
-    assert_eq!(rt; build.nodes(0), Err(range));
-    assert_eq!(rt; build.nodes(9), Err(range));
-    build.nodes(2)?;
-    assert_eq!(rt; build.part(one(3)), Err(range));
-    assert_eq!(rt; build.part(two(1, 0)), Err(range));
-    assert_eq!(rt; build.part(two(1, 1)), Err(range));
-    build.part(two(1, 2))?;
-    assert_eq!(rt; build.session(NodeId(0)), Err(range));
-    assert_eq!(rt; build.session(NodeId(3)), Err(range));
-    build.session(NodeId(2))?;
-    assert_eq!(rt; build.key(b"a", PartId(0)), Err(range));
-    assert_eq!(rt; build.key(b"a", PartId(2)), Err(range));
-    assert_eq!(rt; build.key(b"1", PartId(1)), Err(range));
-    assert_eq!(rt; build.key(b"a23456789_1234567", PartId(1)), Err(range));
-    assert_eq!(rt; build.text(&[0; 65]), Err(range));
-    assert_eq!(rt; build.tx(script(Op::Get(KeyId(0)))), Err(range));
-    build.key(b"a", PartId(1))?;
-    assert_eq!(rt; build.tx(script(Op::Del(KeyId(1)))), Err(range));
-    assert_eq!(rt; build.tx(script(Op::Puts(KeyId(0), TextId(0)))), Err(range));
-    build.text(&[0; 64])?;
-    build.tx(script(Op::Puts(KeyId(0), TextId(0))))?;
-    assert_eq!(rt; build.entry(client(0)), Err(range));
-    assert_eq!(rt; build.entry(client(2)), Err(range));
-    assert_eq!(rt; build.entry(Event::Deliver { index: 0 }), Err(range));
+    let items = [
+        (Item::Nodes(0), RANGE),
+        (Item::Nodes(9), RANGE),
+        (Item::Nodes(2), Ok(0)),
+        (Item::Part(&[3]), RANGE),
+        (Item::Part(&[1, 0]), RANGE),
+        (Item::Part(&[1, 1]), RANGE),
+        (Item::Part(&[1, 2]), Ok(0)),
+        (Item::Session(0), RANGE),
+        (Item::Session(3), RANGE),
+        (Item::Session(2), Ok(0)),
+        (Item::Key(b"a", 0), RANGE),
+        (Item::Key(b"a", 2), RANGE),
+        (Item::Key(b"1", 1), RANGE),
+        (Item::Key(b"a23456789_1234567", 1), RANGE),
+        (Item::Text(&[0; 65]), RANGE),
+        (Item::Tx(Op::Get(KeyId(0))), RANGE),
+        (Item::Key(b"a23456789_123456", 1), Ok(0)),
+        (Item::Tx(Op::Del(KeyId(1))), RANGE),
+        (Item::Tx(Op::Puts(KeyId(0), TextId(0))), RANGE),
+        (Item::Text(&[0; 64]), Ok(0)),
+        (Item::Tx(Op::Puts(KeyId(0), TextId(0))), Ok(0)),
+        (Item::Client(0), RANGE),
+        (Item::Client(2), RANGE),
+        (Item::Deliver(0), RANGE),
+    ];
+    assert!(rt; answers(&mut build, &items));
     assert!(rt; build.finish().is_ok());
     Ok(())
 }
 
 #[test]
 fn too_many_partitions_and_sessions(rt: HostRuntime) -> Result<(), Fail> {
-    let count = SceneFault::Count;
     let mut build = SceneBuild::new(rt.alloc(), 1);
-    build.nodes(5)?;
-    for _ in 0..32 {
-        build.part(one(1))?;
-    }
-    assert_eq!(rt; build.part(one(1)), Err(count));
+    assert!(rt; answers(&mut build, &[(Item::Nodes(5), Ok(0))]));
+    assert!(rt; repeat(&mut build, Item::Part(&[1]), 32));
+    assert!(rt; answers(&mut build, &[(Item::Part(&[1]), COUNT)]));
     for node in 1..5 {
-        for _ in 0..16 {
-            build.session(NodeId(node))?;
-        }
-        assert_eq!(rt; build.session(NodeId(node)), Err(count));
+        assert!(rt; repeat(&mut build, Item::Session(node), 16));
+        assert!(rt; answers(&mut build, &[(Item::Session(node), COUNT)]));
     }
-    assert_eq!(rt; build.session(NodeId(5)), Err(count));
-    assert_eq!(rt; build.sessions(), 64);
+    assert!(rt; answers(&mut build, &[(Item::Session(5), COUNT)]));
     Ok(())
 }
 
 #[test]
 fn too_many_transactions_and_entries(rt: HostRuntime) -> Result<(), Fail> {
-    let count = SceneFault::Count;
-    let mut build = begun(&rt)?;
-    for _ in 0..1024 {
-        build.tx(script(Op::Abort))?;
-    }
-    assert_eq!(rt; build.tx(script(Op::Abort)), Err(count));
-    for _ in 0..65_536 {
-        build.entry(client(1))?;
-    }
-    assert_eq!(rt; build.entry(client(1)), Err(count));
-    assert!(rt; build.finish().is_ok());
+    let mut build = SceneBuild::new(rt.alloc(), 1);
+    assert!(rt; answers(&mut build, &BEGUN));
+    assert!(rt; repeat(&mut build, Item::Tx(Op::Abort), 1024));
+    assert!(rt; answers(&mut build, &[(Item::Tx(Op::Abort), COUNT)]));
+    assert!(rt; repeat(&mut build, Item::Client(1), 65_536));
+    assert!(rt; answers(&mut build, &[(Item::Client(1), COUNT)]));
     Ok(())
+}
+
+fn many_keys(build: &mut SceneBuild, first: u8, letters: &[u8]) {
+    for second in letters {
+        for third in letters {
+            let name = [first, *second, *third];
+            let _ = key(build, &name, 1);
+            let _ = text(build, &name);
+        }
+    }
 }
 
 #[test]
 fn too_many_keys_and_texts(rt: HostRuntime) -> Result<(), Fail> {
-    let count = SceneFault::Count;
-    let mut build = begun(&rt)?;
+    let mut build = SceneBuild::new(rt.alloc(), 1);
+    assert!(rt; answers(&mut build, &BEGUN));
     let letters = b"abcdefghijklmnopqrstuvwxyz";
     for first in letters {
-        for second in letters {
-            for third in letters {
-                let name = [*first, *second, *third];
-                let _ = build.key(&name, PartId(1));
-                let _ = build.text(&name);
-            }
-        }
+        many_keys(&mut build, *first, letters);
     }
     assert_eq!(rt; build.keys().len(), 16_384);
     assert_eq!(rt; build.keys().texts(), 16_384);
-    assert_eq!(rt; build.key(b"zzz", PartId(1)), Err(count));
-    assert_eq!(rt; build.text(b"zzz"), Err(count));
-    assert_eq!(rt; build.key(b"aab", PartId(1)), Ok(KeyId(1)));
-    assert_eq!(rt; build.text(b"aab"), Ok(TextId(1)));
+    let items = [
+        (Item::Key(b"zzz", 1), COUNT),
+        (Item::Text(b"zzz"), COUNT),
+        (Item::Key(b"aab", 1), Ok(1)),
+        (Item::Text(b"aab"), Ok(1)),
+    ];
+    assert!(rt; answers(&mut build, &items));
     Ok(())
+}
+
+/// Whether the items are taken and a scene ends with them.
+fn is_ended(rt: &HostRuntime, items: &[(Item, Result<u32, SceneFault>)]) -> bool {
+    let mut build = SceneBuild::new(rt.alloc(), 1);
+    answers(&mut build, &BEGUN) && answers(&mut build, items) && build.finish().is_ok()
 }
 
 #[test]
 fn ends_of_no_scene(rt: HostRuntime) -> Result<(), Fail> {
-    let mut build = SceneBuild::new(rt.alloc(), 1);
-    build.nodes(1)?;
-    assert!(rt; build.finish().is_err());
-    let mut unnamed = begun(&rt)?;
-    unnamed.key(b"a", PartId(1))?;
-    assert!(rt; unnamed.finish().is_err());
-    let mut turned = begun(&rt)?;
-    turned.key(b"a", PartId(1))?;
-    turned.key(b"b", PartId(1))?;
-    turned.tx(script(Op::Get(KeyId(1))))?;
-    turned.tx(script(Op::Get(KeyId(0))))?;
-    assert!(rt; turned.finish().is_err());
-    let mut unwritten = begun(&rt)?;
-    unwritten.text(b"a")?;
-    assert!(rt; unwritten.finish().is_err());
+    let one = (Item::Key(b"a", 1), Ok(0));
+    let other = (Item::Key(b"b", 1), Ok(1));
+    let first = (Item::Tx(Op::Get(KeyId(0))), Ok(0));
+    let second = (Item::Tx(Op::Get(KeyId(1))), Ok(0));
+    assert!(rt; is_ended(&rt, &[]));
+    assert!(rt; is_ended(&rt, &[one, other, first, second]));
+    assert!(rt; !is_ended(&rt, &[one, other, second, first]));
+    assert!(rt; !is_ended(&rt, &[one, other, first]));
+    assert!(rt; !is_ended(&rt, &[(Item::Text(b"a"), Ok(0))]));
     Ok(())
 }
