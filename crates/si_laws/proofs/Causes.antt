@@ -1,48 +1,38 @@
 -- Each abort has a true cause: a dependency that was lost or came too late, a wish, a conflict found at home or by a Replicate.
-use Rattle.std.proofs.Common.{Bool, List, None, Option, Some, [], add-sub_cancel, ap, arith, eqb-true, false, find, if◌then◌else◌, inl, inr, max, nat_lt, refl, slice_get, subst, suc, sym, true, ltb-true, ℕ, ◌&&◌, ◌++◌, ◌+◌, ◌-◌, ◌<◌, ◌∙◌, ◌∷◌, ◌≡◌, ◌≢◌, ◌||◌, ◌⊎◌}
-use Rattle.std.specs.List.{list_any}
+use Rattle.std.proofs.Common.{Bool, List, None, Option, Some, [], add-sub_cancel, ap, arith, false, find, if◌then◌else◌, inl, inr, max, nat_lt, refl, slice_get, subst, suc, sym, true, ltb-true, ℕ, ◌+◌, ◌-◌, ◌<◌, ◌∙◌, ◌∷◌, ◌≡◌, ◌||◌, ◌⊎◌}
 use Rattle.dependency_set.specs.Snapshots.{Snap}
 use Rattle.dependency_set.specs.declared.names.Dep.{Dep}
 use Rattle.str_base.specs.declared.names.Cause.{Cause}
-use Rattle.str_base.specs.declared.names.Cause.TheVariants.{Conflict as ByConflict, Late as IsLate, Lost as IsLost, Wish}
+use Rattle.str_base.specs.declared.names.Cause.TheVariants.{Late as IsLate, Lost as IsLost, Wish}
 use Rattle.str_base.specs.declared.names.KeyId.{KeyId}
 use Rattle.str_base.specs.declared.names.Kind.{Kind}
 use Rattle.str_base.specs.declared.names.Kind.TheVariants.{Final, Local as LocalKind, Pre}
-use Rattle.str_base.specs.declared.names.NodeId.{NodeId}
 use Rattle.str_base.specs.declared.names.Ts.{Ts}
 use Rattle.str_base.specs.declared.names.TxId.{TxId}
 use Rattle.str_base.specs.declared.names.Version.{Version}
 use Rattle.str_base.specs.declared.names.Write.{Write}
-use Rattle.str_base.specs.Versions.{chain, is_local, is_pre, of_tx, same_key, stamp}
+use Rattle.str_base.specs.Versions.{chain, is_pre, same_key, stamp}
 use Rattle.str_scene.specs.declared.names.Event.{Event}
 use Rattle.str_scene.specs.SceneLimits.{IsScene}
-use Rattle.str_scene.specs.Scenes.{Here, Scene, nth}
-use Rattle.str_model.specs.declared.messages.Arrived.{Arrived}
-use Rattle.str_model.specs.declared.messages.Body.{Body}
-use Rattle.str_model.specs.declared.messages.Body.TheVariants.{Replicate}
-use Rattle.str_model.specs.declared.messages.Input.{Input}
-use Rattle.str_model.specs.declared.messages.Input.TheVariants.{Deliver}
-use Rattle.str_model.specs.Arrivals.{held_key}
+use Rattle.str_scene.specs.Scenes.{Here, Scene}
 use Rattle.str_model.specs.Owned.{Owns}
-use Rattle.str_model.specs.Runs.{opening, run}
-use Rattle.str_model.specs.Traces.{MomentAt, trace}
+use Rattle.str_model.specs.Runs.{run}
+use Rattle.str_model.specs.Traces.{trace}
 use Rattle.str_model.specs.Turns.{CertTurn, Certified, Conflict, DepTurn, Keep, Late, Lost, WaitGate, cert_turn, conflicts, dep_turn, met, own_fate}
 use Rattle.str_model.specs.Turns
-use Rattle.str_model.specs.Views.{Aborted, Committed, Doing, Own, Phase, View, is_decided, name_of, starts}
+use Rattle.str_model.specs.Views.{Aborted, Committed, Doing, Own, Phase, View, starts}
 use Rattle.str_model.proofs.Everywhere.{at_each_event, at_place}
 use Rattle.str_model.proofs.Along.{step-keeps}
-use Rattle.str_model.proofs.Gaining.{and_left, and_right}
 use Rattle.str_model.proofs.Later.{Took, moment_of, took}
 use Rattle.str_model.proofs.Linking.{linked}
 use Rattle.str_model.proofs.Members.{In, at_in, in_filter, in_flat_map}
-use Rattle.si_laws.specs.Standing.{DependsOn, HasDep, IsAborted, IsCommitted, IsOpen, Wrote}
-use Rattle.si_laws.specs.TrueCause.{AbortsAt, Delivered, DependedOn, Evicted, FoundAtHome, HasVersion, TrueWish}
+use Rattle.si_laws.specs.Standing.{IsAborted, IsCommitted}
+use Rattle.si_laws.specs.TrueCause.{AbortsAt, DependedOn, TrueWish}
 use Rattle.si_laws.proofs.AbortAll.{link_by}
 use Rattle.si_laws.proofs.Aborting.{AbortedBy, ab_evicted, ab_late, ab_lost, ab_met, ab_refused, ab_stop, ab_wish}
-use Rattle.si_laws.proofs.Around.{same_tx-is}
 use Rattle.si_laws.proofs.Gating.{committed_is, nth_place, place_nth, stand_moment}
 use Rattle.si_laws.proofs.Marking.{same_key-is}
-use Rattle.si_laws.proofs.Unmet.{AllNeedy, needy-act, needy_opening}
+use Rattle.si_laws.proofs.Unmet.{AllNeedy, needy-act}
 
 -- ---- the look at the dependencies
 
@@ -95,7 +85,7 @@ gone_is y e = by_phase y.phase e
 
 -- ---- the certification
 
-found_in : {A : Type 0} (p : A → Bool) (xs : List A) (x : A) → find p xs ≡ Some x → (In x xs) × (p x ≡ true)
+pub found_in : {A : Type 0} (p : A → Bool) (xs : List A) (x : A) → find p xs ≡ Some x → (In x xs) × (p x ≡ true)
 found_in p [] x e = absurd (cc e)
 found_in p (y ∷ xs) x e = by_test (p y) refl (found_in p xs x) e
   where
@@ -130,10 +120,14 @@ conflict_is here v snap ws u k e = by_found (find (conflicts snap.rs) (met ws v.
         let key : x.key ≡ k = cc q in
         let g = found_in (conflicts snap.rs) (met ws v.versions) x f in
         let r = in_flat_map (λ (w : Write). chain w.key v.versions) ws x g.0 in
-        let c = in_filter (λ (y : Version). same_key y.key r.0.key) v.versions x r.2 in
-        (x, c.0, tx, key,
-        elim (either (is_pre x.kind) (nat_lt snap.rs x.ts.0) g.1) [ inl z ↦ inl (kind_of x.kind z) | inr z ↦ inr (ltb-true snap.rs x.ts.0 z) ],
-        (r.0, r.1, sym (same_key-is x.key r.0.key c.1) ∙ key))
+        let c = in_filter (λ (y : Version). same_key y.key r.0.key) v.versions x r.2 in (
+          x,
+          c.0,
+          tx,
+          key,
+          elim (either (is_pre x.kind) (nat_lt snap.rs x.ts.0) g.1) [ inl z ↦ inl (kind_of x.kind z) | inr z ↦ inr (ltb-true snap.rs x.ts.0 z) ],
+          (r.0, r.1, sym (same_key-is x.key r.0.key c.1) ∙ key),
+        )
 
 module _ (scene : Scene) (ok : IsScene scene) (es : List Event) where
   -- a transaction that aborts, at its place
@@ -160,7 +154,7 @@ module _ (scene : Scene) (ok : IsScene scene) (es : List Event) where
         seq = p.1;
         owns = p.2;
         by = link_by here k.takes.input p.0 (starts k.takes.view) d a.next x a.lc cause a.gone (linked here k.takes.input k.takes.view a.moment d a.next first second) p.2 a.was_open
-        (subst (λ n. Owns a.next.view n a.gone) (omega (arith, p.1, g.1)) g.2) a.aborted;
+            (subst (λ n. Owns a.next.view n a.gone) (omega (arith, p.1, g.1)) g.2) a.aborted;
       }
     where
       one : suc a.moment ≡ a.moment + 1
@@ -172,9 +166,11 @@ module _ (scene : Scene) (ok : IsScene scene) (es : List Event) where
   dep_stands j t d x cause a b q f dep u name =
       let w = (stand_moment scene ok es j a.moment t.node d a.before).base.deps b.place x dep.0 b.owns a.was_open dep.1 in
       let i = at_in x.snap.deps dep.0 dep.1 in
-      let seq : u.seq ≡ w.place + 1 = ap (λ (z : TxId). z.seq) name ∙ (sym dep.2 ∙ w.seq) in
-      (w.owner, ((ap (λ (z : TxId). z.node) name ∙ sym b.took_.node, (i.0, dep.0, i.1, dep.2 ∙ ap (λ (z : TxId). z.seq) (sym name))), place_nth d.view.own u.seq w.place w.owner seq w.owns),
-      sym (ap own_fate (ap (λ m. slice_get d.view.own (m - 1)) w.seq ∙ (ap (λ m. slice_get d.view.own m) (add-sub_cancel w.place 1) ∙ w.owns))) ∙ dep.3)
+      let seq : u.seq ≡ w.place + 1 = ap (λ (z : TxId). z.seq) name ∙ (sym dep.2 ∙ w.seq) in (
+        w.owner,
+        ((ap (λ (z : TxId). z.node) name ∙ sym b.took_.node, (i.0, dep.0, i.1, dep.2 ∙ ap (λ (z : TxId). z.seq) (sym name))), place_nth d.view.own u.seq w.place w.owner seq w.owns),
+        sym (ap own_fate (ap (λ m. slice_get d.view.own (m - 1)) w.seq ∙ (ap (λ m. slice_get d.view.own m) (add-sub_cancel w.place 1) ∙ w.owns))) ∙ dep.3,
+      )
 
   -- a lost one depended on one that had aborted
   pub lost_true : (j : ℕ) (t : TxId) (d : Doing) (x : Own) (u : TxId) → AbortsAt (trace scene es) j t d x (IsLost u) → (y : Own) × DependedOn d t x u y × IsAborted y

@@ -40,3 +40,5 @@ pub mod AbortLinks
 pub mod AbortAll
 pub mod Unmet
 pub mod Causes
+pub mod Writing
+pub mod Conflicts
