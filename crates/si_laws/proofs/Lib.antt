@@ -42,3 +42,4 @@ pub mod Unmet
 pub mod Causes
 pub mod Writing
 pub mod Conflicts
+pub mod Naming

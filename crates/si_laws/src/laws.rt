@@ -3,6 +3,7 @@ ghost use Rattle.si_laws.specs.Laws.Times.{TimesHold};
 ghost use Rattle.si_laws.specs.Laws.Lasting.{AnswersGrow, DecidedStay};
 ghost use Rattle.si_laws.specs.Laws.Asking.{PresAsked};
 ghost use Rattle.si_laws.specs.Laws.Session.{SessionHolds};
+ghost use Rattle.si_laws.specs.Laws.Reasons.{CausesNamed};
 ghost use Rattle.si_laws.specs.Laws.Stages.{AcksKnown, StagesForward};
 
 /// Times at a node, over every list of events.
@@ -38,4 +39,9 @@ pub fn stages_forward()
 /// Where a node sent an Ack, the pair's versions stand there, or the pair is done.
 pub fn acks_known()
     ensures { AcksKnown }
+{}
+
+/// The answer of an abort names the cause with which its transaction stands aborted.
+pub fn causes_named()
+    ensures { CausesNamed }
 {}
