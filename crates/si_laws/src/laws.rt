@@ -3,7 +3,8 @@ ghost use Rattle.si_laws.specs.Laws.Times.{TimesHold};
 ghost use Rattle.si_laws.specs.Laws.Lasting.{AnswersGrow, DecidedStay};
 ghost use Rattle.si_laws.specs.Laws.Asking.{PresAsked};
 ghost use Rattle.si_laws.specs.Laws.Session.{SessionHolds};
-ghost use Rattle.si_laws.specs.Laws.Reasons.{CausesNamed};
+ghost use Rattle.si_laws.specs.Laws.Reasons.{CausesNamed, GateLawHolds};
+ghost use Rattle.si_laws.specs.Laws.Marks.{HomeMarksHold};
 ghost use Rattle.si_laws.specs.Laws.Stages.{AcksKnown, StagesForward};
 
 /// Times at a node, over every list of events.
@@ -39,6 +40,16 @@ pub fn stages_forward()
 /// Where a node sent an Ack, the pair's versions stand there, or the pair is done.
 pub fn acks_known()
     ensures { AcksKnown }
+{}
+
+/// What a committed transaction depended on or read from committed first, and cascades end in their event.
+pub fn gate_law_holds()
+    ensures { GateLawHolds }
+{}
+
+/// Who has read a key or waits for it has left its mark at its own node.
+pub fn home_marks_hold()
+    ensures { HomeMarksHold }
 {}
 
 /// The answer of an abort names the cause with which its transaction stands aborted.

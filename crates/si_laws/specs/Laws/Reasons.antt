@@ -28,3 +28,7 @@ AnswersName w =
 -- the law
 abbrev pub CausesNamed : Type 0
 CausesNamed = OfEachState (λ scene w. AnswersName w)
+
+-- the first half of the law: the gate law of every run
+abbrev pub GateLawHolds : Type 0
+GateLawHolds = (scene : Scene) → IsScene scene → (events : List Event) → GateLaw (trace scene events)
