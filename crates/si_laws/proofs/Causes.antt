@@ -85,7 +85,7 @@ gone_is y e = by_phase y.phase e
 
 -- ---- the certification
 
-found_in : {A : Type 0} (p : A → Bool) (xs : List A) (x : A) → find p xs ≡ Some x → (In x xs) × (p x ≡ true)
+pub found_in : {A : Type 0} (p : A → Bool) (xs : List A) (x : A) → find p xs ≡ Some x → (In x xs) × (p x ≡ true)
 found_in p [] x e = absurd (cc e)
 found_in p (y ∷ xs) x e = by_test (p y) refl (found_in p xs x) e
   where

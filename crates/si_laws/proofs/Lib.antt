@@ -49,11 +49,6 @@ pub mod Deciders
 pub mod PresenceLaw
 pub mod Marking
 pub mod HomeMarks
-pub mod Overlapping
-pub mod Deciding
-pub mod Delivering
-pub mod Deciders
-pub mod PresenceLaw
 pub mod Fates
 pub mod Gating
 pub mod GateFirst
@@ -67,3 +62,6 @@ pub mod AbortLinks
 pub mod AbortAll
 pub mod Unmet
 pub mod Causes
+pub mod Writing
+pub mod Conflicts
+pub mod Naming

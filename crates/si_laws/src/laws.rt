@@ -4,6 +4,8 @@ ghost use Rattle.si_laws.specs.Laws.Lasting.{AnswersGrow, DecidedStay};
 ghost use Rattle.si_laws.specs.Laws.Cut.{CutHolds};
 ghost use Rattle.si_laws.specs.Laws.Asking.{PresAsked};
 ghost use Rattle.si_laws.specs.Laws.Session.{SessionHolds};
+ghost use Rattle.si_laws.specs.Laws.Reasons.{CausesNamed, GateLawHolds};
+ghost use Rattle.si_laws.specs.Laws.Marks.{HomeMarksHold};
 ghost use Rattle.si_laws.specs.Laws.Stages.{AcksKnown, StagesForward};
 ghost use Rattle.si_laws.specs.Laws.Presence.{PresenceByBound, PresenceStands};
 ghost use Rattle.si_laws.specs.Laws.Apart.{ApartHolds, OrderHolds};
@@ -70,4 +72,19 @@ pub fn presence_stands()
 /// since a decision that reaches the limit would be strange to its receiver.
 pub fn presence_by_bound()
     ensures { PresenceByBound }
+{}
+
+/// What a committed transaction depended on or read from committed first, and cascades end in their event.
+pub fn gate_law_holds()
+    ensures { GateLawHolds }
+{}
+
+/// Who has read a key or waits for it has left its mark at its own node.
+pub fn home_marks_hold()
+    ensures { HomeMarksHold }
+{}
+
+/// The answer of an abort names the cause with which its transaction stands aborted.
+pub fn causes_named()
+    ensures { CausesNamed }
 {}

@@ -84,7 +84,7 @@ module _ (scene : Scene) (ok : IsScene scene) (P : View → Type 0)
       sum l = omega (arith, l)
 
   -- the end of an event
-  to_end : (es : List Event) (j m : ℕ) (h : Happening) (n : NodeId) (d : Doing) (t : Took scene es j h n) → slice_get h.moments m ≡ Some d → P d.view → P t.takes.last.view
+  pub to_end : (es : List Event) (j m : ℕ) (h : Happening) (n : NodeId) (d : Doing) (t : Took scene es j h n) → slice_get h.moments m ≡ Some d → P d.view → P t.takes.last.view
   to_end es j m h n d t q p =
       let ms = moments_of (at_place scene t.takes.place) t.takes.input t.takes.view in
       let at : slice_get ms m ≡ Some d = ap (λ xs. slice_get xs m) (sym t.takes.moments) ∙ q in

@@ -39,7 +39,7 @@ use Rattle.str_model.specs.Turns.{Give, ServeTurn, ServeWait, serve_turn}
 use Rattle.str_base.specs.Versions.{of_pair, of_tx, same_key, same_node, stamp, without}
 use Rattle.str_model.specs.Views.{Aborted, Active, Committed, Doing, Global, Own, Phase, Remote, Reply, is_decided, name_of, put}
 use Rattle.str_model.proofs.Evicting.{all_evicted}
-use Rattle.str_model.proofs.Acting.{Comes, InRule, IsOwn, NextPlace, NoneHeld, Path, PathTo, Touches, Where, a_prepare, a_read, act_abort, act_abort_came, act_accept, act_ack, act_begin, act_commit_came, act_mark, act_put, act_refuse, act_reply, act_take, act_wait, and_then, by_eviction, by_refusal, ch_reply, is_first, is_next, it_comes, more, one, stay, asked_now}
+use Rattle.str_model.proofs.Acting.{Comes, InRule, IsOwn, NextPlace, NoneHeld, Path, PathTo, Takes, Touches, Where, a_prepare, a_read, act_abort, act_abort_came, act_accept, act_ack, act_begin, act_commit_came, act_mark, act_put, act_refuse, act_reply, act_take, act_wait, and_then, by_eviction, by_refusal, ch_reply, is_first, is_next, it_comes, more, one, stay, asked_now}
 use Rattle.str_model.proofs.Gaining.{and_left, and_right, if_elim, or_false_right}
 use Rattle.str_model.proofs.Operating.{IsFresh, at_own-path, free_at, nor_left, nor_right, op_or_commit-path, phase-goes}
 

@@ -79,3 +79,7 @@ pub record Marks (scene : Scene) (tr : List Happening) (w : World) : Type 0 wher
 -- the law
 abbrev pub MarksHold : Type 0
 MarksHold = (scene : Scene) → IsScene scene → (events : List Event) → Marks scene (trace scene events) (run scene events)
+
+-- its first part alone
+abbrev pub HomeMarksHold : Type 0
+HomeMarksHold = (scene : Scene) → IsScene scene → (events : List Event) → MarkedAtHome (run scene events)
