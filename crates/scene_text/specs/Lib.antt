@@ -1,3 +1,4 @@
+pub mod Numerals
 pub mod LineTexts
 pub mod LineOrder
 pub mod FirstBad
