@@ -1,1 +1,4 @@
 pub mod NumeralLemmas
+pub mod NumberReading
+pub mod SplitLemmas
+pub mod KeyLemmas

@@ -1,8 +1,8 @@
 -- Decimals of any size: each number has one, of digits alone, and digits without a leading zero are one.
-use Rattle.std.proofs.Common.{Bool, List, [], ap, append_assoc, arith, cond, decimal, false, get_or, length, map, refl, subst, suc, sym, true, zero, ℕ, ℤ, pos, negsuc, inl, inr, ◌&&◌, ◌*◌, ◌++◌, ◌+◌, ◌-◌, ◌/◌, ◌%◌, ◌<◌, ◌==◌, ◌^◌, ◌∙◌, ◌∷◌, ◌≡◌, ◌≢◌, ◌≤◌, ◌⊎◌, not}
+use Rattle.std.proofs.Common.{Bool, List, [], ap, append_assoc, arith, decimal, false, get_or, map, refl, suc, sym, true, zero, ℕ, ℤ, pos, negsuc, inl, inr, ◌&&◌, ◌*◌, ◌++◌, ◌+◌, ◌-◌, ◌/◌, ◌%◌, ◌<◌, ◌==◌, ◌^◌, ◌∙◌, ◌∷◌, ◌≡◌, ◌≤◌, ◌⊎◌, not}
 use Rattle.std.proofs.lemmas.Bool.Decides.{nat_tests}
 use Rattle.std.proofs.lemmas.Fmt.{decimal-digits_of, decimal_digit}
-use Rattle.std.proofs.lemmas.Int.Digits.{all_below_base_digits_of, digits_of_step, first_digits_of, number_after_ge, number_digits_of, same_from_digits_of}
+use Rattle.std.proofs.lemmas.Int.Digits.{all_below_base_digits_of, digits_of_step, first_digits_of, number_after_ge, same_from_digits_of}
 use Rattle.std.proofs.lemmas.List.{append-nil}
 use Rattle.std.specs.Char.{is_ascii_digit}
 use Rattle.std.specs.Fmt.{signed_decimal}

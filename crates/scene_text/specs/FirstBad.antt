@@ -1,11 +1,10 @@
 -- The first bad line of a text that is no scene's, and why it is bad.
 use Rattle.std.specs.List.{list_all}
-use Rattle.std.specs.Prelude.{List, Some, [], length, map, not, slice_get, suc, take, true, ℕ, ◌++◌, ◌+◌, ◌==◌, ◌∷◌, ◌≡◌, ◌≤◌, ◌≢◌, flat_map, ◌⊎◌}
+use Rattle.std.specs.Prelude.{List, Some, [], length, map, not, slice_get, suc, take, true, ℕ, ◌++◌, ◌+◌, ◌==◌, ◌≡◌, ◌≤◌, ◌≢◌, flat_map, ◌⊎◌}
 use Rattle.scene_text.specs.declared.lines.Line.{Line}
 use Rattle.scene_text.specs.LineOrder.{Place, place_after}
 use Rattle.scene_text.specs.LineTexts.{IsForm, line_text}
 use Rattle.str_base.specs.declared.names.NodeId.{NodeId}
-use Rattle.str_base.specs.declared.names.PartId.{PartId}
 use Rattle.str_scene.specs.declared.names.Event.{Event}
 use Rattle.str_scene.specs.declared.names.Op.{Op}
 use Rattle.str_scene.specs.SceneLimits.{Exists, IsEvent, IsOp, IsRow, IsScene, IsTable}

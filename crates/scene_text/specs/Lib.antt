@@ -1,4 +1,6 @@
 pub mod Numerals
 pub mod LineTexts
+pub mod LineReading
+pub mod HexDigits
 pub mod LineOrder
 pub mod FirstBad

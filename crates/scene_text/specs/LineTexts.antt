@@ -4,7 +4,6 @@ use Rattle.std.specs.Prelude.{List, codes, flat_map, length, nat_lt, true, ℕ, 
 use Rattle.scene_text.specs.declared.lines.Line.{Line}
 use Rattle.scene_text.specs.declared.lines.Line.TheVariants.{Abort, Add, Client, Del, Deliver, Drain, End, Get, Need, Nodes, Part, Put, Puts, Schedule, Session, Tx, Version}
 use Rattle.scene_text.specs.Numerals.{numeral, signed_numeral}
-use Rattle.str_base.specs.declared.names.NodeId.{NodeId}
 use Rattle.str_base.specs.declared.names.PartId.{PartId}
 use Rattle.str_scene.specs.SceneLimits.{IsNumber, is_name}
 use Rattle.str_scene.specs.Spelling.{hex_byte}

@@ -1,6 +1,11 @@
 //! The text of a scene, read and written exactly.
 #![tactic(auto)]
 
+pub mod keys;
 pub mod lines;
+pub mod numbers;
+pub mod order;
+pub mod splits;
 
-pub use lines::Line;
+pub use lines::{Line, ReadLine, Word};
+pub use order::{Place, follows};
