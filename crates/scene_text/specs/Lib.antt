@@ -1,3 +1,6 @@
+pub mod Numerals
 pub mod LineTexts
 pub mod LineOrder
+pub mod SceneLines
+pub mod Taking
 pub mod FirstBad
