@@ -4,7 +4,7 @@ use Rattle.str_base.specs.declared.names.NodeId.{NodeId}
 use Rattle.str_base.specs.declared.names.PartId.{PartId}
 use Rattle.str_scene.specs.declared.names.Event.{Event}
 use Rattle.str_scene.specs.declared.names.Op.{Op}
-use Rattle.str_scene.specs.Keys.{with_pair}
+use Rattle.str_scene.specs.Keys.{with_pair, with_string}
 use Rattle.str_scene.specs.Scenes.{KeyTable, Scene, Session}
 
 -- before the first item; the number of nodes is 0 until it is given
@@ -74,3 +74,7 @@ drained d = record d { drain = true }
 -- with a key, at the end of the table where it is not there
 abbrev pub with_key : List ℕ × PartId → Scene → Scene
 with_key key d = record d { keys = record d.keys { names = with_pair key d.keys.names } }
+
+-- with a byte string, at the end of the list where it is not there
+abbrev pub with_text : List ℕ → Scene → Scene
+with_text text d = record d { keys = record d.keys { texts = with_string text d.keys.texts } }
