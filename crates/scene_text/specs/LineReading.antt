@@ -1,6 +1,6 @@
 -- What is read of the parts of a line: what they spell, and what of it fits its type.
 use Rattle.std.specs.List.{list_all}
-use Rattle.std.specs.Prelude.{Bool, List, None, Option, Some, codes, flat_map, length, nat_lt, not, true, ℕ, ℤ, ◌++◌, ◌<◌, ◌==◌, ◌∷◌, ◌≡◌, ◌≤◌}
+use Rattle.std.specs.Prelude.{Bool, List, None, Option, Some, codes, false, flat_map, length, nat_lt, not, true, ℕ, ℤ, ◌++◌, ◌<◌, ◌==◌, ◌∷◌, ◌≡◌, ◌≤◌}
 use Rattle.std.specs.Option.{SomeIff}
 use Rattle.scene_text.specs.LineTexts.{AreBytes, Fits, IsForm, bytes_text, key_text, line_text}
 use Rattle.scene_text.specs.Numerals.{numeral, signed_numeral}
@@ -47,6 +47,20 @@ pub record SpellsKey (text name : List ℕ) (kept : Option PartId) : Type 0 wher
 -- the text spells no key
 abbrev pub SpellsNoKey : List ℕ → Type 0
 SpellsNoKey text = (name : List ℕ) (p : PartId) → is_name name ≡ true → ¬ (text ≡ key_text name p)
+
+-- the text spells a key of this name and a signed number, and what is kept of them are the partition and the number themselves
+-- where they fit
+pub record SpellsKeyNumber (text name : List ℕ) (kept : Option (PartId × ℤ)) : Type 0 where
+  pub part : PartId
+  pub number : ℤ
+  pub named : is_name name ≡ true
+  pub text_is : text ≡ key_text name part ++ 32 ∷ signed_numeral number
+  pub kept_is : SomeIff kept ((part.0 < 256) × IsNumber number) (part, number)
+
+-- the text spells no key and number
+abbrev pub SpellsNoKeyNumber : List ℕ → Type 0
+SpellsNoKeyNumber text =
+    (name : List ℕ) (p : PartId) (z : ℤ) → is_name name ≡ true → ¬ (text ≡ key_text name p ++ 32 ∷ signed_numeral z)
 
 -- the text spells a byte string, and what is kept of it is the string itself where it has at most 64 bytes
 pub record SpellsBytes (text : List ℕ) (kept : Option (List ℕ)) : Type 0 where
@@ -97,6 +111,17 @@ word_of (Client s t) = WClient
 word_of (Deliver i) = WDeliver
 word_of Drain = WDrain
 word_of End = WEnd
+
+-- the line is an operation's
+abbrev pub is_operation : Word → Bool
+is_operation WGet = true
+is_operation WPut = true
+is_operation WPuts = true
+is_operation WAdd = true
+is_operation WDel = true
+is_operation WNeed = true
+is_operation WAbort = true
+is_operation _ = false
 
 -- the first word of a line of the kind
 abbrev pub word_text : Word → List ℕ

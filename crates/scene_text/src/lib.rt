@@ -1,10 +1,12 @@
 //! The text of a scene, read and written exactly.
 #![tactic(auto)]
 
+pub mod arguments;
 pub mod keys;
 pub mod lines;
 pub mod numbers;
 pub mod order;
+pub mod read_line;
 pub mod splits;
 
 pub use lines::{Line, ReadLine, Word};

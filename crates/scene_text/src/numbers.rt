@@ -6,7 +6,7 @@ ghost use Rattle.std.specs.Prelude.{◌≡◌, ◌<◌, ◌^◌, ◌∷◌, [], 
 ghost use Rattle.scene_text.specs.LineReading.{Spells, SpellsNoSigned, SpellsNone, SpellsSigned};
 ghost use Rattle.scene_text.specs.Numerals.{numeral, signed_numeral};
 
-use crate::splits::rest_after;
+use crate::splits::{is_same, rest_after};
 use str_base::{read_i64, read_u64};
 
 /// The text is a zero, or begins with a byte above zero, as every decimal does.
@@ -35,20 +35,13 @@ fn is_decimal(text: &[u8]) -> bool
     starts_plain(text) && all_digits(text)
 }
 
-/// The text is the decimal of 0.
-fn is_zero(text: &[u8]) -> bool
-    ensures { IsTrue result ↔ (text.now ≡ 48 ∷ []) }
-{
-    text == b"0".as_slice()
-}
-
 /// The text is the decimal of a signed number.
 fn is_signed_decimal(text: &[u8]) -> bool
     ensures yes { IsTrue result → (z : ℤ) × (text.now ≡ signed_numeral z) }
     ensures no { result ≡ false → SpellsNoSigned text.now }
 {
     match rest_after(text, b"-") {
-        Some(digits) => is_decimal(digits) && !is_zero(digits),
+        Some(digits) => is_decimal(digits) && !is_same(digits, b"0"),
         None => is_decimal(text),
     }
 }

@@ -1,5 +1,5 @@
 //! Bytes parted at a byte.
-ghost use Rattle.std.specs.Prelude.{◌≡◌, ◌<◌, ◌≤◌, ◌+◌, ◌++◌, ◌∷◌, [], ℕ, List, true, IfSome, IsNone, drop, length, slice_get, slice_range, take};
+ghost use Rattle.std.specs.Prelude.{◌≡◌, ◌<◌, ◌≤◌, ◌+◌, ◌++◌, ◌∷◌, [], ℕ, List, true, IfSome, IsNone, IsTrue, ◌↔◌, drop, length, slice_get, slice_range, take};
 ghost use Rattle.scene_text.specs.LineReading.{is_without};
 
 /// The place of the first of these bytes at `start` or after it, and `None` where there is none.
@@ -49,4 +49,11 @@ pub fn rest_after<'a>(bytes: &'a [u8], prefix: &[u8]) -> Option<&'a [u8]>
     ensures none { IsNone result → (rest : List ℕ) → ¬ (bytes.now ≡ prefix.now ++ rest) }
 {
     bytes.strip_prefix(prefix)
+}
+
+/// The bytes are the other bytes.
+pub fn is_same(bytes: &[u8], other: &[u8]) -> bool
+    ensures { IsTrue result ↔ (bytes.now ≡ other.now) }
+{
+    bytes == other
 }
