@@ -7,8 +7,8 @@ use Rattle.str_scene.specs.Building.{Each, Build}
 use Rattle.str_scene.specs.SceneLimits.{IsNumber, counted, is_name, key_of}
 use Rattle.str_scene.specs.Scenes.{KeyTable, Session}
 use Rattle.str_scene.specs.TextLines.{drain_line, event_lines, one_session_lines, script_lines}
-use Rattle.str_scene.specs.declared.build.Stage.{Stage}
-use Rattle.str_scene.specs.declared.build.Stage.TheVariants.{AfterDrain, AfterNodes, AfterVersion, Ended, InSchedule, InSession, InTransaction, Sessions, Start}
+use Rattle.str_scene.specs.declared.first_build.Stage.{Stage}
+use Rattle.str_scene.specs.declared.first_build.Stage.TheVariants.{AfterDrain, AfterNodes, AfterVersion, Ended, InSchedule, InSession, InTransaction, Sessions, Start}
 use Rattle.str_scene.specs.declared.lines.Line.{Line}
 use Rattle.str_scene.specs.declared.lines.Line.TheVariants.{Drain as LDrain, End as LEnd, Nodes as LNodes, Part as LPart, Schedule as LSchedule, Session as LSession, Version as LVersion}
 use Rattle.str_scene.specs.declared.names.Event.{Event}

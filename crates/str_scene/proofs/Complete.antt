@@ -23,8 +23,8 @@ use Rattle.str_scene.specs.Keys.{number_of, place_of, with_pair}
 use Rattle.str_scene.specs.SceneLimits.{IsScene, counted, key_of}
 use Rattle.str_scene.specs.Scenes.{KeyTable, Scene, Session}
 use Rattle.str_scene.specs.TextLines.{drain_line, event_lines, first_lines, name_of_key, one_session_lines, op_lines, script_lines}
-use Rattle.str_scene.specs.declared.build.Stage.{Stage}
-use Rattle.str_scene.specs.declared.build.Stage.TheVariants.{Ended, InSchedule, InSession, InTransaction, Sessions}
+use Rattle.str_scene.specs.declared.first_build.Stage.{Stage}
+use Rattle.str_scene.specs.declared.first_build.Stage.TheVariants.{Ended, InSchedule, InSession, InTransaction, Sessions}
 use Rattle.str_scene.specs.declared.lines.Line.{Line}
 use Rattle.str_scene.specs.declared.lines.Line.TheVariants.{Client as LClient, End as LEnd, Schedule as LSchedule, Session as LSession, Tx as LTx}
 use Rattle.str_scene.specs.declared.names.Event.{Event}

@@ -9,5 +9,6 @@ pub mod KeepingLemmas
 mod Reading
 mod Runs
 mod Sound
+mod TableLemmas
 mod Steps
 pub mod TextLines

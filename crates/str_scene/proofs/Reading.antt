@@ -13,7 +13,7 @@ use Rattle.str_scene.specs.FirstScenes.{IsFirstText}
 use Rattle.str_scene.specs.SceneLimits.{IsScene}
 use Rattle.str_scene.specs.Scenes.{Scene}
 use Rattle.str_scene.specs.TextLines.{IsLine, first_lines, is_without, line_spelled, lines_text}
-use Rattle.str_scene.specs.declared.build.Stage.TheVariants.{Ended}
+use Rattle.str_scene.specs.declared.first_build.Stage.TheVariants.{Ended}
 use Rattle.str_scene.specs.declared.lines.Line.{Line}
 
 -- the lines of a rest that is not empty have a first one

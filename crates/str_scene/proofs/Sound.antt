@@ -13,7 +13,7 @@ use Rattle.str_scene.specs.FirstScenes.{IsFirst, is_client, is_get_or_put}
 use Rattle.str_scene.specs.SceneLimits.{Exists, IsEvent, IsKey, IsOp, IsRow, IsScene, IsScript, IsSession, counted, key_of, text_of}
 use Rattle.str_scene.specs.Scenes.{KeyTable, Scene, Session}
 use Rattle.str_scene.specs.TextLines.{IsLine, first_lines}
-use Rattle.str_scene.specs.declared.build.Stage.TheVariants.{Ended}
+use Rattle.str_scene.specs.declared.first_build.Stage.TheVariants.{Ended}
 use Rattle.str_scene.specs.declared.lines.Line.{Line}
 use Rattle.str_scene.specs.declared.names.Event.{Event}
 use Rattle.str_scene.specs.declared.names.Event.TheVariants.{Client, Deliver}

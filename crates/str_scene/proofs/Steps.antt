@@ -17,8 +17,8 @@ use Rattle.str_scene.specs.Keys.{number_of, place_of, with_pair}
 use Rattle.str_scene.specs.SceneLimits.{IsNumber, counted, key_of}
 use Rattle.str_scene.specs.Scenes.{KeyTable, Session}
 use Rattle.str_scene.specs.TextLines.{IsLine, event_lines, one_session_lines, op_lines, script_lines}
-use Rattle.str_scene.specs.declared.build.Stage.{Stage}
-use Rattle.str_scene.specs.declared.build.Stage.TheVariants.{AfterDrain, AfterNodes, AfterVersion, InSchedule, InSession, InTransaction, Sessions, Start}
+use Rattle.str_scene.specs.declared.first_build.Stage.{Stage}
+use Rattle.str_scene.specs.declared.first_build.Stage.TheVariants.{AfterDrain, AfterNodes, AfterVersion, InSchedule, InSession, InTransaction, Sessions, Start}
 use Rattle.str_scene.specs.declared.lines.Line.{Line}
 use Rattle.str_scene.specs.declared.lines.Line.TheVariants.{Client as LClient, Drain as LDrain, End as LEnd, Get as LGet, Nodes as LNodes, Part as LPart, Put as LPut, Schedule as LSchedule, Session as LSession, Tx as LTx, Version as LVersion}
 use Rattle.str_scene.specs.declared.names.Event.{Event}

@@ -6,8 +6,8 @@ use Rattle.str_base.specs.declared.names.SessionId.{SessionId}
 use Rattle.str_scene.specs.Keys.{number_of, with_pair}
 use Rattle.str_scene.specs.Scenes.{KeyTable, Scene, Session}
 use Rattle.str_scene.specs.TextLines.{IsLine, lines_text}
-use Rattle.str_scene.specs.declared.build.Stage.{Stage}
-use Rattle.str_scene.specs.declared.build.Stage.TheVariants.{AfterDrain, AfterNodes, AfterVersion, Ended, InSchedule, InSession, InTransaction, Sessions, Start}
+use Rattle.str_scene.specs.declared.first_build.Stage.{Stage}
+use Rattle.str_scene.specs.declared.first_build.Stage.TheVariants.{AfterDrain, AfterNodes, AfterVersion, Ended, InSchedule, InSession, InTransaction, Sessions, Start}
 use Rattle.str_scene.specs.declared.lines.Line.{Line}
 use Rattle.str_scene.specs.declared.lines.Line.TheVariants.{Client as LClient, Drain as LDrain, End as LEnd, Get as LGet, Nodes as LNodes, Part as LPart, Put as LPut, Schedule as LSchedule, Session as LSession, Tx as LTx, Version as LVersion}
 use Rattle.str_scene.specs.declared.names.Event.{Event}

@@ -1,11 +1,11 @@
 -- A scene that is being built: what has been given so far, item by item, and where each item may stand.
-use Rattle.std.specs.Prelude.{Bool, List, None, Option, Some, [], false, if◌then◌else◌, not, true, ℕ, ◌&&◌, ◌++◌, ◌==◌, ◌∷◌}
+use Rattle.std.specs.Prelude.{Bool, List, [], false, not, true, ℕ, ◌&&◌, ◌++◌, ◌==◌, ◌∷◌}
 use Rattle.str_base.specs.declared.names.NodeId.{NodeId}
 use Rattle.str_base.specs.declared.names.PartId.{PartId}
 use Rattle.str_scene.specs.declared.names.Event.{Event}
 use Rattle.str_scene.specs.declared.names.Op.{Op}
 use Rattle.str_scene.specs.Keys.{with_pair, with_string}
-use Rattle.str_scene.specs.Scenes.{KeyTable, Scene, Session}
+use Rattle.str_scene.specs.Scenes.{Scene, Session}
 
 -- before the first item; the number of nodes is 0 until it is given
 abbrev pub empty_draft : ℕ → Scene

@@ -4,6 +4,9 @@ pub mod Spelling
 pub mod FirstScenes
 pub mod TextLines
 pub mod Keys
+pub mod KeyLaws
 pub mod Building
 pub mod Keeping
 pub mod Drafts
+pub mod DraftLimits
+pub mod Refusals

@@ -4,7 +4,7 @@ ghost use Rattle.str_scene.specs.Building.{GoesOn, IsRead, LeadsNowhere};
 ghost use Rattle.str_scene.specs.FirstScenes.{IsFirstText};
 ghost use Rattle.str_scene.specs.Scenes.{Scene as AnyScene};
 
-use crate::build::SceneBuild;
+use crate::first_build::FirstBuild;
 use crate::lines::{next_feed, read_line};
 use crate::scenes::Scene;
 use std::alloc::Global;
@@ -41,12 +41,12 @@ pub fn first_scene(alloc: Global, text: &[u8]) -> Result<Scene, FirstFault>
 }
 
 /// What the lines of the text build.
-fn read_lines(alloc: Global, text: &[u8]) -> Result<SceneBuild, FirstFault>
+fn read_lines(alloc: Global, text: &[u8]) -> Result<FirstBuild, FirstFault>
     ensures read { IfOk result (λ b. IsRead text.now b) }
     ensures all { IfOk result (λ b. GoesOn text.now [] b) }
     ensures not_built { result ≡ Err FirstFault.NotBuilt → LeadsNowhere text.now }
 {
-    let mut build = SceneBuild::new(alloc);
+    let mut build = FirstBuild::new(alloc);
     let mut start = 0;
     while start < text.len() {
         let Some(feed) = next_feed(text, start) else {

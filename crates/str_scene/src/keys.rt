@@ -1,11 +1,18 @@
 //! The keys of a scene by number, and its byte strings.
-ghost use Rattle.std.specs.Prelude.{◌≡◌, ◌≤◌, ◌<◌, ◌++◌, [], Some, flat_map, length, OnOk, OnErr, OnSome, IfOk, IfNone, slice_get};
+ghost use Rattle.std.specs.Cmp.{partial_equiv_from_equiv};
+ghost use Rattle.std.specs.Hash as fed;
+ghost use Rattle.std.specs.Prelude.{◌≡◌, ◌≤◌, ◌<◌, ◌++◌, [], Some, true, flat_map, length, nat_le, OnOk, OnErr, OnSome, IfOk, IfNone, slice_get};
+ghost use Rattle.std.specs.Str.{bytes_eq};
 ghost use Rattle.str_scene.specs.Keeping.{Keeps};
-ghost use Rattle.str_scene.specs.Keys.{number_of, place_of, same_pair, with_pair};
+ghost use Rattle.str_scene.specs.KeyLaws.{bytes-Alike, bytes_equiv, pair_writes, same_pair-Alike, same_pair_equiv};
+ghost use Rattle.str_scene.specs.Keys.{number_of, same_pair, string_number, with_pair, with_string};
+ghost use Rattle.str_scene.specs.SceneLimits.{is_name};
 ghost use Rattle.str_scene.specs.Scenes.{KeyTable as Table, named_part};
 ghost use Rattle.str_scene.specs.Spelling.{hex_byte, hex_digit, key_spelled, name_spelled, text_spelled};
 
+use indexmap::IndexSet;
 use std::alloc::{AllocError, Global};
+use std::hash::{Hash, Hasher};
 use std::marker::Model;
 use str_base::{KeyId, PartId, ShortList, TextId, push_u64};
 
@@ -20,7 +27,7 @@ pub type ByteText = ShortList<u8, 64>;
 
 /// A name and a partition. It is seen as the pair.
 #[derive(Drop)]
-pub struct NamedKey {
+struct NamedKey {
     name: Name,
     part: PartId,
 }
@@ -34,12 +41,97 @@ impl Model for NamedKey {
     ghost view = { λ k. (k.name, k.part) };
 }
 
+impl PartialEq for NamedKey {
+    ghost eq = { same_pair };
+
+    ghost laws = { partial_equiv_from_equiv same_pair_equiv };
+
+    fn eq(&self, other: &NamedKey) -> bool {
+        other.name.as_slice() == self.name.as_slice() && other.part == self.part
+    }
+}
+
+impl Eq for NamedKey {
+    ghost laws = { same_pair_equiv };
+}
+
+impl Hash for NamedKey {
+    ghost hash_input = { pair_writes };
+
+    ghost respects_eq = { same_pair-Alike.fed };
+
+    fn hash<H: Hasher>(&self, state: &mut H) {
+        self.name.as_slice().hash(state);
+        self.part.0.hash(state);
+    }
+}
+
+impl Clone for NamedKey {
+    ghost is_clone = { λ key copy. copy ≡ key };
+
+    fn clone(&self) -> Result<NamedKey, AllocError> {
+        Ok(NamedKey {
+            name: self.name.copy(),
+            part: self.part,
+        })
+    }
+}
+
+/// A byte string of a table. It is seen as the list of its bytes.
+#[derive(Drop)]
+struct StoredText {
+    bytes: ByteText,
+}
+
+impl Model for StoredText {
+    ghost use Rattle.std.specs.Prelude.{List, ℕ};
+
+    ghost Value = { List ℕ };
+
+    ghost view = { λ t. t.bytes };
+}
+
+impl PartialEq for StoredText {
+    ghost eq = { bytes_eq };
+
+    ghost laws = { partial_equiv_from_equiv bytes_equiv };
+
+    fn eq(&self, other: &StoredText) -> bool {
+        self.bytes.as_slice() == other.bytes.as_slice()
+    }
+}
+
+impl Eq for StoredText {
+    ghost laws = { bytes_equiv };
+}
+
+impl Hash for StoredText {
+    ghost hash_input = { fed.slice fed.u8 };
+
+    ghost respects_eq = { bytes-Alike.fed };
+
+    fn hash<H: Hasher>(&self, state: &mut H) {
+        self.bytes.as_slice().hash(state);
+    }
+}
+
+impl Clone for StoredText {
+    ghost is_clone = { λ text copy. copy ≡ text };
+
+    fn clone(&self) -> Result<StoredText, AllocError> {
+        Ok(StoredText {
+            bytes: self.bytes.copy(),
+        })
+    }
+}
+
 /// The keys in order of first appearance, each a name and a partition, at most 16,384, and the byte strings in order
-/// of first appearance. A key's number is its place, from 0, and so is a byte string's.
+/// of first appearance, at most 16,384. A key's number is its place, from 0, and so is a byte string's. A key or a byte
+/// string is found by its hash.
 #[derive(Drop)]
 pub struct KeyTable {
-    names: Vec<NamedKey>,
-    texts: Vec<ByteText>,
+    names: IndexSet<NamedKey>,
+    texts: IndexSet<StoredText>,
 }
 
 impl Model for KeyTable {
@@ -47,30 +139,11 @@ impl Model for KeyTable {
 
     ghost Value = { Table };
 
-    ghost view = { λ t. record { names = t.names.items; texts = t.texts.items } };
+    ghost view = { λ t. record { names = t.names.keys; texts = t.texts.keys } };
 
     ghost use Rattle.std.specs.Prelude.{length, ◌≤◌};
 
-    ghost invariant = { λ t. length t.names.items ≤ 16384 };
-}
-
-impl NamedKey {
-    /// An equal key.
-    pub fn copy(&self) -> NamedKey
-        ensures { result ≡ self.now }
-    {
-        NamedKey {
-            name: self.name.copy(),
-            part: self.part,
-        }
-    }
-
-    /// Whether this is the name and the partition.
-    fn is(&self, name: &Name, part: PartId) -> bool
-        ensures { result ≡ same_pair (name.now, part) self.now }
-    {
-        self.name.as_slice() == name.as_slice() && self.part == part
-    }
+    ghost invariant = { λ t. (length t.names.keys ≤ 16384) × (length t.texts.keys ≤ 16384) };
 }
 
 impl KeyTable {
@@ -80,24 +153,19 @@ impl KeyTable {
         ensures texts { result.texts ≡ [] }
     {
         KeyTable {
-            names: Vec::new(alloc),
-            texts: Vec::new(alloc),
+            names: IndexSet::new(alloc),
+            texts: IndexSet::new(alloc),
         }
     }
 
     /// An equal table.
-    pub fn copy(&self, alloc: Global) -> Result<KeyTable, AllocError>
+    pub fn copy(&self) -> Result<KeyTable, AllocError>
         ensures { IfOk result (λ t. t ≡ self.now) }
     {
-        let mut names = Vec::new(alloc);
-        for key in self.names.as_slice() {
-            names.push(key.copy())?;
-        }
-        let mut texts = Vec::new(alloc);
-        for text in self.texts.as_slice() {
-            texts.push(text.copy())?;
-        }
-        Ok(KeyTable { names, texts })
+        Ok(KeyTable {
+            names: self.names.clone()?,
+            texts: self.texts.clone()?,
+        })
     }
 
     /// The number of keys.
@@ -108,46 +176,102 @@ impl KeyTable {
         self.names.len() as u32
     }
 
+    /// The number of byte strings. Their numbers are those below it.
+    pub fn texts(&self) -> u32
+        ensures value { result ≡ length self.now.texts }
+        ensures limit { result ≤ 16384 }
+    {
+        self.texts.len() as u32
+    }
+
     /// The partition of a key.
     pub fn part(&self, key: KeyId) -> PartId
         requires { key.0 < length self.now.names }
         ensures { result ≡ named_part (slice_get self.now.names key.0) }
     {
-        let named = &self.names[key.0 as usize];
+        let named = &self.names.as_slice()[key.0 as usize];
         named.part
     }
 
-    /// The place of a key, which is the number of keys where it is not there.
-    fn place(&self, name: &Name, part: PartId) -> usize
-        ensures { result ≡ place_of (name.now, part) self.now.names }
+    /// Whether the table with a key has at most 16,384 keys.
+    pub(crate) fn has_room(&self, name: &[u8], part: PartId) -> bool
+        requires { length name.now ≤ 16 }
+        ensures { result ≡ nat_le (length (with_pair (name.now, part) self.now.names)) 16384 }
     {
-        let mut place = 0;
-        for key in self.names.as_slice() {
-            if key.is(name, part) {
-                return place;
-            }
-            place += 1;
-        }
-        place
+        let key = NamedKey {
+            name: short_name(name),
+            part,
+        };
+        self.names.contains(&key) || self.names.len() < MOST_KEYS
+    }
+
+    /// Whether the list with a byte string has at most 16,384 byte strings.
+    pub(crate) fn has_text_room(&self, bytes: &[u8]) -> bool
+        requires { length bytes.now ≤ 64 }
+        ensures { result ≡ nat_le (length (with_string bytes.now self.now.texts)) 16384 }
+    {
+        let text = StoredText {
+            bytes: byte_text(bytes),
+        };
+        self.texts.contains(&text) || self.texts.len() < MOST_KEYS
+    }
+
+    /// The number of a key, which is put at the end where it is not there. It needs a name, and that the key is there or the
+    /// table has fewer than 16,384 keys. It fails where memory runs out, and then the table stays as it was.
+    pub fn intern(&mut self, name: &[u8], part: PartId) -> Result<KeyId, AllocError>
+        requires name { is_name name.now ≡ true }
+        requires room { length (with_pair (name.now, part) self.old.names) ≤ 16384 }
+        ensures number { IfOk result (λ k. number_of (name.now, part) self.old.names ≡ Some k) }
+        ensures added { OnOk result (self.new ≡ record self.old { names = with_pair (name.now, part) self.old.names }) }
+        ensures err { OnErr result (self.new ≡ self.old) }
+    {
+        self.put(short_name(name), part)
+    }
+
+    /// The number of a key, which is put at the end where it is not there.
+    fn put(&mut self, name: Name, part: PartId) -> Result<KeyId, AllocError>
+        requires { length (with_pair (name, part) self.old.names) ≤ 16384 }
+        ensures number { IfOk result (λ k. number_of (name, part) self.old.names ≡ Some k) }
+        ensures added { OnOk result (self.new ≡ record self.old { names = with_pair (name, part) self.old.names }) }
+        ensures err { OnErr result (self.new ≡ self.old) }
+    {
+        let (place, _) = self.names.insert_full(NamedKey { name, part })?;
+        Ok(KeyId(place as u32))
+    }
+
+    /// The number of a byte string, which is put at the end where it is not there. It needs at most 64 bytes, and that the
+    /// byte string is there or the table has fewer than 16,384. It fails where memory runs out, and then the table stays as it was.
+    pub fn intern_text(&mut self, bytes: &[u8]) -> Result<TextId, AllocError>
+        requires short { length bytes.now ≤ 64 }
+        requires room { length (with_string bytes.now self.old.texts) ≤ 16384 }
+        ensures number { IfOk result (λ t. string_number bytes.now self.old.texts ≡ Some t) }
+        ensures added { OnOk result (self.new ≡ record self.old { texts = with_string bytes.now self.old.texts }) }
+        ensures err { OnErr result (self.new ≡ self.old) }
+    {
+        let text = StoredText {
+            bytes: byte_text(bytes),
+        };
+        let (place, _) = self.texts.insert_full(text)?;
+        Ok(TextId(place as u32))
     }
 
     /// The number of a key, which is added at the end where it is not there. None where the table would then
     /// have more than 16,384 keys; the table then stays as it was, as it does after an `Err`.
-    pub(crate) fn intern(&mut self, name: Name, part: PartId) -> Result<Option<KeyId>, AllocError>
+    pub(crate) fn intern_name(
+        &mut self,
+        name: Name,
+        part: PartId,
+    ) -> Result<Option<KeyId>, AllocError>
         ensures number { IfOk result (λ o. o ≡ number_of (name, part) self.old.names) }
         ensures added { IfOk result (λ o. OnSome o (self.new ≡ record self.old { names = with_pair (name, part) self.old.names })) }
         ensures none { IfOk result (λ o. IfNone o (self.new ≡ self.old)) }
         ensures err { OnErr result (self.new ≡ self.old) }
     {
-        let place = self.place(&name, part);
-        if place < self.names.len() {
-            return Ok(Some(KeyId(place as u32)));
-        }
-        if place >= MOST_KEYS {
+        if !self.has_room(name.as_slice(), part) {
             return Ok(None);
         }
-        self.names.push(NamedKey { name, part })?;
-        Ok(Some(KeyId(place as u32)))
+        let key = self.put(name, part)?;
+        Ok(Some(key))
     }
 
     /// Appends a key as text: its name, `@` and its partition. A number that is no key's appends nothing.
@@ -156,7 +280,7 @@ impl KeyTable {
         ensures ok { OnOk result (out.new.items ≡ out.old.items ++ key_spelled self.now key) }
         ensures err { OnErr result (out.new.items ≡ out.old.items) }
     {
-        let Some(named) = self.names.get(key.0 as usize) else {
+        let Some(named) = self.names.get_index(key.0 as usize) else {
             return Ok(());
         };
         let start = out.len();
@@ -175,11 +299,11 @@ impl KeyTable {
         ensures ok { OnOk result (out.new.items ≡ out.old.items ++ text_spelled (slice_get self.now.texts text.0)) }
         ensures err { OnErr result (out.new.items ≡ out.old.items) }
     {
-        let Some(bytes) = self.texts.get(text.0 as usize) else {
+        let Some(text) = self.texts.get_index(text.0 as usize) else {
             return Ok(());
         };
         let start = out.len();
-        match push_bytes(bytes.as_slice(), out) {
+        match push_bytes(text.bytes.as_slice(), out) {
             Ok(()) => Ok(()),
             Err(error) => {
                 out.truncate(start);
@@ -214,6 +338,30 @@ fn push_bytes(bytes: &[u8], out: &mut Vec<u8>) -> Result<(), AllocError>
     Ok(())
 }
 
+/// A name of these bytes.
+fn short_name(bytes: &[u8]) -> Name
+    requires { length bytes.now ≤ 16 }
+    ensures { result ≡ bytes.now }
+{
+    let mut name = Name::new();
+    for byte in bytes {
+        name.push(*byte);
+    }
+    name
+}
+
+/// A byte string of these bytes.
+fn byte_text(bytes: &[u8]) -> ByteText
+    requires { length bytes.now ≤ 64 }
+    ensures { result ≡ bytes.now }
+{
+    let mut text = ByteText::new();
+    for byte in bytes {
+        text.push(*byte);
+    }
+    text
+}
+
 /// The digit of a number from 0 to 15.
 fn hex_digit(n: u8) -> u8
     requires { n < 16 }
@@ -229,15 +377,11 @@ mod tests {
 
     #[test]
     fn writes_keys_and_texts(rt: HostRuntime) -> Result<(), Fail> {
-        let mut name = Name::new();
-        name.push(b'a');
-        let mut bytes = ByteText::new();
-        bytes.push(0);
-        bytes.push(0xb9);
         let part = PartId(12);
-        let names = Vec::from_array(rt.alloc(), [NamedKey { name, part }])?;
-        let texts = Vec::from_array(rt.alloc(), [ByteText::new(), bytes])?;
-        let table = KeyTable { names, texts };
+        let mut table = KeyTable::new(rt.alloc());
+        table.intern(b"a", part)?;
+        table.intern_text(b"")?;
+        table.intern_text(&[0, 0xb9])?;
         let mut out = Vec::new(rt.alloc());
         for number in 0..2 {
             table.push_key(KeyId(number), &mut out)?;

@@ -1,9 +1,9 @@
 //! A scene: nodes, replicas, scripts and a schedule, with all its limits.
 #![tactic(auto)]
 
-mod build;
 pub mod faults;
 pub mod first;
+mod first_build;
 pub mod keys;
 pub mod lines;
 pub mod names;

@@ -167,7 +167,7 @@ impl Scene {
             version: self.version,
             nodes: self.nodes,
             parts: copied_rows(alloc, self.parts.as_slice())?,
-            keys: self.keys.copy(alloc)?,
+            keys: self.keys.copy()?,
             sessions: copied_sessions(alloc, self.sessions.as_slice())?,
             schedule: copied_events(alloc, self.schedule.as_slice())?,
             drain: self.drain,

@@ -41,7 +41,7 @@ pub(crate) enum Stage {
 
 /// A first scene as the lines so far give it.
 #[derive(Drop)]
-pub(crate) struct SceneBuild {
+pub(crate) struct FirstBuild {
     alloc: Global,
     stage: Stage,
     keys: KeyTable,
@@ -52,7 +52,7 @@ pub(crate) struct SceneBuild {
     begun: u32,
 }
 
-impl Model for SceneBuild {
+impl Model for FirstBuild {
     ghost use Rattle.str_scene.specs.Building.{Build};
 
     ghost Value = { Build };
@@ -60,12 +60,12 @@ impl Model for SceneBuild {
     ghost view = { λ b. record { stage = b.stage; keys = b.keys; sessions = b.sessions.items; txs = b.txs.items; ops = b.ops; schedule = b.schedule.items; begun = b.begun } };
 }
 
-impl SceneBuild {
+impl FirstBuild {
     /// Before the first line.
-    pub(crate) fn new(alloc: Global) -> SceneBuild
+    pub(crate) fn new(alloc: Global) -> FirstBuild
         ensures { result ≡ empty_build }
     {
-        SceneBuild {
+        FirstBuild {
             alloc,
             stage: Stage::Start,
             keys: KeyTable::new(alloc),
@@ -219,7 +219,7 @@ impl SceneBuild {
         if self.ops.len() >= 16 {
             return Err(FirstFault::NotBuilt);
         }
-        match self.keys.intern(name, PartId(1)) {
+        match self.keys.intern_name(name, PartId(1)) {
             Ok(Some(key)) => Ok(key),
             Ok(None) => Err(FirstFault::NotBuilt),
             Err(_) => Err(FirstFault::Memory),
