@@ -1,1 +1,7 @@
+mod EntrySteps
+mod Growing
+mod HeadSteps
+mod Kept
 pub mod NumeralLemmas
+mod Settling
+mod Tests
