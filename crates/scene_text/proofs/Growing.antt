@@ -37,15 +37,23 @@ string_comes a [] = inr (refl, refl, λ i e. none_there i e)
     none_there i e = cc
 string_comes a (b ∷ bs) = comes_more a b bs (bytes_eq a b) refl (string_comes a bs)
 
--- how a table grows by an element, which has its place in the new table
-pub record Grown {X : Type 0} (P : X → Type 0) (xs : List X) (x : X) (place : ℕ) (ys : List X) : Type 0 where
+-- a table that may have more at its end
+pub record Grows {X : Type 0} (P : X → Type 0) (xs ys : List X) : Type 0 where
   pub longer : length xs ≤ length ys
   pub good : Each P ys
   pub distinct : Distinct ys
+  pub kept : (i : ℕ) (y : X) → slice_get xs i ≡ Some y → slice_get ys i ≡ Some y
+
+-- how a table grows by an element, which has its place in the new table
+pub record Grown {X : Type 0} (P : X → Type 0) (xs : List X) (x : X) (place : ℕ) (ys : List X) : Type 0 where
+  pub grows : Grows P xs ys
   pub order : counted (length xs) (place ∷ []) ≡ Some (length ys)
   pub within : place < length ys
   pub there : slice_get ys place ≡ Some x
-  pub kept : (i : ℕ) (y : X) → slice_get xs i ≡ Some y → slice_get ys i ≡ Some y
+
+-- a table that stays
+pub stays : {X : Type 0} (P : X → Type 0) (xs : List X) → Each P xs → Distinct xs → Grows P xs xs
+stays P xs g d = record { longer = omega arith; good = g; distinct = d; kept = λ i y e. e }
 
 -- an element that is not there may come at the end
 distinct_push : {X : Type 0} (xs : List X) (x : X) → Distinct xs → ((i : ℕ) → slice_get xs i ≡ Some x → ⊥) → Distinct (xs ++ x ∷ [])
@@ -60,24 +68,18 @@ pub grown : {X : Type 0} (P : X → Type 0) (xs : List X) (x : X) (place : ℕ) 
 grown P xs x place ys g d k (inl h) =
     let within : place < length xs = slice_get_within xs place x h.0 in
     subst (λ zs. Grown P xs x place zs) (sym h.1)
-    (record {
-      longer = omega arith;
-      good = g;
-      distinct = d;
-      order = counted_old (length xs) place [] within;
-      within = within;
-      there = h.0;
-      kept = λ i y e. e;
-    })
+    (record { grows = stays P xs g d; order = counted_old (length xs) place [] within; within = within; there = h.0 })
 grown P xs x place ys g d k (inr h) =
     let more = length-append xs (x ∷ []) in
     subst (λ zs. Grown P xs x place zs) (sym h.1)
     (record {
-      longer = omega (arith, more);
-      good = each_push P xs x g k;
-      distinct = distinct_push xs x d h.2;
+      grows = record {
+        longer = omega (arith, more);
+        good = each_push P xs x g k;
+        distinct = distinct_push xs x d h.2;
+        kept = λ i y e. get_left xs (x ∷ []) i y e;
+      };
       order = counted_next (length xs) place [] h.0 ∙ ap Some (omega (arith, more));
       within = omega (arith, more, h.0);
       there = rw h.0 (get_middle xs [] x);
-      kept = λ i y e. get_left xs (x ∷ []) i y e;
     })

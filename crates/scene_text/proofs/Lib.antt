@@ -3,5 +3,8 @@ mod Growing
 mod HeadSteps
 mod Kept
 pub mod NumeralLemmas
+mod OpSteps
+mod SectionSteps
 mod Settling
+mod Steps
 mod Tests
