@@ -1,3 +1,9 @@
+mod Complete
+mod EntrySteps
+mod Found
+mod Growing
+mod HeadSteps
+mod Kept
 pub mod NumeralLemmas
 pub mod NumberReading
 pub mod SplitLemmas
@@ -5,3 +11,11 @@ pub mod KeyLemmas
 pub mod ArgumentLemmas
 pub mod RowLemmas
 pub mod WordLemmas
+mod OpRuns
+mod OpSteps
+mod SectionSteps
+mod SessionRuns
+mod Settling
+mod Steps
+mod Tests
+mod Wholes

@@ -1,10 +1,10 @@
 mod Bridge
 mod Built
 mod Complete
-mod Counts
-mod Each
+pub mod Counts
+pub mod Each
 mod GoodScenes
-mod Pairs
+pub mod Pairs
 pub mod KeepingLemmas
 mod Reading
 mod Runs
