@@ -63,8 +63,8 @@ found xs x place ys m i ms end d e c come =
     elim (counted_cases m i end ms c) [
       | inl h ↦ found_old xs x place ys m i ms end d e h.0 h.1 come
       | inr h ↦ (
-        let at : slice_get xs m ≡ Some x = subst (λ j. slice_get xs j ≡ Some x) h.0 e in
-        subst (λ j. Found xs place ys j ms end) (sym h.0) (found_new xs x place ys m ms end d at h.1 come))
+          let at : slice_get xs m ≡ Some x = subst (λ j. slice_get xs j ≡ Some x) h.0 e in
+          subst (λ j. Found xs place ys j ms end) (sym h.0) (found_new xs x place ys m ms end d at h.1 come))
     ]
 
 -- numbers in two parts

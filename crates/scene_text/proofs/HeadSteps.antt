@@ -81,7 +81,7 @@ part_kept limits d ops row range room k =
     record {
       table = record {
         names = each_weaker (IsKey (length d.parts)) (IsKey (length (d.parts ++ row ∷ [])))
-        (λ key h. record { name = h.name; part = (h.part.0, omega (arith, h.part.1, more)) }) d.keys.names k.table.names;
+            (λ key h. record { name = h.name; part = (h.part.0, omega (arith, h.part.1, more)) }) d.keys.names k.table.names;
         distinct_names = k.table.distinct_names;
         texts = k.table.texts;
         distinct_texts = k.table.distinct_texts;

@@ -11,6 +11,7 @@ pub mod KeyLemmas
 pub mod ArgumentLemmas
 pub mod RowLemmas
 pub mod WordLemmas
+pub mod WriteLemmas
 mod OpRuns
 mod OpSteps
 mod SectionSteps

@@ -133,7 +133,7 @@ op_taken limits scene place m k ss done (Get n) keys texts m' k' t is order room
       m1 = f.next;
       k1 = k;
       taken = taken limits s (op_line scene.keys (Get n)) AfterOp order (up_to_holds (length scene.parts) (key_at scene.keys n).1.0 g.good.part) (room_is _ _ room)
-      ∙ ap Now (with_op_is scene place m k ss done Get (key_at scene.keys n) n f.next f.number f.first);
+          ∙ ap Now (with_op_is scene place m k ss done Get (key_at scene.keys n) n f.next f.number f.first);
       keys_after = f.rest;
       texts_after = x;
     }
@@ -145,8 +145,8 @@ op_taken limits scene place m k ss done (Put n v) keys texts m' k' t is order ro
       m1 = f.next;
       k1 = k;
       taken = taken limits s (op_line scene.keys (Put n v)) AfterOp order
-      (both _ _ (up_to_holds (length scene.parts) (key_at scene.keys n).1.0 g.good.part) (number_holds v is.1)) (room_is _ _ room)
-      ∙ ap Now (with_op_is scene place m k ss done (λ z. Put z v) (key_at scene.keys n) n f.next f.number f.first);
+          (both _ _ (up_to_holds (length scene.parts) (key_at scene.keys n).1.0 g.good.part) (number_holds v is.1)) (room_is _ _ room)
+          ∙ ap Now (with_op_is scene place m k ss done (λ z. Put z v) (key_at scene.keys n) n f.next f.number f.first);
       keys_after = f.rest;
       texts_after = x;
     }
@@ -161,8 +161,8 @@ op_taken limits scene place m k ss done (Puts n u) keys texts m' k' t is order r
       m1 = f.next;
       k1 = j.next;
       taken = taken limits s (op_line scene.keys (Puts n u)) AfterOp two
-      (both _ _ (up_to_holds (length scene.parts) (key_at scene.keys n).1.0 g.good.part) (most_is _ _ h.good.short)) (room_is _ _ room)
-      ∙ ap Now (with_puts_is scene place m k ss done (key_at scene.keys n) (text_at scene.keys u) n u f.next j.next f.number f.first j.number j.first);
+          (both _ _ (up_to_holds (length scene.parts) (key_at scene.keys n).1.0 g.good.part) (most_is _ _ h.good.short)) (room_is _ _ room)
+          ∙ ap Now (with_puts_is scene place m k ss done (key_at scene.keys n) (text_at scene.keys u) n u f.next j.next f.number f.first j.number j.first);
       keys_after = f.rest;
       texts_after = j.rest;
     }
@@ -174,8 +174,8 @@ op_taken limits scene place m k ss done (Add n v) keys texts m' k' t is order ro
       m1 = f.next;
       k1 = k;
       taken = taken limits s (op_line scene.keys (Add n v)) AfterOp order
-      (both _ _ (up_to_holds (length scene.parts) (key_at scene.keys n).1.0 g.good.part) (number_holds v is.1)) (room_is _ _ room)
-      ∙ ap Now (with_op_is scene place m k ss done (λ z. Add z v) (key_at scene.keys n) n f.next f.number f.first);
+          (both _ _ (up_to_holds (length scene.parts) (key_at scene.keys n).1.0 g.good.part) (number_holds v is.1)) (room_is _ _ room)
+          ∙ ap Now (with_op_is scene place m k ss done (λ z. Add z v) (key_at scene.keys n) n f.next f.number f.first);
       keys_after = f.rest;
       texts_after = x;
     }
@@ -187,7 +187,7 @@ op_taken limits scene place m k ss done (Del n) keys texts m' k' t is order room
       m1 = f.next;
       k1 = k;
       taken = taken limits s (op_line scene.keys (Del n)) AfterOp order (up_to_holds (length scene.parts) (key_at scene.keys n).1.0 g.good.part) (room_is _ _ room)
-      ∙ ap Now (with_op_is scene place m k ss done Del (key_at scene.keys n) n f.next f.number f.first);
+          ∙ ap Now (with_op_is scene place m k ss done Del (key_at scene.keys n) n f.next f.number f.first);
       keys_after = f.rest;
       texts_after = x;
     }
@@ -199,8 +199,8 @@ op_taken limits scene place m k ss done (Need n v) keys texts m' k' t is order r
       m1 = f.next;
       k1 = k;
       taken = taken limits s (op_line scene.keys (Need n v)) AfterOp order
-      (both _ _ (up_to_holds (length scene.parts) (key_at scene.keys n).1.0 g.good.part) (number_holds v is.1)) (room_is _ _ room)
-      ∙ ap Now (with_op_is scene place m k ss done (λ z. Need z v) (key_at scene.keys n) n f.next f.number f.first);
+          (both _ _ (up_to_holds (length scene.parts) (key_at scene.keys n).1.0 g.good.part) (number_holds v is.1)) (room_is _ _ room)
+          ∙ ap Now (with_op_is scene place m k ss done (λ z. Need z v) (key_at scene.keys n) n f.next f.number f.first);
       keys_after = f.rest;
       texts_after = x;
     }
@@ -226,7 +226,7 @@ pub ops_taken : (limits : Limits) (scene : Scene) (place : Place) (ops : List Op
 ops_taken limits scene place [] m k ss done m' k' t is order room c x = record {
   place' = place;
   taken = ap (λ z. Now (mk place (body scene z k ss) done)) (same_Some _ _ c) ∙ (ap (λ z. Now (mk place (body scene m' z ss) done)) (same_Some _ _ x)
-  ∙ ap (λ z. Now (mk place (body scene m' k' ss) z)) (sym (append-nil done)));
+      ∙ ap (λ z. Now (mk place (body scene m' k' ss) z)) (sym (append-nil done)));
   at_op = λ l. absurd (omega arith);
   at_first = λ e. refl;
 }
@@ -236,7 +236,7 @@ ops_taken limits scene place (o ∷ ops) m k ss done m' k' t is order room c x =
     record {
       place' = r.place';
       taken = ap (goes_on (λ s. take_lines limits s (map (op_line scene.keys) ops))) h.taken
-      ∙ (r.taken ∙ ap (λ z. Now (mk r.place' (body scene m' k' ss) z)) (append_assoc done (o ∷ []) ops));
+          ∙ (r.taken ∙ ap (λ z. Now (mk r.place' (body scene m' k' ss) z)) (append_assoc done (o ∷ []) ops));
       at_op = λ l. by_rest ops r.place' r.at_op r.at_first;
       at_first = λ e. absurd (cc);
     }

@@ -90,9 +90,9 @@ op_kept limits d ops o l large c room k = record {
   };
   rows = k.rows;
   sessions = each_weaker (GoodSession limits d.version d.nodes d.keys) (GoodSession limits d.version d.nodes large)
-  (session_weaker limits d.version d.nodes d.keys large c.names.longer c.texts.longer) d.sessions k.sessions;
+      (session_weaker limits d.version d.nodes d.keys large c.names.longer c.texts.longer) d.sessions k.sessions;
   open_ops = each_push (IsOp d.version large) ops o
-  (each_weaker (IsOp d.version d.keys) (IsOp d.version large) (op_weaker d.version d.keys large c.names.longer c.texts.longer) ops k.open_ops) c.good;
+      (each_weaker (IsOp d.version d.keys) (IsOp d.version large) (op_weaker d.version d.keys large c.names.longer c.texts.longer) ops k.open_ops) c.good;
   few_ops = omega (arith, room, length-append ops (o ∷ []));
   events = k.events;
   counts = record {

@@ -62,7 +62,7 @@ session_kept limits d n k no_entry range room room_at =
     let more = length-append d.sessions (new_session n ∷ []) in
     record {
       table = subst (λ xs. TableKept (length d.parts) d.keys (xs ++ []))
-      (sym (flat_map-append (λ s. flat_map (λ ops. ops) s.txs) d.sessions (new_session n ∷ []) ∙ append-nil (all_ops d))) k.table;
+          (sym (flat_map-append (λ s. flat_map (λ ops. ops) s.txs) d.sessions (new_session n ∷ []) ∙ append-nil (all_ops d))) k.table;
       rows = k.rows;
       sessions = each_push (GoodSession limits d.version d.nodes d.keys) d.sessions (new_session n) k.sessions (range, tt);
       open_ops = tt;

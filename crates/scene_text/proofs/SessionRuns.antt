@@ -128,8 +128,8 @@ txs_taken limits scene n [] past m k m' k' done s t good room c x o = record {
   end = s;
   taken = refl;
   open_ = subst (λ d. OpenTx s d)
-  (ap (λ z. body scene z k (done ++ session_of n past ∷ [])) (same_Some _ _ c) ∙ (ap (λ z. body scene m' z (done ++ session_of n past ∷ [])) (same_Some _ _ x)
-  ∙ ap (λ z. body scene m' k' (done ++ session_of n z ∷ [])) (sym (append-nil past)))) o;
+      (ap (λ z. body scene z k (done ++ session_of n past ∷ [])) (same_Some _ _ c) ∙ (ap (λ z. body scene m' z (done ++ session_of n past ∷ [])) (same_Some _ _ x)
+      ∙ ap (λ z. body scene m' k' (done ++ session_of n z ∷ [])) (sym (append-nil past)))) o;
 }
 txs_taken limits scene n (ops ∷ txs) past m k m' k' done s t good room c x o =
     let p = parts m m' (flat_map key_of ops) (flat_map key_of (script_ops txs)) (ap (counted m) (sym (flat_map-append key_of ops (script_ops txs))) ∙ c) in
@@ -164,7 +164,7 @@ sessions_taken limits scene [] m k m' k' done s t good few at_node most c x o = 
   end = s;
   taken = refl;
   open_ = subst (λ d. Open s d)
-  (ap (λ z. body scene z k done) (same_Some _ _ c) ∙ (ap (λ z. body scene m' z done) (same_Some _ _ x) ∙ ap (λ z. body scene m' k' z) (sym (append-nil done)))) o;
+      (ap (λ z. body scene z k done) (same_Some _ _ c) ∙ (ap (λ z. body scene m' z done) (same_Some _ _ x) ∙ ap (λ z. body scene m' k' z) (sym (append-nil done)))) o;
 }
 sessions_taken limits scene (y ∷ ss) m k m' k' done s t good few at_node most c x o =
     let more = sum_by-append (λ z. length z.txs) (y ∷ []) ss in

@@ -109,11 +109,13 @@ scene_whole scene s = record {
     table = is_table scene s.table;
     rows = each_from (IsRow scene.nodes) scene.parts s.rows;
     sessions = each_from (GoodSession scene_limits scene.version scene.nodes scene.keys) scene.sessions
-    (λ i x e.
-    let h = s.sessions i x e in
-    (h.node, each_from (GoodScript scene_limits scene.version scene.keys) x.txs (λ j ops f.
-        let g = h.scripts j ops f in
-        (g.some, g.few, each_from (IsOp scene.version scene.keys) ops g.ops))));
+        (λ i x e.
+        let h = s.sessions i x e in (
+          h.node,
+          each_from (GoodScript scene_limits scene.version scene.keys) x.txs (λ j ops f.
+              let g = h.scripts j ops f in
+              (g.some, g.few, each_from (IsOp scene.version scene.keys) ops g.ops)),
+        ));
     open_ops = tt;
     few_ops = omega arith;
     events = each_from (GoodEvent (length scene.sessions)) scene.schedule (λ i e f. is_event scene e (s.events i e f));
@@ -161,11 +163,13 @@ ranged_whole scene s = record {
     table = is_table scene s.table;
     rows = each_from (IsRow scene.nodes) scene.parts s.rows;
     sessions = sessions_short (limits_of scene) scene.version scene.nodes scene.keys scene.sessions (omega arith)
-    (each_from (λ x. Exists x.node.0 scene.nodes × Each (λ ops. (1 ≤ length ops) × Each (IsOp scene.version scene.keys) ops) x.txs) scene.sessions
-    (λ i x e.
-    let h = s.sessions i x e in
-    (h.node, each_from (λ ops. (1 ≤ length ops) × Each (IsOp scene.version scene.keys) ops) x.txs (λ j ops f.
-        (h.some j ops f, each_from (IsOp scene.version scene.keys) ops (λ k op g. h.ops j k ops op f g))))));
+        (each_from (λ x. Exists x.node.0 scene.nodes × Each (λ ops. (1 ≤ length ops) × Each (IsOp scene.version scene.keys) ops) x.txs) scene.sessions
+        (λ i x e.
+        let h = s.sessions i x e in (
+          h.node,
+          each_from (λ ops. (1 ≤ length ops) × Each (IsOp scene.version scene.keys) ops) x.txs (λ j ops f.
+              (h.some j ops f, each_from (IsOp scene.version scene.keys) ops (λ k op g. h.ops j k ops op f g))),
+        )));
     open_ops = tt;
     few_ops = omega arith;
     events = each_from (GoodEvent (length scene.sessions)) scene.schedule (λ i e f. is_event scene e (s.events i e f));

@@ -6,3 +6,4 @@ pub mod LineOrder
 pub mod SceneLines
 pub mod Taking
 pub mod FirstBad
+pub mod Writing

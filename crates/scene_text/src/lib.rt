@@ -8,6 +8,7 @@ pub mod numbers;
 pub mod order;
 pub mod read_line;
 pub mod splits;
+pub mod write;
 
 pub use lines::{Line, ReadLine, Word};
 pub use order::{Place, follows};
