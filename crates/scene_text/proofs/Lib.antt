@@ -1,4 +1,5 @@
 mod Complete
+mod Ends
 mod EntrySteps
 mod Found
 mod Growing
@@ -13,3 +14,4 @@ mod Settling
 mod Steps
 mod Tests
 mod Wholes
+mod Wider
