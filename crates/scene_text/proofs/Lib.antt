@@ -13,5 +13,6 @@ mod SessionRuns
 mod Settling
 mod Steps
 mod Tests
+mod TextsApart
 mod Wholes
 mod Wider
