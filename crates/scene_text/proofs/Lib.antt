@@ -11,6 +11,7 @@ mod OpSteps
 mod SectionSteps
 mod SessionRuns
 mod Settling
+mod Spelled
 mod Steps
 mod Tests
 mod TextsApart
