@@ -8,10 +8,12 @@ mod Kept
 pub mod NumeralLemmas
 mod OpRuns
 mod OpSteps
+mod Places
 mod SectionSteps
 mod SessionRuns
 mod Settling
 mod Spelled
+mod Splits
 mod Steps
 mod Tests
 mod TextsApart
