@@ -14,6 +14,7 @@ mod SessionRuns
 mod Settling
 mod Spelled
 mod Splits
+mod Starts
 mod Steps
 mod Tests
 mod TextsApart
