@@ -100,7 +100,7 @@ head_taken limits scene w =
     ∙ all_rows_taken limits scene.version scene.nodes scene.parts w.head.parts w.kept.rows w.kept.counts.few_parts
 
 -- the table of a scene within limits
-table_good : (limits : Limits) (scene : Scene) → Whole limits scene → TableGood scene
+pub table_good : (limits : Limits) (scene : Scene) → Whole limits scene → TableGood scene
 table_good limits scene w = record {
   names = w.kept.table.names;
   distinct_names = w.kept.table.distinct_names;

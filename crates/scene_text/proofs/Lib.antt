@@ -1,4 +1,5 @@
 mod Complete
+mod Ends
 mod EntrySteps
 mod Found
 mod Growing
@@ -14,9 +15,15 @@ pub mod WordLemmas
 pub mod WriteLemmas
 mod OpRuns
 mod OpSteps
+mod Places
 mod SectionSteps
 mod SessionRuns
 mod Settling
+mod Spelled
+mod Splits
+mod Starts
 mod Steps
 mod Tests
+mod TextsApart
 mod Wholes
+mod Wider

@@ -48,7 +48,7 @@ pub record KeyGood (scene : Scene) (k : KeyId) : Type 0 where
   pub at : slice_get scene.keys.names k.0 ≡ Some (key_at scene.keys k)
   pub good : IsKey (length scene.parts) (key_at scene.keys k)
 
-key_good : (scene : Scene) (k : KeyId) → TableGood scene → IsKeyOf scene.keys k → KeyGood scene k
+pub key_good : (scene : Scene) (k : KeyId) → TableGood scene → IsKeyOf scene.keys k → KeyGood scene k
 key_good scene k t h =
     let d : List ℕ × PartId = ([], record { 0 = 0 }) in
     let e = slice_get-get_or scene.keys.names k.0 d h in
@@ -61,7 +61,7 @@ pub record TextGood (scene : Scene) (t : TextId) : Type 0 where
   pub at : slice_get scene.keys.texts t.0 ≡ Some (text_at scene.keys t)
   pub good : IsByteText (text_at scene.keys t)
 
-text_good : (scene : Scene) (t : TextId) → TableGood scene → t.0 < length scene.keys.texts → TextGood scene t
+pub text_good : (scene : Scene) (t : TextId) → TableGood scene → t.0 < length scene.keys.texts → TextGood scene t
 text_good scene t g h =
     let e = slice_get-get_or scene.keys.texts t.0 [] h in
     let is : text_at scene.keys t ≡ get_or scene.keys.texts t.0 [] = rw e refl in
