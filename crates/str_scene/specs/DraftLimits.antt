@@ -1,13 +1,16 @@
 -- What the type of a scene that is being built keeps: what a scene keeps, but for the nodes, the first partition and the order of
 -- the table, which may be wanting still.
 use Rattle.std.specs.List.{count_by, sum_by}
-use Rattle.std.specs.Prelude.{List, Some, length, slice_get, ℕ, ◌≡◌, ◌≤◌, ◌⊎◌}
+use Rattle.std.specs.Prelude.{List, Some, length, slice_get, ℕ, ⊤, ◌<◌, ◌^◌, ◌≡◌, ◌≤◌, ◌⊎◌}
 use Rattle.str_base.specs.Versions.{same_node}
 use Rattle.str_base.specs.declared.names.NodeId.{NodeId}
 use Rattle.str_base.specs.declared.names.PartId.{PartId}
-use Rattle.str_scene.specs.SceneLimits.{IsByteText, IsEvent, IsKey, IsRow, IsSession}
+use Rattle.str_scene.specs.SceneLimits.{IsByteText, IsEvent, IsKey, IsNumber, IsRow, IsSession}
 use Rattle.str_scene.specs.Scenes.{Scene, Session}
 use Rattle.str_scene.specs.declared.names.Event.{Event}
+use Rattle.str_scene.specs.declared.names.Event.TheVariants.{Client, Deliver}
+use Rattle.str_scene.specs.declared.names.Op.{Op}
+use Rattle.str_scene.specs.declared.names.Op.TheVariants.{Add, Need, Put}
 
 -- the keys and byte strings so far
 pub record IsDraftTable (d : Scene) : Type 0 where
@@ -31,3 +34,15 @@ pub record IsDraft (d : Scene) : Type 0 where
   pub few_transactions : sum_by (λ s. length s.txs) d.sessions ≤ 1024
   pub few_events : length d.schedule ≤ 65536
   pub events : (i : ℕ) (e : Event) → slice_get d.schedule i ≡ Some e → IsEvent d e
+
+-- the number of an operation has 64 bits
+abbrev pub HasNumber : Op → Type 0
+HasNumber (Put k n) = IsNumber n
+HasNumber (Add k n) = IsNumber n
+HasNumber (Need k n) = IsNumber n
+HasNumber _ = ⊤
+
+-- the numbers of an entry have 64 bits
+abbrev pub HasReading : Event → Type 0
+HasReading (Client s t) = t < 2 ^ 64
+HasReading (Deliver i) = i < 2 ^ 64

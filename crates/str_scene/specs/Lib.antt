@@ -10,3 +10,4 @@ pub mod Keeping
 pub mod Drafts
 pub mod DraftLimits
 pub mod Refusals
+pub mod Numbers

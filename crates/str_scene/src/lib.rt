@@ -1,6 +1,9 @@
 //! A scene: nodes, replicas, scripts and a schedule, with all its limits.
 #![tactic(auto)]
 
+pub mod build;
+#[cfg(test)]
+mod build_tests;
 pub mod faults;
 pub mod first;
 mod first_build;
@@ -9,6 +12,7 @@ pub mod lines;
 pub mod names;
 pub mod scenes;
 
+pub use build::SceneBuild;
 pub use faults::{SceneFault, Why};
 pub use first::{FirstFault, first_scene};
 pub use keys::{ByteText, KeyTable, Name};

@@ -99,7 +99,7 @@ fn all_may_follow(bytes: &[u8]) -> bool
 }
 
 /// The bytes are a name: a letter, then at most 15 letters, digits or underscores.
-fn spells_name(bytes: &[u8]) -> bool
+pub(crate) fn spells_name(bytes: &[u8]) -> bool
     ensures { result ≡ is_name bytes.now }
 {
     let Some((first, rest)) = bytes.split_first() else {

@@ -69,6 +69,15 @@ impl SessionText {
         self.txs.as_slice()
     }
 
+    /// One more script. Where memory runs out nothing changes.
+    pub(crate) fn push(&mut self, ops: OpList) -> Result<(), AllocError>
+        ensures ok { OnOk result (self.new ≡ record self.old { txs = self.old.txs ++ ops ∷ [] }) }
+        ensures err { OnErr result (self.new ≡ self.old) }
+    {
+        self.txs.push(ops)?;
+        Ok(())
+    }
+
     /// An equal session.
     pub fn copy(&self, alloc: Global) -> Result<SessionText, AllocError>
         ensures { IfOk result (λ s. s ≡ self.now) }

@@ -1,0 +1,11 @@
+use Rattle.std.proofs.Common.{ap, length, ◌∙◌}
+use Rattle.str_scene.proofs.Seen.{texts_order}
+use Rattle.str_scene.proofs.build.SceneBuild.texts_in_order.Goals as goal
+
+pub returns : goal.returns
+returns c =
+    c.counts_to.ensures
+    ∙ texts_order c.args.self.now c.as_slice.result.now c.seen_in_sessions-count.result c.texts.result
+    c.seen_in_sessions-count.ensures
+    (c.as_slice.ensures.value ∙ ap (λ d. d.sessions) c.self.view_is)
+    (c.texts.ensures.value ∙ ap (λ d. length d.keys.texts) c.self.view_is)

@@ -1,0 +1,597 @@
+//! A scene that is built item by item. An item that no scene has at its place is refused.
+ghost use Rattle.std.specs.List.{list_all, list_any};
+ghost use Rattle.std.specs.Prelude.{◌≡◌, ◌⊎◌, ◌≤◌, ℕ, None, Some, length, option_to_list, slice_get, IsTrue, IfNone, OnOk, IfOk, IfErr, OnErr};
+ghost use Rattle.str_base.specs.Versions.{same_node};
+ghost use Rattle.str_scene.specs.DraftLimits.{HasNumber, HasReading, IsDraft};
+ghost use Rattle.str_scene.specs.Drafts.{add_tx, drained, empty_draft, is_before_schedule, may_have_tx, with_entry, with_key, with_nodes, with_row, with_session, with_text, with_tx};
+ghost use Rattle.str_scene.specs.Keys.{number_of, string_number};
+ghost use Rattle.str_scene.specs.Numbers.{numbers_of, scene_numbers, script_numbers, session_numbers};
+ghost use Rattle.str_scene.specs.Refusals.{IsRefused, are_distinct, counts_to, drain_fault, entry_fault, finish_fault, first_fault, is_entry, is_known, is_puts, is_row, is_script, is_up_to, key_fault, keys_in_order, nodes_fault, part_fault, session_fault, sessions_at, text_fault, texts_in_order, transaction_count, tx_fault};
+ghost use Rattle.str_scene.specs.SceneLimits.{counted};
+ghost use Rattle.str_scene.specs.declared.names.Op.{Op as AnyOp};
+
+use crate::faults::SceneFault;
+use crate::keys::KeyTable;
+use crate::lines::spells_name;
+use crate::names::{Event, Op, OpList};
+use crate::scenes::{Scene, SessionText};
+use partition_map::PartRow;
+use std::alloc::{AllocError, Global};
+use std::marker::Model;
+use str_base::{KeyId, NodeId, PartId, TextId};
+
+/// A scene so far, item by item in the order of its text. It is seen as the scene with what has been given: the number
+/// of nodes is 0 until it is given. Its type keeps all limits of a scene.
+#[derive(Drop)]
+pub struct SceneBuild {
+    alloc: Global,
+    version: u8,
+    nodes: u8,
+    parts: Vec<PartRow>,
+    keys: KeyTable,
+    sessions: Vec<SessionText>,
+    schedule: Vec<Event>,
+    drain: bool,
+}
+
+impl Model for SceneBuild {
+    ghost use Rattle.str_scene.specs.Scenes.{Scene as Value_};
+    ghost use Rattle.str_scene.specs.DraftLimits.{IsDraft};
+
+    ghost Value = { Value_ };
+
+    ghost view = { λ b. record { version = b.version; nodes = b.nodes; parts = b.parts.items; keys = b.keys; sessions = b.sessions.items; schedule = b.schedule.items; drain = b.drain } };
+
+    ghost invariant = { λ b. IsDraft (record { version = b.version; nodes = b.nodes; parts = b.parts.items; keys = b.keys; sessions = b.sessions.items; schedule = b.schedule.items; drain = b.drain }) };
+}
+
+impl SceneBuild {
+    /// A scene of a version, with nothing given.
+    pub fn new(alloc: Global, version: u8) -> SceneBuild
+        requires { (version ≡ 1) ⊎ (version ≡ 2) }
+        ensures { result ≡ empty_draft version }
+    {
+        SceneBuild {
+            alloc,
+            version,
+            nodes: 0,
+            parts: Vec::new(alloc),
+            keys: KeyTable::new(alloc),
+            sessions: Vec::new(alloc),
+            schedule: Vec::new(alloc),
+            drain: false,
+        }
+    }
+
+    /// Gives the number of nodes, from 1 to 8; it is given first and once. After a refusal the build is as it was.
+    pub fn nodes(&mut self, n: u8) -> Result<(), SceneFault>
+        ensures added { OnOk result (self.new ≡ with_nodes n self.old) }
+        ensures allowed { OnOk result (nodes_fault n self.old ≡ None) }
+        ensures refused { IfErr result (λ f. nodes_fault n self.old ≡ Some f) }
+        ensures err { OnErr result (self.new ≡ self.old) }
+    {
+        if let Some(fault) = self.nodes_fault(n) {
+            return Err(fault);
+        }
+        self.nodes = n;
+        Ok(())
+    }
+
+    /// Gives the next partition, by its replicas of which the first is the master. Partitions come after the number of
+    /// nodes and before sessions; there are at most 32. A row is one node or more of the scene, none twice. After a refusal the
+    /// build is as it was.
+    pub fn part(&mut self, row: PartRow) -> Result<(), SceneFault>
+        ensures added { OnOk result (self.new ≡ with_row row self.old) }
+        ensures allowed { OnOk result (part_fault row self.old ≡ None) }
+        ensures refused { IfErr result (λ f. IsRefused (part_fault row self.old) f) }
+        ensures err { OnErr result (self.new ≡ self.old) }
+    {
+        if let Some(fault) = self.part_fault(&row) {
+            return Err(fault);
+        }
+        let Ok(()) = self.parts.push(row) else {
+            return Err(SceneFault::Memory);
+        };
+        Ok(())
+    }
+
+    /// Gives the next session, at a node of the scene. Sessions come after a partition and before the schedule; there are at
+    /// most 64, and at most 16 at a node. After a refusal the build is as it was.
+    pub fn session(&mut self, node: NodeId) -> Result<(), SceneFault>
+        ensures added { OnOk result (self.new ≡ with_session node self.old) }
+        ensures allowed { OnOk result (session_fault node self.old ≡ None) }
+        ensures refused { IfErr result (λ f. IsRefused (session_fault node self.old) f) }
+        ensures err { OnErr result (self.new ≡ self.old) }
+    {
+        if let Some(fault) = self.session_fault(node) {
+            return Err(fault);
+        }
+        let session = SessionText::new(node, Vec::new(self.alloc));
+        let Ok(()) = self.sessions.push(session) else {
+            return Err(SceneFault::Memory);
+        };
+        Ok(())
+    }
+
+    /// Gives the next transaction of the last session: one operation or more, whose keys and byte strings are in the table
+    /// already; byte strings are written in version 2 alone. There are at most 1024 transactions. After a refusal the build
+    /// is as it was.
+    pub fn tx(&mut self, ops: OpList) -> Result<(), SceneFault>
+        ensures added { OnOk result (self.new ≡ with_tx ops self.old) }
+        ensures allowed { OnOk result (tx_fault ops self.old ≡ None) }
+        ensures refused { IfErr result (λ f. IsRefused (tx_fault ops self.old) f) }
+        ensures err { OnErr result (self.new ≡ self.old) }
+    {
+        if let Some(fault) = self.tx_fault(&ops) {
+            return Err(fault);
+        }
+        let Ok(()) = push_to_last(&mut self.sessions, ops) else {
+            return Err(SceneFault::Memory);
+        };
+        Ok(())
+    }
+
+    /// Gives the next entry of the schedule. Entries come after a partition and before the drain; there are at most 65,536.
+    /// After a refusal the build is as it was.
+    pub fn entry(&mut self, event: Event) -> Result<(), SceneFault>
+        ensures added { OnOk result (self.new ≡ with_entry event self.old) }
+        ensures allowed { OnOk result (entry_fault event self.old ≡ None) }
+        ensures refused { IfErr result (λ f. IsRefused (entry_fault event self.old) f) }
+        ensures err { OnErr result (self.new ≡ self.old) }
+    {
+        if let Some(fault) = self.entry_fault(event) {
+            return Err(fault);
+        }
+        let Ok(()) = self.schedule.push(event) else {
+            return Err(SceneFault::Memory);
+        };
+        Ok(())
+    }
+
+    /// Gives the drain, after a partition, once and last. After a refusal the build is as it was.
+    pub fn drain(&mut self) -> Result<(), SceneFault>
+        ensures added { OnOk result (self.new ≡ drained self.old) }
+        ensures allowed { OnOk result (drain_fault self.old ≡ None) }
+        ensures refused { IfErr result (λ f. drain_fault self.old ≡ Some f) }
+        ensures err { OnErr result (self.new ≡ self.old) }
+    {
+        if let Some(fault) = self.drain_fault() {
+            return Err(fault);
+        }
+        self.drain = true;
+        Ok(())
+    }
+
+    /// The number of a key in the table, where it is put at the end if it is not there. A key may stand where a transaction
+    /// may stand; it is a name and a partition of the scene, and there are at most 16,384. After a refusal the build is as it was.
+    pub fn key(&mut self, name: &[u8], part: PartId) -> Result<KeyId, SceneFault>
+        ensures number { IfOk result (λ k. number_of (name.now, part) self.old.keys.names ≡ Some k) }
+        ensures added { OnOk result (self.new ≡ with_key (name.now, part) self.old) }
+        ensures allowed { OnOk result (key_fault (name.now, part) self.old ≡ None) }
+        ensures refused { IfErr result (λ f. IsRefused (key_fault (name.now, part) self.old) f) }
+        ensures err { OnErr result (self.new ≡ self.old) }
+    {
+        if let Some(fault) = self.key_fault(name, part) {
+            return Err(fault);
+        }
+        let Ok(key) = self.keys.intern(name, part) else {
+            return Err(SceneFault::Memory);
+        };
+        Ok(key)
+    }
+
+    /// The number of a byte string in the table, where it is put at the end if it is not there. It may stand where a
+    /// transaction may stand; it has at most 64 bytes, and there are at most 16,384. After a refusal the build is as it was.
+    pub fn text(&mut self, bytes: &[u8]) -> Result<TextId, SceneFault>
+        ensures number { IfOk result (λ t. string_number bytes.now self.old.keys.texts ≡ Some t) }
+        ensures added { OnOk result (self.new ≡ with_text bytes.now self.old) }
+        ensures allowed { OnOk result (text_fault bytes.now self.old ≡ None) }
+        ensures refused { IfErr result (λ f. IsRefused (text_fault bytes.now self.old) f) }
+        ensures err { OnErr result (self.new ≡ self.old) }
+    {
+        if let Some(fault) = self.text_fault(bytes) {
+            return Err(fault);
+        }
+        let Ok(text) = self.keys.intern_text(bytes) else {
+            return Err(SceneFault::Memory);
+        };
+        Ok(text)
+    }
+
+    /// The scene, where the number of nodes and a partition were given, and the operations first name the keys of the table
+    /// in their order and all of them, and the byte strings likewise; else `Form`. It takes no memory.
+    pub fn finish(self) -> Result<Scene, SceneFault>
+        ensures scene { IfOk result (λ s. s ≡ self) }
+        ensures allowed { OnOk result (finish_fault self ≡ None) }
+        ensures refused { IfErr result (λ f. finish_fault self ≡ Some f) }
+    {
+        if let Some(fault) = self.finish_fault() {
+            return Err(fault);
+        }
+        Ok(Scene::new(
+            self.version,
+            self.nodes,
+            self.parts,
+            self.keys,
+            self.sessions,
+            self.schedule,
+            self.drain,
+        ))
+    }
+
+    /// The keys and byte strings so far.
+    pub fn keys(&self) -> &KeyTable
+        ensures value { result.now ≡ self.now.keys }
+        ensures limits { IsDraft self.now }
+    {
+        &self.keys
+    }
+
+    /// The number of partitions so far.
+    pub fn parts(&self) -> usize
+        ensures value { result ≡ length self.now.parts }
+        ensures limits { IsDraft self.now }
+    {
+        self.parts.len()
+    }
+
+    /// The number of sessions so far.
+    pub fn sessions(&self) -> usize
+        ensures value { result ≡ length self.now.sessions }
+        ensures limits { IsDraft self.now }
+    {
+        self.sessions.len()
+    }
+
+    /// The number of transactions so far.
+    pub fn transactions(&self) -> usize
+        ensures value { result ≡ transaction_count self.now.sessions }
+        ensures limits { IsDraft self.now }
+    {
+        self.sessions.iter().map(|s| s.txs().len()).sum()
+    }
+
+    /// Whether a transaction, a key or a byte string may stand here.
+    fn may_have_tx(&self) -> bool
+        ensures { result ≡ may_have_tx self.now }
+    {
+        !self.sessions.is_empty() && self.is_before_schedule()
+    }
+
+    /// Whether the schedule has not begun.
+    fn is_before_schedule(&self) -> bool
+        ensures { result ≡ is_before_schedule self.now }
+    {
+        self.schedule.is_empty() && !self.drain
+    }
+
+    fn nodes_fault(&self, n: u8) -> Option<SceneFault>
+        ensures { result ≡ nodes_fault n self.now }
+    {
+        first_fault(self.nodes == 0, is_up_to(8, n), true)
+    }
+
+    fn part_fault(&self, row: &PartRow) -> Option<SceneFault>
+        ensures fault { result ≡ part_fault row.now self.now }
+        ensures limit { length row.now ≤ 8 }
+    {
+        let may_stand = self.nodes != 0 && self.sessions.is_empty() && self.is_before_schedule();
+        first_fault(
+            may_stand && row.len() > 0,
+            is_row(self.nodes, row.as_slice()),
+            self.parts.len() < 32,
+        )
+    }
+
+    fn session_fault(&self, node: NodeId) -> Option<SceneFault>
+        ensures { result ≡ session_fault node self.now }
+    {
+        let may_stand = !self.parts.is_empty() && self.is_before_schedule();
+        let has_room = self.sessions.len() < 64 && sessions_at(node, self.sessions.as_slice()) < 16;
+        first_fault(
+            may_stand,
+            is_up_to(usize::from(self.nodes), node.0),
+            has_room,
+        )
+    }
+
+    fn tx_fault(&self, ops: &OpList) -> Option<SceneFault>
+        ensures fault { result ≡ tx_fault ops.now self.now }
+        ensures numbers { IfNone result ((i : ℕ) (op : AnyOp) → slice_get ops.now i ≡ Some op → HasNumber op) }
+        ensures limit { length ops.now ≤ 16 }
+    {
+        let ops = ops.as_slice();
+        first_fault(
+            self.may_have_tx() && is_script(self.version, ops),
+            are_known(&self.keys, ops),
+            self.transactions() < 1024,
+        )
+    }
+
+    fn entry_fault(&self, event: Event) -> Option<SceneFault>
+        ensures fault { result ≡ entry_fault event self.now }
+        ensures numbers { HasReading event }
+    {
+        first_fault(
+            !self.parts.is_empty() && !self.drain,
+            is_entry(self.sessions.len(), event),
+            self.schedule.len() < 65_536,
+        )
+    }
+
+    fn drain_fault(&self) -> Option<SceneFault>
+        ensures { result ≡ drain_fault self.now }
+    {
+        first_fault(!self.parts.is_empty() && !self.drain, true, true)
+    }
+
+    fn key_fault(&self, name: &[u8], part: PartId) -> Option<SceneFault>
+        ensures { result ≡ key_fault (name.now, part) self.now }
+    {
+        if !self.may_have_tx() {
+            return Some(SceneFault::Form);
+        }
+        if !spells_name(name) || !is_up_to(self.parts.len(), part.0) {
+            return Some(SceneFault::Range);
+        }
+        first_fault(true, true, self.keys.has_room(name, part))
+    }
+
+    fn text_fault(&self, bytes: &[u8]) -> Option<SceneFault>
+        ensures { result ≡ text_fault bytes.now self.now }
+    {
+        if !self.may_have_tx() {
+            return Some(SceneFault::Form);
+        }
+        if bytes.len() > 64 {
+            return Some(SceneFault::Range);
+        }
+        first_fault(true, true, self.keys.has_text_room(bytes))
+    }
+
+    fn finish_fault(&self) -> Option<SceneFault>
+        ensures { result ≡ finish_fault self.now }
+    {
+        let is_begun = self.nodes != 0 && !self.parts.is_empty();
+        first_fault(
+            is_begun && (self.keys_in_order() && self.texts_in_order()),
+            true,
+            true,
+        )
+    }
+
+    /// Whether the operations first name the keys of the table in their order, and all of them.
+    fn keys_in_order(&self) -> bool
+        ensures { result ≡ keys_in_order self.now }
+    {
+        let count = seen_in_sessions(Numbered::Keys, self.sessions.as_slice());
+        counts_to(count, self.keys.len() as u64)
+    }
+
+    /// The same of the byte strings.
+    fn texts_in_order(&self) -> bool
+        ensures { result ≡ texts_in_order self.now }
+    {
+        let count = seen_in_sessions(Numbered::Texts, self.sessions.as_slice());
+        counts_to(count, self.keys.texts() as u64)
+    }
+}
+
+/// The first that fails, as a fault.
+fn first_fault(stands: bool, in_range: bool, has_room: bool) -> Option<SceneFault>
+    ensures { result ≡ first_fault stands in_range has_room }
+{
+    if !stands {
+        return Some(SceneFault::Form);
+    }
+    if !in_range {
+        return Some(SceneFault::Range);
+    }
+    if !has_room {
+        return Some(SceneFault::Count);
+    }
+    None
+}
+
+/// Whether a number is from 1 to the last.
+fn is_up_to(last: usize, n: u8) -> bool
+    ensures { result ≡ is_up_to last n }
+{
+    1 <= n && usize::from(n) <= last
+}
+
+/// Whether the node is one of these.
+fn is_among(n: NodeId, nodes: &[NodeId]) -> bool
+    ensures { result ≡ list_any (same_node n) nodes.now }
+{
+    nodes.iter().any(|m| n.0 == m.0)
+}
+
+/// Whether no node stands twice.
+fn are_distinct(row: &[NodeId]) -> bool
+    ensures { result ≡ are_distinct row.now }
+{
+    for i in 0..row.len() {
+        if is_among(row[i], &row[i + 1..]) {
+            return false;
+        }
+    }
+    true
+}
+
+/// Whether these are nodes of the scene, none twice.
+fn is_row(nodes: u8, row: &[NodeId]) -> bool
+    ensures { result ≡ is_row nodes row.now }
+{
+    are_nodes(nodes, row) && are_distinct(row)
+}
+
+/// Whether these are nodes of the scene.
+fn are_nodes(nodes: u8, row: &[NodeId]) -> bool
+    ensures { result ≡ list_all (λ n. is_up_to nodes n.0) row.now }
+{
+    let last = usize::from(nodes);
+    row.iter().all(|n| is_up_to(last, n.0))
+}
+
+/// How many sessions are at a node.
+fn sessions_at(n: NodeId, sessions: &[SessionText]) -> usize
+    ensures { result ≡ sessions_at n sessions.now }
+{
+    sessions.iter().filter(|s| s.node().0 == n.0).count()
+}
+
+/// Whether an operation writes a byte string.
+fn is_puts(op: Op) -> bool
+    ensures { result ≡ is_puts op }
+{
+    matches!(op, Op::Puts(..))
+}
+
+/// Whether the operations are some, and write byte strings in version 2 alone.
+fn is_script(version: u8, ops: &[Op]) -> bool
+    ensures { result ≡ is_script version ops.now }
+{
+    !ops.is_empty() && (version == 2 || !has_puts(ops))
+}
+
+/// Whether one of the operations writes a byte string.
+fn has_puts(ops: &[Op]) -> bool
+    ensures { result ≡ list_any is_puts ops.now }
+{
+    ops.iter().any(|op| is_puts(*op))
+}
+
+/// Whether the keys and byte strings that an operation names are in the table.
+fn is_known(table: &KeyTable, op: Op) -> bool
+    ensures known { result ≡ is_known table.now op }
+    ensures number { HasNumber op }
+{
+    match op {
+        Op::Get(k) | Op::Del(k) => k.0 < table.len(),
+        Op::Put(k, _) | Op::Add(k, _) | Op::Need(k, _) => k.0 < table.len(),
+        Op::Puts(k, t) => k.0 < table.len() && t.0 < table.texts(),
+        Op::Abort => true,
+    }
+}
+
+/// Whether the keys and byte strings that the operations name are in the table.
+fn are_known(table: &KeyTable, ops: &[Op]) -> bool
+    ensures known { result ≡ list_all (is_known table.now) ops.now }
+    ensures numbers { IsTrue result → (i : ℕ) (op : AnyOp) → slice_get ops.now i ≡ Some op → HasNumber op }
+{
+    for op in ops {
+        if !is_known(table, *op) {
+            return false;
+        }
+    }
+    true
+}
+
+/// Whether what an entry names is in range, with so many sessions.
+fn is_entry(sessions: usize, event: Event) -> bool
+    ensures entry { result ≡ is_entry sessions event }
+    ensures numbers { HasReading event }
+{
+    match event {
+        Event::Client { session, .. } => is_up_to(sessions, session.0),
+        Event::Deliver { index } => 1 <= index,
+    }
+}
+
+/// The last session with one more transaction, where there is a session. Where memory runs out nothing changes.
+fn push_to_last(sessions: &mut Vec<SessionText>, ops: OpList) -> Result<(), AllocError>
+    ensures ok { OnOk result (sessions.new.items ≡ add_tx ops sessions.old.items) }
+    ensures err { OnErr result (sessions.new.items ≡ sessions.old.items) }
+{
+    let Some(session) = sessions.last_mut() else {
+        return Ok(());
+    };
+    session.push(ops)?;
+    Ok(())
+}
+
+/// What operations name by number.
+#[derive(Clone, Copy)]
+enum Numbered {
+    Keys,
+    Texts,
+}
+
+/// The number of a kind that an operation names.
+fn number_in(what: Numbered, op: Op) -> Option<u32>
+    ensures { option_to_list result ≡ numbers_of what op }
+{
+    match (what, op) {
+        (Numbered::Keys, Op::Get(k) | Op::Del(k) | Op::Puts(k, _)) => Some(k.0),
+        (Numbered::Keys, Op::Put(k, _) | Op::Add(k, _) | Op::Need(k, _)) => Some(k.0),
+        (Numbered::Texts, Op::Puts(_, t)) => Some(t.0),
+        _ => None,
+    }
+}
+
+/// How many numbers have been seen with those of an operation.
+fn seen_in_op(what: Numbered, seen: u64, op: Op) -> Option<u64>
+    ensures { result ≡ counted seen (numbers_of what op) }
+{
+    let Some(number) = number_in(what, op) else {
+        return Some(seen);
+    };
+    let number = u64::from(number);
+    if number < seen {
+        return Some(seen);
+    }
+    if number == seen {
+        return Some(number + 1);
+    }
+    None
+}
+
+/// How many numbers have been seen with those of a script.
+fn seen_in_script(what: Numbered, start: u64, ops: &[Op]) -> Option<u64>
+    ensures { result ≡ counted start (script_numbers what ops.now) }
+{
+    let mut seen = start;
+    for op in ops {
+        seen = seen_in_op(what, seen, *op)?;
+    }
+    Some(seen)
+}
+
+/// How many numbers have been seen with those of a session.
+fn seen_in_session(what: Numbered, start: u64, txs: &[OpList]) -> Option<u64>
+    ensures { result ≡ counted start (session_numbers what txs.now) }
+{
+    let mut seen = start;
+    for ops in txs {
+        let Some(next) = seen_in_script(what, seen, ops.as_slice()) else {
+            return None;
+        };
+        seen = next;
+    }
+    Some(seen)
+}
+
+/// How many numbers the sessions name, where they first appear in the order 0, 1, 2 and so on.
+fn seen_in_sessions(what: Numbered, sessions: &[SessionText]) -> Option<u64>
+    ensures { result ≡ counted 0 (scene_numbers what sessions.now) }
+{
+    let mut seen = 0;
+    for session in sessions {
+        let Some(next) = seen_in_session(what, seen, session.txs()) else {
+            return None;
+        };
+        seen = next;
+    }
+    Some(seen)
+}
+
+/// Whether the numbers count to so many.
+fn counts_to(count: Option<u64>, n: u64) -> bool
+    ensures { result ≡ counts_to count n }
+{
+    match count {
+        None => false,
+        Some(m) => m == n,
+    }
+}
