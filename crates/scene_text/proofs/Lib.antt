@@ -1,3 +1,4 @@
+mod Bad
 mod Complete
 mod Ends
 mod EntrySteps
@@ -9,6 +10,7 @@ pub mod NumeralLemmas
 mod OpRuns
 mod OpSteps
 mod Places
+pub mod ReaderLemmas
 mod SectionSteps
 mod SessionRuns
 mod Settling

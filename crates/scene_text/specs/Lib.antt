@@ -3,4 +3,5 @@ pub mod LineTexts
 pub mod LineOrder
 pub mod SceneLines
 pub mod Taking
+pub mod Reaching
 pub mod FirstBad
