@@ -2,6 +2,8 @@ mod Bad
 mod Complete
 mod Ends
 mod EntrySteps
+pub mod FirstBadLaws
+pub mod Fitting
 mod Found
 mod Growing
 mod HeadSteps

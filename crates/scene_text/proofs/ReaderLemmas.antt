@@ -43,7 +43,7 @@ reached_line text start feed n line l s t r passed form is next = record {
 }
 
 -- lines of the form before a split
-split_read : (read : List Line) (bytes : List ℕ) (lines : List (List ℕ)) (tail : List ℕ) → Each IsForm read → IsSplit bytes lines tail →
+pub split_read : (read : List Line) (bytes : List ℕ) (lines : List (List ℕ)) (tail : List ℕ) → Each IsForm read → IsSplit bytes lines tail →
     IsSplit (flat_map ended (map line_text read) ++ bytes) (map line_text read ++ lines) tail
 split_read [] bytes lines tail f s = s
 split_read (l ∷ ls) bytes lines tail f s =
