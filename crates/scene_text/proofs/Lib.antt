@@ -1,6 +1,9 @@
+mod Bad
 mod Complete
 mod Ends
 mod EntrySteps
+pub mod FirstBadLaws
+pub mod Fitting
 mod Found
 mod Growing
 mod HeadSteps
@@ -16,6 +19,7 @@ pub mod WriteLemmas
 mod OpRuns
 mod OpSteps
 mod Places
+pub mod ReaderLemmas
 mod SectionSteps
 mod SessionRuns
 mod Settling

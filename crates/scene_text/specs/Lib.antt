@@ -5,5 +5,6 @@ pub mod HexDigits
 pub mod LineOrder
 pub mod SceneLines
 pub mod Taking
+pub mod Reaching
 pub mod FirstBad
 pub mod Writing
