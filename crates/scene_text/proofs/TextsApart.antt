@@ -203,7 +203,7 @@ line_text-no_feed (LPuts name p xs) f = key_and-no_feed name p (bytes_text xs) f
 line_text-no_feed (LAdd name p n) f = key_and-no_feed name p (signed_numeral n) f (signed_numeral-without 10 n refl refl)
 line_text-no_feed (LDel name p) f = key-no_feed name p f
 line_text-no_feed (LNeed name p n) f = key_and-no_feed name p (signed_numeral n) f (signed_numeral-without 10 n refl refl)
-line_text-no_feed (LClient s t) f = 
+line_text-no_feed (LClient s t) f =
     is_without-append 10 (numeral s.0 ++ codes " ") (numeral t) (is_without-append 10 (numeral s.0) (codes " ") (numeral-without 10 s.0 refl) refl) (numeral-without 10 t refl)
 line_text-no_feed (LDeliver i) f = numeral-without 10 i refl
 line_text-no_feed _ f = refl

@@ -7,7 +7,7 @@ ghost use Rattle.str_base.specs.declared.names.NodeId.{NodeId as Node};
 use crate::keys::{read_bytes, read_key};
 use crate::lines::{Line, Word};
 use crate::numbers::{read_number, read_signed, read_small};
-use crate::splits::{is_same, split_at_byte};
+use crate::parting::{is_same, split_at_byte};
 use partition_map::PartRow;
 use str_base::{NodeId, PartId, SessionId};
 use str_scene::Name;

@@ -6,7 +6,7 @@ ghost use Rattle.scene_text.specs.LineReading.{SpellsBytes, SpellsKey, SpellsNoB
 ghost use Rattle.str_scene.specs.SceneLimits.{in_name, is_name};
 
 use crate::numbers::read_small;
-use crate::splits::{rest_after, split_at_byte};
+use crate::parting::{rest_after, split_at_byte};
 use str_base::PartId;
 use str_scene::{ByteText, Name};
 

@@ -6,8 +6,8 @@ pub mod keys;
 pub mod lines;
 pub mod numbers;
 pub mod order;
+pub mod parting;
 pub mod read_line;
-pub mod splits;
 pub mod write;
 
 pub use lines::{Line, ReadLine, Word};

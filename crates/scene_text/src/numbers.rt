@@ -6,7 +6,7 @@ ghost use Rattle.std.specs.Prelude.{◌≡◌, ◌<◌, ◌^◌, ◌∷◌, [], 
 ghost use Rattle.scene_text.specs.LineReading.{Spells, SpellsNoSigned, SpellsNone, SpellsSigned};
 ghost use Rattle.scene_text.specs.Numerals.{numeral, signed_numeral};
 
-use crate::splits::{is_same, rest_after};
+use crate::parting::{is_same, rest_after};
 use str_base::{read_i64, read_u64};
 
 /// The text is a zero, or begins with a byte above zero, as every decimal does.

@@ -10,7 +10,7 @@ use crate::arguments::{
     put_line, puts_line, session_line, version_line,
 };
 use crate::lines::{Line, ReadLine, Word};
-use crate::splits::{is_same, split_at_byte};
+use crate::parting::{is_same, split_at_byte};
 
 /// The kind of an operation's line whose first word these bytes are.
 fn operation_word(bytes: &[u8]) -> Option<Word>

@@ -1,5 +1,5 @@
 use Rattle.scene_text.proofs.SplitLemmas.{not_stripped, stripped}
-use Rattle.scene_text.proofs.splits.rest_after.Goals as goal
+use Rattle.scene_text.proofs.parting.rest_after.Goals as goal
 
 pub returns-clause-rest : goal.returns-clause-rest
 returns-clause-rest c = stripped _ _ c.strip_prefix.result c.strip_prefix.ensures.cases
