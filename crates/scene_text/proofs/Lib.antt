@@ -31,3 +31,6 @@ mod Tests
 mod TextsApart
 mod Wholes
 mod Wider
+mod Judging
+mod TableRoom
+mod FirstLine

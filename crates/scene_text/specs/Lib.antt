@@ -6,5 +6,6 @@ pub mod LineOrder
 pub mod SceneLines
 pub mod Taking
 pub mod Reaching
+pub mod Reading
 pub mod FirstBad
 pub mod Writing
