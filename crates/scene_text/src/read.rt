@@ -470,3 +470,69 @@ pub fn read_scene(alloc: Global, text: &[u8]) -> Result<Scene, TextFault>
         Err(_) => Err(TextFault::Memory),
     }
 }
+
+#[cfg(test)]
+mod tests {
+    use super::*;
+    use crate::write::write_scene;
+    use std::test::Fail;
+
+    const HEAD: &[u8] = b"str 2\nnodes 2\npart 1 1 2\n";
+
+    #[test]
+    fn bad_lines(rt: HostRuntime) {
+        let cases: [(&[u8], u64, Why); 12] = [
+            (b"", 1, Why::Cut),
+            (b"str 3\n", 1, Why::Form),
+            (b"str 1\nnodes 1\npart 1 1\nsched", 4, Why::Cut),
+            (b"str 1\nnodes 01\n", 2, Why::Form),
+            (b"str 1\nnodes 9\n", 2, Why::Range),
+            (b"str 1\nnodes 99999999999999999999999\n", 2, Why::Range),
+            (b"str 1\nnodes 1\npart 1 1 1\n", 3, Why::Range),
+            (
+                b"str 1\nnodes 1\npart 1 1\nsession 1\ntx\nput a@1 +5\n",
+                6,
+                Why::Form,
+            ),
+            (
+                b"str 1\nnodes 1\npart 1 1\nsession 1\ntx\nputs a@1 x68\n",
+                6,
+                Why::Form,
+            ),
+            (
+                b"str 2\nnodes 1\npart 1 1\nsession 1\ntx\nputs a@1 X68\n",
+                6,
+                Why::Form,
+            ),
+            (b"str 1\nnodes 1\npart 1 1\nschedule\nd 0\n", 5, Why::Range),
+            (
+                b"str 1\nnodes 1\npart 1 1\nschedule\nend\nend\n",
+                6,
+                Why::Form,
+            ),
+        ];
+        for (text, line, why) in cases {
+            match read_scene(rt.alloc(), text) {
+                Ok(_) => assert!(rt; false),
+                Err(fault) => assert_eq!(rt; fault, TextFault::Bad { line, why }),
+            }
+        }
+    }
+
+    #[test]
+    fn reads_and_writes(rt: HostRuntime) -> Result<(), Fail> {
+        let mut text = Vec::new(rt.alloc());
+        text.extend_from_slice(HEAD)?;
+        text.extend_from_slice(
+            b"session 2\ntx\nput a@1 -5\nputs b_1@1 x00ff\nneed a@1 0\ntx\nget a@1\nadd a@1 3\ndel b_1@1\nabort\nschedule\nc 1 10\nd 3\ndrain\nend\n",
+        )?;
+        match read_scene(rt.alloc(), text.as_slice()) {
+            Ok(scene) => {
+                let again = write_scene(rt.alloc(), &scene)?;
+                assert_eq!(rt; again.as_slice(), text.as_slice());
+            }
+            Err(fault) => assert_eq!(rt; fault, TextFault::Memory),
+        }
+        Ok(())
+    }
+}
