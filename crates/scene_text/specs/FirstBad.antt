@@ -1,11 +1,11 @@
 -- The first bad line of a text that is no scene's, and why it is bad.
 use Rattle.std.specs.List.{list_all}
-use Rattle.std.specs.Prelude.{List, Some, [], length, map, not, slice_get, suc, take, true, ℕ, ◌++◌, ◌+◌, ◌==◌, ◌∷◌, ◌≡◌, ◌≤◌, ◌≢◌, flat_map, ◌⊎◌}
+use Rattle.std.specs.Prelude.{List, Some, [], length, map, not, slice_get, suc, take, true, ℕ, ◌++◌, ◌+◌, ◌==◌, ◌≡◌, ◌≤◌, ◌≢◌, flat_map, ◌⊎◌}
 use Rattle.scene_text.specs.declared.lines.Line.{Line}
 use Rattle.scene_text.specs.LineOrder.{Place, place_after}
 use Rattle.scene_text.specs.LineTexts.{IsForm, line_text}
+use Rattle.scene_text.specs.SceneLines.{lines_of}
 use Rattle.str_base.specs.declared.names.NodeId.{NodeId}
-use Rattle.str_base.specs.declared.names.PartId.{PartId}
 use Rattle.str_scene.specs.declared.names.Event.{Event}
 use Rattle.str_scene.specs.declared.names.Op.{Op}
 use Rattle.str_scene.specs.SceneLimits.{Exists, IsEvent, IsOp, IsRow, IsScene, IsTable}
@@ -57,12 +57,12 @@ pub record IsRanged (scene : Scene) : Type 0 where
   pub sessions : (i : ℕ) (s : Session) → slice_get scene.sessions i ≡ Some s → IsRangedSession scene s
   pub events : (i : ℕ) (e : Event) → slice_get scene.schedule i ≡ Some e → IsEvent scene e
 
--- the first lines of the text of such a scene: all numbers of the lines are in range
+-- the first lines of the text of such a scene, whose numbers are spelled however great they are: all numbers of the lines are in range
 pub record IsInRange (lines : List (List ℕ)) : Type 0 where
   pub scene : Scene
   pub rest : List (List ℕ)
   pub ranged : IsRanged scene
-  pub text : scene_lines scene ≡ lines ++ rest
+  pub text : map line_text (lines_of scene) ≡ lines ++ rest
 
 -- the line is cut: no line feed ends it, or it is missing
 pub record IsCut (lines : List (List ℕ)) (tail : List ℕ) (line : ℕ) : Type 0 where

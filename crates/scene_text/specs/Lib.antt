@@ -1,3 +1,11 @@
+pub mod Numerals
 pub mod LineTexts
+pub mod LineReading
+pub mod HexDigits
 pub mod LineOrder
+pub mod SceneLines
+pub mod Taking
+pub mod Reaching
+pub mod Reading
 pub mod FirstBad
+pub mod Writing

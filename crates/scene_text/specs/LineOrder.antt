@@ -1,20 +1,9 @@
 -- The order of the lines of a scene's text, by their words alone.
 use Rattle.std.specs.Prelude.{List, None, Option, Some, [], if◌then◌else◌, ℕ, ◌==◌, ◌∷◌}
 use Rattle.scene_text.specs.declared.lines.Line.{Line}
+pub use Rattle.scene_text.specs.declared.order.Place.{Place}
+pub use Rattle.scene_text.specs.declared.order.Place.TheVariants.{AfterDrain, AfterEnd, AfterNodes, AfterOp, AfterPart, AfterSession, AfterTx, AfterVersion, AtStart, InSchedule}
 use Rattle.scene_text.specs.declared.lines.Line.TheVariants.{Abort, Add, Client, Del, Deliver, Drain, End, Get, Need, Nodes, Part, Put, Puts, Schedule, Session, Tx, Version}
-
--- what the lines so far end with
-pub data Place : Type 0 where
-  AtStart : Place
-  AfterVersion : Place
-  AfterNodes : Place
-  AfterPart : Place
-  AfterSession : Place
-  AfterTx : Place
-  AfterOp : Place
-  InSchedule : Place
-  AfterDrain : Place
-  AfterEnd : Place
 
 -- an operation may follow a transaction's first line or another operation
 abbrev pub op_follows : Place → Option Place

@@ -1,17 +1,16 @@
 -- How a line of a scene's text is spelled. A line stands here with any numbers, however great: its type in the code bounds them.
-use Rattle.std.specs.Fmt.{signed_decimal}
 use Rattle.std.specs.List.{list_all}
-use Rattle.std.specs.Prelude.{List, codes, decimal, flat_map, length, nat_lt, true, ℕ, ⊤, ◌++◌, ◌^◌, ◌<◌, ◌≡◌, ◌≤◌, ◌⊎◌}
+use Rattle.std.specs.Prelude.{List, codes, flat_map, length, nat_lt, true, ℕ, ⊤, ◌++◌, ◌^◌, ◌<◌, ◌≡◌, ◌≤◌, ◌⊎◌}
 use Rattle.scene_text.specs.declared.lines.Line.{Line}
 use Rattle.scene_text.specs.declared.lines.Line.TheVariants.{Abort, Add, Client, Del, Deliver, Drain, End, Get, Need, Nodes, Part, Put, Puts, Schedule, Session, Tx, Version}
-use Rattle.str_base.specs.declared.names.NodeId.{NodeId}
+use Rattle.scene_text.specs.Numerals.{numeral, signed_numeral}
 use Rattle.str_base.specs.declared.names.PartId.{PartId}
 use Rattle.str_scene.specs.SceneLimits.{IsNumber, is_name}
 use Rattle.str_scene.specs.Spelling.{hex_byte}
 
 -- a key as text: its name, @ and its partition
 abbrev pub key_text : List ℕ → PartId → List ℕ
-key_text name p = name ++ codes "@" ++ decimal p.0
+key_text name p = name ++ codes "@" ++ numeral p.0
 
 -- a byte string as text: x, then two digits for each byte
 abbrev pub bytes_text : List ℕ → List ℕ
@@ -19,21 +18,21 @@ bytes_text bytes = codes "x" ++ flat_map hex_byte bytes
 
 -- a line, without its line feed
 abbrev pub line_text : Line → List ℕ
-line_text (Version v) = codes "str " ++ decimal v
-line_text (Nodes n) = codes "nodes " ++ decimal n
-line_text (Part p row) = codes "part " ++ decimal p.0 ++ flat_map (λ r. codes " " ++ decimal r.0) row
-line_text (Session n) = codes "session " ++ decimal n.0
+line_text (Version v) = codes "str " ++ numeral v
+line_text (Nodes n) = codes "nodes " ++ numeral n
+line_text (Part p row) = codes "part " ++ numeral p.0 ++ flat_map (λ r. codes " " ++ numeral r.0) row
+line_text (Session n) = codes "session " ++ numeral n.0
 line_text Tx = codes "tx"
 line_text (Get name p) = codes "get " ++ key_text name p
-line_text (Put name p n) = codes "put " ++ key_text name p ++ codes " " ++ signed_decimal n
+line_text (Put name p n) = codes "put " ++ key_text name p ++ codes " " ++ signed_numeral n
 line_text (Puts name p bytes) = codes "puts " ++ key_text name p ++ codes " " ++ bytes_text bytes
-line_text (Add name p n) = codes "add " ++ key_text name p ++ codes " " ++ signed_decimal n
+line_text (Add name p n) = codes "add " ++ key_text name p ++ codes " " ++ signed_numeral n
 line_text (Del name p) = codes "del " ++ key_text name p
-line_text (Need name p n) = codes "need " ++ key_text name p ++ codes " " ++ signed_decimal n
+line_text (Need name p n) = codes "need " ++ key_text name p ++ codes " " ++ signed_numeral n
 line_text Abort = codes "abort"
 line_text Schedule = codes "schedule"
-line_text (Client s t) = codes "c " ++ decimal s.0 ++ codes " " ++ decimal t
-line_text (Deliver i) = codes "d " ++ decimal i
+line_text (Client s t) = codes "c " ++ numeral s.0 ++ codes " " ++ numeral t
+line_text (Deliver i) = codes "d " ++ numeral i
 line_text Drain = codes "drain"
 line_text End = codes "end"
 

@@ -42,3 +42,32 @@ pub enum Line {
     /// `end`, the last line.
     End,
 }
+
+/// The kind of a line of the text of a scene, which its first word tells.
+#[derive(Clone, Copy, Debug, PartialEq, Eq)]
+pub enum Word {
+    Version,
+    Nodes,
+    Part,
+    Session,
+    Tx,
+    Get,
+    Put,
+    Puts,
+    Add,
+    Del,
+    Need,
+    Abort,
+    Schedule,
+    Client,
+    Deliver,
+    Drain,
+    End,
+}
+
+/// What was read of a line that is of the form: its kind, and the line itself where its numbers fit their types.
+#[derive(Drop)]
+pub struct ReadLine {
+    pub word: Word,
+    pub line: Option<Line>,
+}

@@ -2,12 +2,12 @@ mod Bridge
 mod Built
 mod Checked
 mod Complete
-mod Counts
+pub mod Counts
+pub mod Each
 mod Drafting
-mod Each
 mod Filling
 mod GoodScenes
-mod Pairs
+pub mod Pairs
 pub mod KeepingLemmas
 mod Put
 mod Reading

@@ -120,6 +120,14 @@ impl Scene {
         }
     }
 
+    /// The version of the format, 1 or 2.
+    pub fn version(&self) -> u8
+        ensures value { result ≡ self.now.version }
+        ensures limits { IsScene self.now }
+    {
+        self.version
+    }
+
     /// The number of nodes.
     pub fn nodes(&self) -> u8
         ensures value { result ≡ self.now.nodes }

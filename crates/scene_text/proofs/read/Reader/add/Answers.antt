@@ -1,0 +1,8 @@
+use Rattle.std.proofs.Common.{None, Some, ap, arith, length, sym, ◌∙◌, refl, rules}
+use Rattle.std.proofs.lemmas.Result.{err_from_is_err_and}
+use Rattle.scene_text.proofs.Judging.{never_version}
+use Rattle.scene_text.proofs.read.Reader.add.Goals as goal
+
+pub returns-in-Version-clause-refused : goal.returns-in-Version-clause-refused
+returns-in-Version-clause-refused c =
+    absurd (never_version c.args.self.now c.args.line _ c.args.next c.requires.reached c.requires.order (omega (arith, ap (λ x. x.draft.version) c.self.view_is, c.self.invariant.0, c.self.invariant.1)) c.in-Version.is)

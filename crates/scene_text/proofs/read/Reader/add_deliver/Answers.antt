@@ -1,0 +1,10 @@
+use Rattle.std.proofs.Common.{ap, arith, sym, ◌∙◌, refl}
+use Rattle.std.proofs.lemmas.Result.{err_from_is_err_and}
+use Rattle.scene_text.proofs.Judging.{deliver_refused}
+use Rattle.scene_text.proofs.read.Reader.add_deliver.Goals as goal
+
+pub returns-in_err-entry-clause-refused : goal.returns-in_err-entry-clause-refused
+returns-in_err-entry-clause-refused c =
+    let p = err_from_is_err_and c.from_residual.result c.from_residual.ensures.1 in
+    let same = ap (λ x. x.draft) c.self.view_is in
+    rw (p.1, p.2) (deliver_refused c.args.self.now c.self.inside.build c.args.index c.args.next c.in_err-entry.field-0.0 (omega arith) same c.requires.reached c.requires.order c.in_err-entry.ensures.refused)
