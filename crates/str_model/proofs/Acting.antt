@@ -1,6 +1,6 @@
 -- A step as a chain of single changes, each under the facts at which it is made. A law over runs looks at each
 -- change once, and never at the order in which a step makes them.
-use Rattle.std.proofs.Common.{List, None, Option, Some, [], false, nat_lt, slice_get, true, ℕ, ◌++◌, ◌+◌, ◌-◌, ◌∷◌, ◌≡◌, ◌≤◌}
+use Rattle.std.proofs.Common.{List, None, Option, Some, [], false, max, nat_lt, slice_get, true, ℕ, ◌++◌, ◌+◌, ◌-◌, ◌∷◌, ◌≡◌, ◌≤◌}
 use Rattle.partition_map.specs.declared.rows.Asked.{Asked}
 use Rattle.str_base.specs.declared.names.Cause.{Cause}
 use Rattle.str_base.specs.declared.names.Cause.TheVariants.{Conflict as ByConflict, Late as IsLate, Lost as IsLost, Wish}
@@ -28,7 +28,7 @@ use Rattle.str_model.specs.declared.messages.Message.{Message}
 use Rattle.str_model.specs.declared.messages.Waiter.{Waiter}
 use Rattle.str_model.specs.declared.messages.Waiter.TheVariants.{Held, Read}
 use Rattle.str_model.specs.Acts.{abort_came, aborted, accepted, acked, asked, begun, certified, closed, commit_came, committed, in_phase, marked, refused, replied, requested, taken, waits, with_waiters}
-use Rattle.str_model.specs.Clients.{last_index, of_session}
+use Rattle.str_model.specs.Clients.{last_index, of_session, reading_limit}
 use Rattle.str_model.specs.Gates.{Ask, CommitAt, gate_of}
 use Rattle.str_model.specs.Proposals.{Accept, Refuse, is_known, is_parked, master_turn, proposed, ts_limit}
 use Rattle.str_model.specs.Returns.{own_named, with_ack}
@@ -91,6 +91,11 @@ pub data Reads (here : Here) (x : Own) (k : KeyId) : Type 0 where
 -- the mark of the key has just been raised to t
 abbrev pub JustMarked : View → KeyId → ℕ → Type 0
 JustMarked v k t = (ms : List ℕ) × (v.marks ≡ raised ms k t)
+
+-- a read of another node has come, and has left its mark
+abbrev pub ComesToRead : Here → Input → Doing → NodeId → TxId → KeyId → Ts → Type 0
+ComesToRead here input d from tx k rs =
+    (m : Message) × (input ≡ Deliver m) × (m.sender ≡ from) × (m.body ≡ ReadReq tx k rs) × (is_valid here m ≡ true) × JustMarked d.view k rs.0
 
 -- what was read, and the snapshot then
 pub data ReadsTo (here : Here) (v : View) (snap : Snap) (k : KeyId) (a : Value) (by : Option TxId) (new : Snap) : Type 0 where
@@ -157,9 +162,9 @@ abbrev pub left_waiting : {here : Here} {input : Input} {d : Doing} {a : Arrived
 left_waiting {d = d} (it_comes from c u z m) = d.view.waiters
 left_waiting (it_waits kept rest q) = kept ++ rest
 
--- one who begins to wait has just come
+-- one who begins to wait has just come; a read has left its mark
 pub data Arrives (here : Here) (input : Input) (d : Doing) : Waiter → Type 0 where
-  a_read : (from : NodeId) (tx : TxId) (k : KeyId) (rs : Ts) → Comes here input from (ReadReq tx k rs) → Arrives here input d (Read tx k rs)
+  a_read : (from : NodeId) (tx : TxId) (k : KeyId) (rs : Ts) → ComesToRead here input d from tx k rs → Arrives here input d (Read tx k rs)
   a_prepare : (from : NodeId) (a : Arrived) → Comes here input from (Prepare a.tx a.part a.rs a.lc a.writes) → is_known d.view a.tx a.part ≡ false → is_parked d.view a.tx a.part ≡ false
       → IsMasters here a → Arrives here input d (Held a)
 
@@ -178,15 +183,32 @@ pub data NextPlace (own : List Own) (place : TxPlace) : Type 0 where
   is_next : (i : ℕ) (x : Own) → last_index (of_session place.session) own ≡ Some i → slice_get own i ≡ Some x → is_decided x.phase ≡ true
       → place.index ≡ x.place.index + 1 → NextPlace own place
 
--- a transaction may begin: the session is one of this node, the place is its next one, and the timestamp is at least the floor
+-- a transaction may begin: the session is one of this node, the place is its next one, and the timestamp is at least the floor, and
+-- above it at most the limit of readings
 pub record Begins (here : Here) (place : TxPlace) (rs : ℕ) (d : Doing) : Type 0 where
   pub above : d.view.floor ≤ rs
+  pub most : rs ≤ max reading_limit d.view.floor
   pub text : Session
   pub session : nth here.scene.sessions place.session.0 ≡ Some text
   pub node : same_node text.node here.node ≡ true
   pub ops : List Op
   pub script : nth text.txs place.index ≡ Some ops
   pub next : NextPlace d.view.own place
+
+-- the mark that rises is for a read of an own transaction, or for one that has come
+pub data IsReading (here : Here) (input : Input) (d : Doing) (k : KeyId) (t : ℕ) : Type 0 where
+  own_reading : (i : ℕ) (x : Own) → slice_get d.view.own i ≡ Some x → t ≡ x.snap.rs → IsReading here input d k t
+  far_reading : (from : NodeId) (tx : TxId) (rs : Ts) → t ≡ rs.0 → Comes here input from (ReadReq tx k rs) → IsReading here input d k t
+
+-- the read was asked for by the message that has come, and has left its mark, or it waits here
+pub data IsAsked (here : Here) (input : Input) (d : Doing) (tx : TxId) (k : KeyId) (rs : ℕ) : Type 0 where
+  asked_now : (from : NodeId) (t : Ts) → t.0 ≡ rs → ComesToRead here input d from tx k t → IsAsked here input d tx k rs
+  asked_before : (t : Ts) → t.0 ≡ rs → In (Read tx k t) d.view.waiters → IsAsked here input d tx k rs
+
+-- a read of another node is answered
+pub record Serves (here : Here) (input : Input) (d : Doing) (tx : TxId) (k : KeyId) (rs : ℕ) (v : Value) (by : Option TxId) (fc : ℕ) : Type 0 where
+  pub gives : serve_turn d.view.versions k rs ≡ Give v by fc
+  pub was_asked : IsAsked here input d tx k rs
 
 -- no undecided own transaction of these places has a Local version of one of the keys that arrived
 abbrev pub NoneHeld : Here → Arrived → Doing → (ℕ → Type 0) → Type 0
@@ -205,7 +227,7 @@ pub record Takes (here : Here) (d : Doing) (a : Arrived) : Type 0 where
 
 pub data Act (here : Here) (input : Input) (w : Where) : Doing → Doing → Type 0 where
   act_begin : (place : TxPlace) (rs : ℕ) (d : Doing) → w ≡ InRule → Begins here place rs d → Act here input w d (begun place rs d)
-  act_mark : (k : KeyId) (t : ℕ) (d : Doing) → Act here input w d (marked k t d)
+  act_mark : (k : KeyId) (t : ℕ) (d : Doing) → IsReading here input d k t → Act here input w d (marked k t d)
   act_put : (i : ℕ) (x y : Own) (d : Doing) → IsOwn w d i x → Goes here input d i x y → Act here input w d (put i y d)
   act_request : (i : ℕ) (k : KeyId) (master : NodeId) (x : Own) (d : Doing) → IsOwn w d i x → Goes here input d i x (in_phase (Remote k) x) → Act here input w d (requested here i k master x d)
   act_certify : (i lc : ℕ) (snap : Snap) (x : Own) (d : Doing) → IsAsking here w d i x → is_decided x.phase ≡ false → lc_of x.phase ≡ None
@@ -227,7 +249,7 @@ pub data Act (here : Here) (input : Input) (w : Where) : Doing → Doing → Typ
       → Takes here d a → Act here input w d (taken here a (proposed d.view a) d)
   act_wait : (r : Waiter) (d : Doing) → Arrives here input d r → Act here input w d (waits r d)
   act_unwait : (kept rest : List Waiter) (r : Waiter) (d : Doing) → Leaves d.view kept rest r → Act here input w d (with_waiters (kept ++ rest) d)
-  act_reply : (tx : TxId) (k : KeyId) (rs : ℕ) (v : Value) (by : Option TxId) (fc : ℕ) (d : Doing) → serve_turn d.view.versions k rs ≡ Give v by fc
+  act_reply : (tx : TxId) (k : KeyId) (rs : ℕ) (v : Value) (by : Option TxId) (fc : ℕ) (d : Doing) → Serves here input d tx k rs v by fc
       → Act here input w d (replied here tx k v by fc d)
   act_commit_came : (from : NodeId) (tx : TxId) (p : PartId) (fc : Ts) (ms : List KeyMark) (d : Doing) → Comes here input from (Commit tx p fc ms)
       → decides here tx p d.view ≡ true → Act here input w d (commit_came tx p fc.0 ms d)

@@ -1,5 +1,5 @@
 -- The pass, those who wait and a whole step are paths of single changes.
-use Rattle.std.proofs.Common.{Bool, List, None, Option, Some, [], ap, append_assoc, false, length, map, option_map, refl, suc, sym, true, zero, ℕ, ◌++◌, ◌∙◌, ◌∷◌, ◌≡◌}
+use Rattle.std.proofs.Common.{Bool, List, None, Option, Some, [], ap, append_assoc, false, inl, length, map, option_map, refl, subst, suc, sym, true, zero, ℕ, ◌++◌, ◌∙◌, ◌∷◌, ◌≡◌}
 use Rattle.str_base.specs.declared.names.KeyId.{KeyId}
 use Rattle.str_base.specs.declared.names.Ts.{Ts}
 use Rattle.str_base.specs.declared.names.TxId.{TxId}
@@ -18,8 +18,9 @@ use Rattle.str_model.specs.Steps
 use Rattle.str_model.specs.Turns.{DepTurn, Give, Keep, Late, Lost, Plain, ReadTurn, ServeTurn, ServeWait, dep_turn, reply_turn, serve_turn}
 use Rattle.str_model.specs.Views.{CertWait, Closing, Doing, Global, Local, Own, Phase, ReadWait, Reply, View, is_decided, lc_of, starts}
 use Rattle.str_model.specs.Waiters
-use Rattle.str_model.proofs.Acting.{Act, InRule, InTurn, InWait, IsOwn, Path, PathTo, Touches, Where, act_abort, act_accept, act_ask, act_close, act_commit, act_put, act_refuse, act_reply, act_unwait, along, and_then, asks_again, by_late, by_lost, by_script, ch_resolve, ch_take, it_waits, one, reads_again, s_read, stay}
+use Rattle.str_model.proofs.Acting.{Act, InRule, InTurn, InWait, IsOwn, Path, PathTo, Touches, Where, act_abort, act_accept, act_ask, act_close, act_commit, act_put, act_refuse, act_reply, act_unwait, along, and_then, asked_before, asks_again, by_late, by_lost, by_script, ch_resolve, ch_take, it_waits, one, reads_again, s_read, stay}
 use Rattle.str_model.proofs.Gaining.{TurnGood, if_elim, reply_turn-good}
+use Rattle.str_model.proofs.Members.{In, in_right}
 use Rattle.str_model.proofs.Operating.{IsFree, at_own-path, certify_now-path, free_at, gate_commits, read_now-path, resolved-extends, with_value-path}
 use Rattle.str_model.proofs.Ruling.{rule-path}
 
@@ -130,7 +131,7 @@ module _ (here : Here) (input : Input) (w : Where) where
   unfolding replied
   waiter_read-waited kept rest tx k rs (Give v by fc) d w e =
       let m : Doing = replied here tx k v by fc d in
-      record { path = and_then d m (with_waiters (kept ++ rest) m) (one (act_reply tx k rs.0 v by fc d e)) (one (act_unwait kept rest (Read tx k rs) m (record { waiters = w; served = s_read tx k rs }))); same = refl }
+      record { path = and_then d m (with_waiters (kept ++ rest) m) (one (act_reply tx k rs.0 v by fc d (record { gives = e; was_asked = asked_before rs refl (subst (In (Read tx k rs)) (sym w) (in_right kept (Read tx k rs ∷ rest) (Read tx k rs) (inl refl))) }))) (one (act_unwait kept rest (Read tx k rs) m (record { waiters = w; served = s_read tx k rs }))); same = refl }
   waiter_read-waited kept rest tx k rs (ServeWait by) d w e = stays kept rest (Read tx k rs) d w
 
   waiter_held-waited : (kept rest : List Waiter) (a : Arrived) (turn : MasterTurn) (d : Doing)

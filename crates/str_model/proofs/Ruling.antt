@@ -20,7 +20,7 @@ use Rattle.str_model.specs.declared.messages.Body.{Body}
 use Rattle.str_model.specs.declared.messages.Body.TheVariants.{Abort, Ack, Commit, Prepare, ReadReply, ReadReq, Refuse as Refusal, Replicate}
 use Rattle.str_model.specs.declared.messages.Input.{Input}
 use Rattle.str_model.specs.declared.messages.Input.TheVariants.{Client, Deliver}
-use Rattle.str_model.specs.declared.messages.Waiter.TheVariants.{Held, Read}
+use Rattle.str_model.specs.declared.messages.Waiter.TheVariants.{Held}
 use Rattle.str_model.specs.Acts.{abort_came, aborted, commit_came, in_phase, marked, taken}
 use Rattle.str_model.specs.Arrivals.{held_key}
 use Rattle.str_model.specs.Arrivals
@@ -39,9 +39,9 @@ use Rattle.str_model.specs.Turns.{Give, ServeTurn, ServeWait, serve_turn}
 use Rattle.str_base.specs.Versions.{of_pair, of_tx, same_key, same_node, stamp, without}
 use Rattle.str_model.specs.Views.{Aborted, Active, Committed, Doing, Global, Own, Phase, Remote, Reply, is_decided, name_of, put}
 use Rattle.str_model.proofs.Evicting.{all_evicted}
-use Rattle.str_model.proofs.Acting.{Arrives, Comes, InRule, IsOwn, NextPlace, NoneHeld, Path, PathTo, Touches, Where, a_prepare, a_read, act_abort, act_abort_came, act_accept, act_ack, act_begin, act_commit_came, act_mark, act_put, act_refuse, act_reply, act_take, act_wait, and_then, by_eviction, by_refusal, ch_reply, is_first, is_next, it_comes, more, one, stay}
+use Rattle.str_model.proofs.Acting.{Comes, InRule, IsOwn, JustMarked, NextPlace, NoneHeld, Path, PathTo, Touches, Where, a_prepare, a_read, act_abort, act_abort_came, act_accept, act_ack, act_begin, act_commit_came, act_mark, act_put, act_refuse, act_reply, act_take, act_wait, and_then, asked_now, by_eviction, by_refusal, ch_reply, far_reading, is_first, is_next, it_comes, more, one, stay}
 use Rattle.str_model.proofs.Gaining.{and_left, and_right, if_elim, or_false_right}
-use Rattle.str_model.proofs.Operating.{IsFresh, at_own-path, free_at, nor_left, nor_right, op_or_commit-path, phase-goes}
+use Rattle.str_model.proofs.Operating.{IsFresh, at_own-path, free_at, just_marked, nor_left, nor_right, op_or_commit-path, phase-goes}
 
 not_is : (b : Bool) → not b ≡ true → b ≡ false
 not_is true e = absurd cc
@@ -84,7 +84,7 @@ module _ (here : Here) (input : Input) (w : Where) where
         → same_node text.node here.node ≡ true → nth text.txs place.index ≡ o → NextPlace d.view.own place → PathTo here input w d (Clients.begin here place t o d)
     begin-path place t text None d se ne sc nx = tt
     begin-path place t text (Some ops) d se ne sc nx =
-        one (act_begin place _ d is_rule (record { above = omega arith; text = text; session = se; node = ne; ops = ops; script = sc; next = nx }))
+        one (act_begin place _ d is_rule (record { above = omega arith; most = omega arith; text = text; session = se; node = ne; ops = ops; script = sc; next = nx }))
 
     go_on-path : (s : SessionId) (t : ℕ) (text : Session) (i : ℕ) (x : Own) (p : Phase) (d : Doing) → nth here.scene.sessions s.0 ≡ Some text
         → same_node text.node here.node ≡ true → Clients.last_index (Clients.of_session s) d.view.own ≡ Some i → IsOwn w d i x → x.phase ≡ p
@@ -120,10 +120,10 @@ module _ (here : Here) (input : Input) (w : Where) where
 
     -- ---- a message
 
-    serve_done-path : (tx : TxId) (k : KeyId) (rs : ℕ) (turn : ServeTurn) (d : Doing) → Arrives here input d (Read tx k (stamp rs))
+    serve_done-path : (from : NodeId) (tx : TxId) (k : KeyId) (rs : ℕ) (turn : ServeTurn) (d : Doing) → Comes here input from (ReadReq tx k (stamp rs)) → JustMarked d.view k rs
         → serve_turn d.view.versions k rs ≡ turn → Path here input w d (Arrivals.serve_done here tx k rs turn d)
-    serve_done-path tx k rs (Give v by fc) d c e = one (act_reply tx k rs v by fc d e)
-    serve_done-path tx k rs (ServeWait by) d c e = one (act_wait _ d c)
+    serve_done-path from tx k rs (Give v by fc) d c j e = one (act_reply tx k rs v by fc d (record { gives = e; was_asked = asked_now from (stamp rs) refl (c.0, c.1, c.2, c.3, c.4, j) }))
+    serve_done-path from tx k rs (ServeWait by) d c j e = one (act_wait _ d (a_read from tx k (stamp rs) (c.0, c.1, c.2, c.3, c.4, j)))
 
     read_req-path : (from : NodeId) (tx : TxId) (k : KeyId) (rs : ℕ) (d : Doing) → Comes here input from (ReadReq tx k (stamp rs)) → PathTo here input w d (Arrivals.read_req here tx k rs d)
     unfolding Arrivals.read_req marked
@@ -131,7 +131,7 @@ module _ (here : Here) (input : Input) (w : Where) where
         if_elim (PathTo here input w d)
         (hosts_key here k && (not (same_node tx.node here.node) && not (list_any (Arrivals.waits_read tx k) d.view.waiters)))
         (Some (Arrivals.serve_done here tx k rs (serve_turn d.view.versions k rs) (marked k rs d))) None
-        (λ e. and_then d (marked k rs d) _ (one (act_mark k rs d)) (serve_done-path tx k rs (serve_turn d.view.versions k rs) (marked k rs d) (a_read from tx k (stamp rs) c) refl)) (λ e. tt)
+        (λ e. and_then d (marked k rs d) _ (one (act_mark k rs d (far_reading from tx (stamp rs) refl c))) (serve_done-path from tx k rs (serve_turn d.view.versions k rs) (marked k rs d) c (just_marked k rs d) refl)) (λ e. tt)
 
     nth-get : {X : Type 0} (xs : List X) (n : ℕ) (x : X) → nth xs n ≡ Some x → slice_get xs (n - 1) ≡ Some x
     nth-get xs zero x e = absurd cc
