@@ -43,3 +43,8 @@ pub mod Deciding
 pub mod Delivering
 pub mod Deciders
 pub mod PresenceLaw
+pub mod Bounds
+pub mod BoundActs
+pub mod BoundLetters
+pub mod Proposing
+pub mod Bounding
