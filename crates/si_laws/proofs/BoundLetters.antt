@@ -1,8 +1,9 @@
 -- What a single change sends has times below the bound.
 use Rattle.partition_map.specs.declared.rows.Asked.{Asked}
-use Rattle.si_laws.proofs.BoundActs.{accept_is, arrived_below, came_below, gate_below, proposed_below, rise}
+use Rattle.si_laws.proofs.BoundActs.{accept_is, arrived_below, came_below, proposed_below, rise}
+use Rattle.si_laws.proofs.BoundParts.{gate_below}
 use Rattle.si_laws.proofs.Bounds.{BodyBelow, ServeBelow, ViewBelow, body_higher, mark_below, own_at, serve_below}
-use Rattle.std.proofs.Common.{Bool, List, Some, [], ap, arith, filter, inl, inr, map, slice_get, subst, sym, ℕ, ◌++◌, ◌+◌, ◌<◌, ◌∙◌, ◌∷◌, ◌≡◌, ◌≤◌}
+use Rattle.std.proofs.Common.{List, [], ap, arith, filter, inl, inr, map, subst, ℕ, ◌++◌, ◌+◌, ◌<◌, ◌∷◌, ◌≡◌, ◌≤◌}
 use Rattle.str_base.specs.declared.names.NodeId.{NodeId}
 use Rattle.str_base.specs.declared.names.PartId.{PartId}
 use Rattle.str_base.specs.declared.names.Write.{Write}
@@ -13,15 +14,12 @@ use Rattle.str_model.proofs.Members.{In, in_append, in_map}
 use Rattle.str_model.specs.Acts.{abort_came, aborted, accepted, acked, asked, begun, certified, closed, commit_came, committed, marked, refused, replied, requested, taken, waits}
 use Rattle.str_model.specs.Acts
 use Rattle.str_model.specs.Clients.{reading_limit}
-use Rattle.str_model.specs.declared.messages.Arrived.{Arrived}
-use Rattle.str_model.specs.declared.messages.Body.{Body}
 use Rattle.str_model.specs.declared.messages.Body.TheVariants.{Abort, Ack, Commit, Prepare, ReadReply, ReadReq, Refuse as Refusal, Replicate}
 use Rattle.str_model.specs.declared.messages.Input.{Input}
 use Rattle.str_model.specs.declared.messages.Input.TheVariants.{Deliver}
 use Rattle.str_model.specs.declared.messages.Message.{Message}
 use Rattle.str_model.specs.declared.names.KeyMark.{KeyMark}
 use Rattle.str_model.specs.Proposals.{proposed}
-use Rattle.str_model.specs.Turns.{Give}
 use Rattle.str_model.specs.Views.{Doing, Own, View, letter, name_of}
 use Rattle.str_scene.specs.Scenes.{Here, first_or, in_part, leads, others, replicas}
 

@@ -6,7 +6,7 @@ use Rattle.si_laws.proofs.BoundLetters.{AllBelow, sent_act}
 use Rattle.si_laws.proofs.Bounds.{BodyBelow, OwnBelow, ViewBelow, WaiterBelow, body_higher, view_higher}
 use Rattle.si_laws.proofs.Proposing.{acks_append, acks_in, certified_in, rise_act, sum_set}
 use Rattle.si_laws.specs.Numbers.{ack_times, all_times, body_times, final_times, or_nothing, own_times, proposals, view_times, waiter_times}
-use Rattle.std.proofs.Common.{List, None, Option, Some, [], ap, arith, flat_map, inl, inr, length, map, refl, replicate, slice_get, slice_set, subst, suc, sym, zero, ℕ, ◌++◌, ◌+◌, ◌<◌, ◌^◌, ◌∙◌, ◌∷◌, ◌≡◌, ◌≤◌}
+use Rattle.std.proofs.Common.{List, None, Option, Some, [], ap, arith, flat_map, inl, inr, length, map, refl, replicate, slice_get, subst, suc, sym, zero, ℕ, ◌++◌, ◌+◌, ◌<◌, ◌^◌, ◌∙◌, ◌∷◌, ◌≡◌, ◌≤◌}
 use Rattle.std.specs.List.{sum_by}
 use Rattle.str_base.specs.declared.names.Ts.{Ts}
 use Rattle.str_base.specs.declared.names.Version.{Version}
@@ -23,7 +23,7 @@ use Rattle.str_model.specs.declared.messages.Message.{Message}
 use Rattle.str_model.specs.declared.messages.Waiter.{Waiter}
 use Rattle.str_model.specs.declared.messages.Waiter.TheVariants.{Held, Read}
 use Rattle.str_model.specs.declared.names.KeyMark.{KeyMark}
-use Rattle.str_model.specs.Runs.{World, opening, opening_view, run}
+use Rattle.str_model.specs.Runs.{opening, opening_view, run}
 use Rattle.str_model.specs.Views.{Doing, Own, View, lc_of}
 use Rattle.str_scene.specs.declared.names.Event.{Event}
 use Rattle.str_scene.specs.Scenes.{Scene}

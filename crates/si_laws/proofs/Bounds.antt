@@ -1,5 +1,5 @@
 -- Times below a bound, and that what a turn decides from such times is below it too.
-use Rattle.std.proofs.Common.{Bool, List, None, Option, Some, [], ap, arith, false, find, if◌then◌else◌, inl, inr, map, max, nat_lt, refl, slice_get, slice_index, subst, suc, sym, true, zero, ℕ, ◌+◌, ◌-◌, ◌<◌, ◌∙◌, ◌∷◌, ◌≡◌, ◌≤◌, ◌⊎◌}
+use Rattle.std.proofs.Common.{List, None, Option, Some, [], arith, find, inl, inr, max, nat_lt, refl, slice_get, slice_index, suc, zero, ℕ, ◌+◌, ◌-◌, ◌<◌, ◌∷◌, ◌≡◌, ◌≤◌, ◌⊎◌}
 use Rattle.std.specs.List.{last_or}
 use Rattle.dependency_set.specs.declared.names.Dep.{Dep}
 use Rattle.dependency_set.specs.Snapshots.{Snap, accept_final, holds, oldest}
@@ -17,7 +17,7 @@ use Rattle.str_base.specs.declared.names.Write.{Write}
 use Rattle.str_base.specs.Versions.{chain, last_pre, last_undecided, mark_of, newest, same_key, visible}
 use Rattle.str_base.specs.Versions
 use Rattle.str_model.proofs.Gaining.{if_elim, visible-is}
-use Rattle.str_model.proofs.Members.{In, at_in, in_at, in_filter, in_flat_map}
+use Rattle.str_model.proofs.Members.{In, in_at, in_filter}
 use Rattle.str_model.specs.declared.messages.Body.{Body}
 use Rattle.str_model.specs.declared.messages.Body.TheVariants.{Abort, Ack, Commit, Prepare, ReadReply, ReadReq, Refuse, Replicate}
 use Rattle.str_model.specs.declared.messages.Waiter.{Waiter}

@@ -44,7 +44,13 @@ pub mod Delivering
 pub mod Deciders
 pub mod PresenceLaw
 pub mod Bounds
+pub mod BoundParts
 pub mod BoundActs
 pub mod BoundLetters
 pub mod Proposing
 pub mod Bounding
+pub mod Counting
+pub mod Places
+pub mod SeatCounts
+pub mod AckKeys
+pub mod AckCounts

@@ -1,8 +1,7 @@
 -- How many timestamps were proposed, by single changes.
-use Rattle.partition_map.specs.declared.rows.Asked.{Asked}
 use Rattle.si_laws.proofs.BoundActs.{rise}
 use Rattle.si_laws.specs.Numbers.{is_ack}
-use Rattle.std.proofs.Common.{Bool, List, None, Option, Some, [], ap, arith, cond, false, is_some, refl, slice_get, slice_set, subst, suc, sym, true, zero, ℕ, ◌++◌, ◌+◌, ◌∙◌, ◌∷◌, ◌≡◌, ◌≤◌}
+use Rattle.std.proofs.Common.{Bool, List, None, Option, Some, [], ap, arith, cond, is_some, refl, slice_get, slice_set, suc, sym, true, zero, ℕ, ◌++◌, ◌+◌, ◌∷◌, ◌≡◌, ◌≤◌}
 use Rattle.std.proofs.lemmas.List.Sums.{sum_by-append, sum_by-cons}
 use Rattle.std.specs.List.{count_by, sum_by}
 use Rattle.str_base.specs.Versions.{stamp}
@@ -13,7 +12,7 @@ use Rattle.str_model.specs.declared.messages.Body.TheVariants.{Ack, ReadReply, R
 use Rattle.str_model.specs.declared.messages.Input.{Input}
 use Rattle.str_model.specs.declared.messages.Message.{Message}
 use Rattle.str_model.specs.Proposals.{proposed}
-use Rattle.str_model.specs.Views.{Aborted, Committed, Doing, Global, Local, Own, Remote, View, lc_of, letter, name_of}
+use Rattle.str_model.specs.Views.{Aborted, Committed, Doing, Global, Local, Own, Remote, lc_of, letter, name_of}
 use Rattle.str_scene.specs.Scenes.{Here, participants, replicas}
 
 -- how many have a local commit timestamp
@@ -24,7 +23,7 @@ certified_in own = count_by (λ (x : Own). is_some (lc_of x.phase)) own
 abbrev pub acks_in : List Message → ℕ
 acks_in ms = count_by (λ (m : Message). is_ack m.body) ms
 
-abbrev one_for : Bool → ℕ
+abbrev pub one_for : Bool → ℕ
 one_for b = cond b 1 0
 
 -- a sum after a write

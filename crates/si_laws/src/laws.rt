@@ -1,15 +1,20 @@
 //! Laws of every run: functions without effect, each of which carries one law.
-ghost use Rattle.si_laws.specs.Laws.Times.{TimesHold};
+ghost use Rattle.si_laws.specs.Laws.Times.{TimesBounded, TimesHold};
 ghost use Rattle.si_laws.specs.Laws.Lasting.{AnswersGrow, DecidedStay};
 ghost use Rattle.si_laws.specs.Laws.Asking.{PresAsked};
 ghost use Rattle.si_laws.specs.Laws.Session.{SessionHolds};
 ghost use Rattle.si_laws.specs.Laws.Stages.{AcksKnown, StagesForward};
-ghost use Rattle.si_laws.specs.Laws.Presence.{PresenceByBound, PresenceStands};
+ghost use Rattle.si_laws.specs.Laws.Presence.{PresenceByBound, PresenceHolds, PresenceStands};
 ghost use Rattle.si_laws.specs.Laws.Apart.{ApartHolds, OrderHolds};
 
 /// Times at a node, over every list of events.
 pub fn times_hold()
     ensures { TimesHold }
+{}
+
+/// Every timestamp is below 2^62 and the number of proposals, of which there are 1024 * 113 at most.
+pub fn times_bounded()
+    ensures { TimesBounded }
 {}
 
 /// A decided transaction stays as it is.
@@ -64,4 +69,9 @@ pub fn presence_stands()
 /// since a decision that reaches the limit would be strange to its receiver.
 pub fn presence_by_bound()
     ensures { PresenceByBound }
+{}
+
+/// Where versions of a transaction stand, by what was given: where the pair is not done, its decision was never given to the node.
+pub fn presence_holds()
+    ensures { PresenceHolds }
 {}

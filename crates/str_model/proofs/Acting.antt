@@ -32,7 +32,7 @@ use Rattle.str_model.specs.Clients.{last_index, of_session, reading_limit}
 use Rattle.str_model.specs.Gates.{Ask, CommitAt, gate_of}
 use Rattle.str_model.specs.Proposals.{Accept, Refuse, is_known, is_parked, master_turn, proposed, ts_limit}
 use Rattle.str_model.specs.Returns.{own_named, with_ack}
-use Rattle.str_scene.specs.Scenes.{Here, Session, is_master, nth}
+use Rattle.str_scene.specs.Scenes.{Here, Session, hosts, is_master, nth}
 use Rattle.dependency_set.specs.Snapshots.{Snap}
 use Rattle.str_model.specs.Steps.{decides, drop_held}
 use Rattle.str_model.specs.Strange.{is_valid}
@@ -216,12 +216,13 @@ NoneHeld here a d Of =
     (i : ℕ) (x : Own) (v : Version) (w : Write) → Of i → slice_get d.view.own i ≡ Some x → is_decided x.phase ≡ false → In v d.view.versions → In w a.writes
     → v.key ≡ w.key → of_tx (name_of here i) v ≡ true → v.kind ≡ LocalKind → ⊥
 
--- a Replicate may be taken by a slave: its timestamp is below the limit, the pair is new here, and no undecided own transaction has a
+-- a Replicate may be taken by a replica that is a slave: its timestamp is below the limit, the pair is new here, and no undecided own transaction has a
 -- Local version of one of its keys
 pub record Takes (here : Here) (d : Doing) (a : Arrived) : Type 0 where
   pub below : nat_lt (proposed d.view a) ts_limit ≡ true
   pub unknown : is_known d.view a.tx a.part ≡ false
   pub slave : is_master here.scene here.node a.part ≡ false
+  pub hosted : hosts here.scene here.node a.part ≡ true
   pub foreign : same_node a.tx.node here.node ≡ false
   pub none_held : NoneHeld here a d (λ i. Unit {0})
 

@@ -225,10 +225,10 @@ module _ (here : Here) (input : Input) (w : Where) where
         let e : Doing = Arrivals.evict here a i d in evict_own-unknown a i (slice_get e.view.own i) e (evict-unknown a i d h)
 
     take_if-path : (a : Arrived) (from : NodeId) (d e : Doing) → Comes here input from (Replicate a.tx a.part a.rs a.lc a.writes) → NoneHeld here a e (λ i. Unit {0})
-        → Path here input w d e → Unknown a e → is_master here.scene here.node a.part ≡ false → same_node a.tx.node here.node ≡ false → PathTo here input w d (Arrivals.take_if here a e)
-    take_if-path a from d e c n p u s f =
+        → Path here input w d e → Unknown a e → is_master here.scene here.node a.part ≡ false → same_node a.tx.node here.node ≡ false → hosts here.scene here.node a.part ≡ true → PathTo here input w d (Arrivals.take_if here a e)
+    take_if-path a from d e c n p u s f o =
         if_elim (PathTo here input w d) (nat_lt (proposed e.view a) ts_limit) (Some (taken here a (proposed e.view a) e)) None
-        (λ h. more d e _ p (act_take from a e c (record { below = h; unknown = u; slave = s; foreign = f; none_held = n }))) (λ h. tt)
+        (λ h. more d e _ p (act_take from a e c (record { below = h; unknown = u; slave = s; hosted = o; foreign = f; none_held = n }))) (λ h. tt)
 
     replicate_rule-path : (a : Arrived) (from : NodeId) (d : Doing) → Comes here input from (Replicate a.tx a.part a.rs a.lc a.writes)
         → PathTo here input w d (Arrivals.replicate_rule here a d)
@@ -236,7 +236,8 @@ module _ (here : Here) (input : Input) (w : Where) where
     replicate_rule-path a from d c =
         if_elim (PathTo here input w d) (takes here d.view a) (Arrivals.take_if here a (Arrivals.evict here a (length d.view.own) d)) None
         (λ h. let n = none_of_three (hosts here.scene here.node a.part) (is_master here.scene here.node a.part) (same_node a.tx.node here.node) (Proposals.is_known d.view a.tx a.part) h in
-        take_if-path a from d (Arrivals.evict here a (length d.view.own) d) c (all_evicted here a d) (evict-path a from (length d.view.own) d c) (evict-unknown a (length d.view.own) d n.2) n.0 n.1) (λ h. tt)
+        take_if-path a from d (Arrivals.evict here a (length d.view.own) d) c (all_evicted here a d) (evict-path a from (length d.view.own) d c) (evict-unknown a (length d.view.own) d n.2) n.0 n.1
+        (and_left (hosts here.scene here.node a.part) (not (is_master here.scene here.node a.part) && (not (same_node a.tx.node here.node) && not (Proposals.is_known d.view a.tx a.part))) h)) (λ h. tt)
 
     -- ---- answers of participants
 
