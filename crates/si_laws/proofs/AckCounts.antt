@@ -19,6 +19,7 @@ use Rattle.std.specs.List.{sum_by}
 use Rattle.std.specs.Prelude.{is_some}
 use Rattle.str_base.specs.declared.names.NodeId.{NodeId}
 use Rattle.str_base.specs.declared.names.PartId.{PartId}
+use Rattle.str_base.specs.declared.names.Ts.{Ts}
 use Rattle.str_base.specs.declared.names.TxId.{TxId}
 use Rattle.str_model.proofs.Everywhere.{Stage, at_place, stage_of}
 use Rattle.str_model.proofs.Members.{In, in_at, in_filter, in_left, in_right, map_in}
@@ -101,7 +102,7 @@ ack_seat scene s h k j =
     let t : Told scene s r.0.sender r.0.receiver (Ack k.tx k.part r.2) = subst (λ (b : Body). Told scene s r.0.sender r.0.receiver b) r.3 (h.linked_.told r.0 r.1) in
     of_ack r.0.sender r.2 r.4 t
   where
-    of_ack : (from : NodeId) (ts : Rattle.str_base.specs.declared.names.Ts.Ts) → from ≡ k.node → Acknowledged scene s from k.tx k.part ts → In k (all_seats scene 0 s.nodes)
+    of_ack : (from : NodeId) (ts : Ts) → from ≡ k.node → Acknowledged scene s from k.tx k.part ts → In k (all_seats scene 0 s.nodes)
     of_ack from ts q t =
         let c = t.certified in
         let f = in_filter (in_part scene k.part) t.all t.some.0 t.some.1 in

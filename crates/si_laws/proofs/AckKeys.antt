@@ -6,7 +6,7 @@ use Rattle.si_laws.proofs.Linking.{kept_at, kept_known, linked_opening, linked_s
 use Rattle.si_laws.proofs.Parts.{Placed, by_master, by_slave}
 use Rattle.si_laws.proofs.Proposing.{acks_in, one_for}
 use Rattle.si_laws.specs.Numbers.{is_ack}
-use Rattle.std.proofs.Common.{Bool, List, Some, [], ap, append_assoc, append-nil, arith, false, filter, inl, inr, length, map, refl, slice_get, subst, subst₂, sym, true, ℕ, ◌&&◌, ◌++◌, ◌+◌, ◌∙◌, ◌∷◌, ◌≡◌, ◌⊎◌}
+use Rattle.std.proofs.Common.{List, Some, [], ap, append-nil, append_assoc, arith, filter, inl, inr, length, length-append, map, refl, slice_get, slice_set, subst, sym, true, ℕ, ◌++◌, ◌∙◌, ◌∷◌, ◌≡◌}
 use Rattle.std.proofs.lemmas.List.Sums.{sum_by-cons}
 use Rattle.std.specs.List.{list_any}
 use Rattle.str_base.specs.declared.names.NodeId.{NodeId}
@@ -30,7 +30,7 @@ use Rattle.str_model.specs.declared.messages.Message.{Message}
 use Rattle.str_model.specs.declared.messages.Waiter.TheVariants.{Held}
 use Rattle.str_model.specs.Proposals.{proposed}
 use Rattle.str_model.specs.Runs.{run}
-use Rattle.str_model.specs.Views.{Doing, View, letter, name_of}
+use Rattle.str_model.specs.Views.{Doing, Own, View, letter, name_of}
 use Rattle.str_scene.specs.declared.names.Event.{Event}
 use Rattle.str_scene.specs.Scenes.{Here, Scene, first_or, hosts, in_part, is_master, leads, others, replicas}
 
@@ -81,7 +81,7 @@ keys_length [] = refl
 keys_length (m ∷ ms) =
     let rec = keys_length ms in
     let c = sum_by-cons (λ (z : Message). one_for (is_ack z.body)) m ms in
-    let l = Rattle.std.proofs.Common.length-append (key_of_body m.sender m.body) (ack_keys ms) in
+    let l = length-append (key_of_body m.sender m.body) (ack_keys ms) in
     let o = of_body m.sender m.body in omega (arith, rec, c, l, o)
   where
     of_body : (from : NodeId) (b : Body) → length (key_of_body from b) ≡ one_for (is_ack b)
@@ -105,7 +105,7 @@ module _ (here : Here) (input : Input) (w : Where) where
   without_acks : (xs ys : List Message) → ack_keys ys ≡ [] → ack_keys (xs ++ ys) ≡ ack_keys xs
   without_acks xs ys e = keys_append xs ys ∙ (ap (λ zs. ack_keys xs ++ zs) e ∙ append-nil (ack_keys xs))
 
-  asks_none : (i lc : ℕ) (x : Rattle.str_model.specs.Views.Own) (p : PartId) (rs : List NodeId) → ack_keys (Acts.ask_letters here i lc x p rs) ≡ []
+  asks_none : (i lc : ℕ) (x : Own) (p : PartId) (rs : List NodeId) → ack_keys (Acts.ask_letters here i lc x p rs) ≡ []
   asks_none i lc x p rs =
       let ws : List Write = filter (in_part here.scene p) x.writes in
       if_elim (λ ms. ack_keys ms ≡ []) (leads here.node rs) (map (λ (n : NodeId). letter here n (Replicate (name_of here i) p (stamp x.snap.rs) (stamp lc) ws)) (others here.node rs))
@@ -161,7 +161,7 @@ acks_keep scene s i v input w d e is seen act h = by_step (acks_act (at_place sc
     new : Linked scene (during s i e)
     new = linked_step scene s i v input w d e is seen act h.linked_
 
-    there : slice_get (Rattle.std.proofs.Common.slice_set s.nodes i d.view) i ≡ Some d.view
+    there : slice_get (slice_set s.nodes i d.view) i ≡ Some d.view
     there = get_set s.nodes i v d.view is
 
     old_is : ack_keys (s.sent ++ d.sent) ≡ ack_keys s.sent ++ ack_keys d.sent

@@ -30,7 +30,7 @@ use Rattle.si_laws.proofs.Owners.{LocalOwner, decided_old, final_old, open-fate,
 
 -- ---- around
 
-cert_rs : (here : Here) (view : View) (old new : Snap) (ws : List Write) (lc : ℕ) → cert_turn here view old ws ≡ Certified lc new → new.rs ≡ old.rs
+pub cert_rs : (here : Here) (view : View) (old new : Snap) (ws : List Write) (lc : ℕ) → cert_turn here view old ws ≡ Certified lc new → new.rs ≡ old.rs
 cert_rs here view old new ws lc c =
     let good : CertGood view old (Certified lc new) = subst (CertGood view old) c (cert_turn-good here view old ws) in good.0.rs
 

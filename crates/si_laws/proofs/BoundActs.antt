@@ -1,8 +1,9 @@
 -- A single change keeps times below a bound, which rises by one where it proposes a timestamp.
 use Rattle.dependency_set.specs.Snapshots.{Snap}
 use Rattle.partition_map.specs.declared.rows.Asked.{Asked}
-use Rattle.si_laws.proofs.BoundParts.{Keeps, all_below, asked_ack, extends_below, finish-keeps, gate_below, in_dropped, in_set, insert_below, next-keeps, raised_below, settled_below, unasked_none, without_below}
+use Rattle.si_laws.proofs.BoundParts.{Keeps, all_below, asked_ack, extends_below, finish-keeps, gate_below, in_dropped, in_set, insert_below, next-keeps, raised_below, settled_below, without_below}
 use Rattle.si_laws.proofs.Bounds.{BodyBelow, CertBelow, DepBelow, OwnBelow, TurnBelow, VersionsBelow, ViewBelow, WaiterBelow, cert_below, dep_below, own_at, own_higher, passed_below, read_below, reply_below, view_higher, waiter_higher}
+use Rattle.si_laws.proofs.Linking.{unasked_none}
 use Rattle.si_laws.proofs.Homes.{AckStep, a_new, a_old, acked_parts}
 use Rattle.si_laws.specs.Numbers.{final_times}
 use Rattle.std.proofs.Common.{List, None, Option, Some, [], ap, arith, filter, find, inl, inr, map, nat_lt, refl, slice_set, subst, sym, ℕ, ◌+◌, ◌<◌, ◌∙◌, ◌∷◌, ◌≡◌, ◌≤◌}

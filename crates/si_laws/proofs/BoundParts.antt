@@ -6,17 +6,15 @@ use Rattle.si_laws.proofs.Bounds.{MarksBelow, OwnBelow, VersionsBelow, ViewBelow
 use Rattle.si_laws.specs.Numbers.{final_times}
 use Rattle.std.proofs.Common.{Bool, List, None, Option, Some, [], ap, arith, find, inl, inr, is_some, map, max, not, refl, slice_set, suc, sym, true, zero, ℕ, ◌+◌, ◌-◌, ◌<◌, ◌∷◌, ◌≡◌, ◌⊎◌}
 use Rattle.str_base.specs.declared.names.KeyId.{KeyId}
-use Rattle.str_base.specs.declared.names.NodeId.{NodeId}
 use Rattle.str_base.specs.declared.names.PartId.{PartId}
 use Rattle.str_base.specs.declared.names.Ts.{Ts}
 use Rattle.str_base.specs.declared.names.TxId.{TxId}
 use Rattle.str_base.specs.declared.names.Value.{Value}
 use Rattle.str_base.specs.declared.names.Version.{Version}
-use Rattle.str_base.specs.declared.names.Write.{Write}
 use Rattle.str_base.specs.Values.{is_below}
 use Rattle.str_base.specs.Versions.{insert_all, mark_of, raised, settled, without}
 use Rattle.str_model.proofs.Gaining.{Extends, Gains, gains_it, gains_of, if_elim}
-use Rattle.str_model.proofs.Members.{In, in_flat_map, in_insert_all, in_map, in_without}
+use Rattle.str_model.proofs.Members.{In, in_insert_all, in_map, in_without}
 use Rattle.str_model.specs.Acts.{raise_all, with_asked}
 use Rattle.str_model.specs.declared.messages.Waiter.{Waiter}
 use Rattle.str_model.specs.declared.names.KeyMark.{KeyMark}
@@ -29,7 +27,7 @@ use Rattle.str_model.specs.Turns.{greatest}
 use Rattle.str_model.specs.Views.{Active, Closing, Own, View, lc_of}
 use Rattle.str_scene.specs.declared.names.Op.TheVariants.{Abort as Stop, Add, Del, Get, Need, Put, Puts}
 use Rattle.str_scene.specs.declared.names.Op.{Op}
-use Rattle.str_scene.specs.Scenes.{Here, in_part, leads, others, participants, replicas}
+use Rattle.str_scene.specs.Scenes.{Here}
 
 -- ---- lists
 
@@ -63,11 +61,6 @@ settled_below b fc vs less q h = let r = in_map (settled fc) vs q h in omega (ar
 
 pub without_below : (b : ℕ) (test : Version → Bool) (vs : List Version) → VersionsBelow b vs → VersionsBelow b (without test vs)
 without_below b test vs f q h = f q (in_without test vs q h)
-
-pub unasked_none : (scene : Rattle.str_scene.specs.Scenes.Scene) (n : NodeId) (ws : List Write) (a : Asked) (ts : Ts) → In a (participants scene n ws) → a.ack ≡ Some ts → ⊥
-unasked_none scene n ws a ts h e =
-    let r = in_flat_map (λ (p : PartId). map (Rattle.str_scene.specs.Scenes.unasked p) (others n (replicas scene p))) (Rattle.str_scene.specs.Scenes.written_parts scene ws) a h in
-    let m = in_map (Rattle.str_scene.specs.Scenes.unasked r.0) (others n (replicas scene r.0)) a r.2 in cc (ap (λ (z : Asked). z.ack) m.2, e)
 
 pub asked_ack : (p : PartId) (parts : List Asked) (a : Asked) → In a (with_asked p parts) → (z : Asked) × In z parts × (z.ack ≡ a.ack)
 asked_ack p [] a h = absurd h

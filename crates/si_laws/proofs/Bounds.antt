@@ -1,5 +1,5 @@
 -- Times below a bound, and that what a turn decides from such times is below it too.
-use Rattle.std.proofs.Common.{List, None, Option, Some, [], arith, find, inl, inr, max, nat_lt, refl, slice_get, slice_index, suc, zero, ℕ, ◌+◌, ◌-◌, ◌<◌, ◌∷◌, ◌≡◌, ◌≤◌, ◌⊎◌}
+use Rattle.std.proofs.Common.{List, None, Option, Some, [], arith, find, inl, inr, max, nat_lt, refl, slice_get, slice_index, suc, zero, ℕ, ◌+◌, ◌-◌, ◌<◌, ◌∷◌, ◌≡◌, ◌≤◌}
 use Rattle.std.specs.List.{last_or}
 use Rattle.dependency_set.specs.declared.names.Dep.{Dep}
 use Rattle.dependency_set.specs.Snapshots.{Snap, accept_final, holds, oldest}
@@ -16,7 +16,7 @@ use Rattle.str_base.specs.declared.names.Version.{Version}
 use Rattle.str_base.specs.declared.names.Write.{Write}
 use Rattle.str_base.specs.Versions.{chain, last_pre, last_undecided, mark_of, newest, same_key, visible}
 use Rattle.str_base.specs.Versions
-use Rattle.str_model.proofs.Gaining.{if_elim, visible-is}
+use Rattle.str_model.proofs.Gaining.{if_elim, in_last, visible-is}
 use Rattle.str_model.proofs.Members.{In, in_at, in_filter}
 use Rattle.str_model.specs.declared.messages.Body.{Body}
 use Rattle.str_model.specs.declared.messages.Body.TheVariants.{Abort, Ack, Commit, Prepare, ReadReply, ReadReq, Refuse, Replicate}
@@ -111,10 +111,6 @@ mark_below b ms k some h = at_place ms k.0 h
     at_place [] i h = some
     at_place (m ∷ ms) zero h = h m (inl refl)
     at_place (m ∷ ms) (suc i) h = at_place ms i (λ t j. h t (inr j))
-
-pub in_last : (o : Option Version) (xs : List Version) (v : Version) → last_or o xs ≡ Some v → (o ≡ Some v) ⊎ In v xs
-in_last o [] v e = inl e
-in_last o (x ∷ xs) v e = elim (in_last (Some x) xs v e) [ inl q ↦ inr (inl cc) | inr h ↦ inr (inr h) ]
 
 pub newest_below : (b : ℕ) (vs : List Version) (k : KeyId) → 0 < b → VersionsBelow b vs → newest vs k < b
 newest_below b vs k some h = by_last (last_or None (chain k vs)) refl

@@ -59,3 +59,7 @@ once_places (x ∷ xs) f = (
 pub once_range : (a n : ℕ) → Once (range_with_len a n)
 once_range a zero = tt
 once_range a (suc n) = (λ h. (let r = in_range (a + 1) n a h in absurd (omega (arith, r.0))), once_range (a + 1) n)
+
+pub range_length : (a n : ℕ) → length (range_with_len a n) ≡ n
+range_length a zero = refl
+range_length a (suc n) = ap suc (range_length (a + 1) n)

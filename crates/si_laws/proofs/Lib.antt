@@ -54,3 +54,5 @@ pub mod Places
 pub mod SeatCounts
 pub mod AckKeys
 pub mod AckCounts
+pub mod Marking
+pub mod HomeMarks

@@ -83,7 +83,7 @@ asks_told scene s from to tx p rs lc all b as_replicate c = (all, c, refl)
 not_same : (a b : NodeId) → same_node a b ≡ false → a.0 ≢ b.0
 not_same a b f e = cc (eq-eqb a.0 b.0 e, f)
 
-unasked_none : (scene : Scene) (n : NodeId) (ws : List Write) (a : Asked) (ts : Ts) → In a (participants scene n ws) → a.ack ≡ Some ts → ⊥
+pub unasked_none : (scene : Scene) (n : NodeId) (ws : List Write) (a : Asked) (ts : Ts) → In a (participants scene n ws) → a.ack ≡ Some ts → ⊥
 unasked_none scene n ws a ts h e =
     let r = in_flat_map (λ (p : PartId). map (unasked p) (others n (replicas scene p))) (written_parts scene ws) a h in
     let m = in_map (unasked r.0) (others n (replicas scene r.0)) a r.2 in cc (ap (λ (z : Asked). z.ack) m.2, e)

@@ -1,5 +1,5 @@
 -- At most 1024 transactions begin: their places differ, and are places of the scene.
-use Rattle.si_laws.proofs.Counting.{Once, fits, map_length, once_append}
+use Rattle.si_laws.proofs.Counting.{Once, fits, map_length, once_append, range_length}
 use Rattle.si_laws.proofs.Seats.{of_nth, range_in}
 use Rattle.si_laws.proofs.SessionLaw.{good_everywhere}
 use Rattle.si_laws.proofs.Sessions.{InOrder, PlacedIn}
@@ -44,10 +44,6 @@ session_places n k = map (λ j. (n, j)) (range_with_len 1 k)
 abbrev scene_places : ℕ → List Session → List (ℕ × ℕ)
 scene_places n [] = []
 scene_places n (s ∷ ss) = session_places n (length s.txs) ++ scene_places (suc n) ss
-
-range_length : (a n : ℕ) → length (range_with_len a n) ≡ n
-range_length a zero = refl
-range_length a (suc n) = ap suc (range_length (a + 1) n)
 
 scene_length : (n : ℕ) (ss : List Session) → length (scene_places n ss) ≡ sum_by (λ (s : Session). length s.txs) ss
 scene_length n [] = refl

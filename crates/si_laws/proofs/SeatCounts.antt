@@ -1,12 +1,12 @@
 -- A transaction has at most 112 participants: at most 16 written partitions, each with at most 7 replicas beside the origin.
 use Rattle.partition_map.specs.declared.rows.Asked.{Asked}
-use Rattle.si_laws.proofs.Counting.{Once, fits, map_length, once_filter, once_map, once_places, once_range}
+use Rattle.si_laws.proofs.Counting.{Once, fits, map_length, once_filter, once_map, once_places, once_range, range_length}
 use Rattle.si_laws.proofs.Homes.{OwnGood, seats}
 use Rattle.si_laws.proofs.Scripting.{ScriptGood, WritesKey}
 use Rattle.si_laws.proofs.Seats.{flat_map_in, range_in}
 use Rattle.si_laws.proofs.Stages.{any_has, has_at}
 use Rattle.si_laws.specs.Commits.{wrote_key}
-use Rattle.std.proofs.Common.{List, None, Option, Some, [], ap, arith, eq-eqb, eqb-true, flat_map, inl, inr, length, length-append, map, not, refl, slice_get, subst, suc, sym, true, zero, ℕ, ◌*◌, ◌+◌, ◌∷◌, ◌≡◌, ◌≤◌}
+use Rattle.std.proofs.Common.{List, None, Option, Some, [], ap, arith, eq-eqb, eqb-true, flat_map, inl, inr, length, length-append, map, not, refl, slice_get, subst, suc, sym, true, zero, ℕ, ◌*◌, ◌∷◌, ◌≡◌, ◌≤◌}
 use Rattle.std.specs.List.{list_any, range_with_len}
 use Rattle.str_base.specs.declared.names.KeyId.{KeyId}
 use Rattle.str_base.specs.declared.names.NodeId.{NodeId}
@@ -109,10 +109,6 @@ parts_few scene ws =
     subst (λ (q : PartId). In q (map (λ (w : Write). part_of scene w.key) ws)) (part_same (part_of scene r.0.key) p (eqb-true (part_of scene r.0.key).0 p.0 r.2)) (map_in (λ (w : Write). part_of scene w.key) ws r.0 r.1))) in
     let m : length (map (λ (w : Write). part_of scene w.key) ws) ≡ length ws = map_length (λ (w : Write). part_of scene w.key) ws in
     omega (arith, fit, m)
-
-range_length : (a n : ℕ) → length (range_with_len a n) ≡ n
-range_length a zero = refl
-range_length a (suc n) = ap suc (range_length (a + 1) n)
 
 others_few : (scene : Scene) → IsScene scene → (origin : NodeId) → Exists origin.0 scene.nodes → (p : PartId) → length (others origin (replicas scene p)) ≤ 7
 others_few scene ok origin here p = by_row p.0 (nth scene.parts p.0) refl
