@@ -109,7 +109,7 @@ module _ (here : Here) (input : Input) (w : Where) where
   ack_step d e (act_reply t g rs v u fc d' o) some m h k =
       elim (in_append d.sent (letter here t.node (ReadReply t g v u (stamp fc)) ∷ []) m h) [ inl j ↦ inl j | inr j ↦ (elim j [ inl q ↦ absurd (cc (ap (λ (y : Message). is_ack y.body) q, k)) | inr q ↦ absurd q ]) ]
   ack_step d e (act_begin place rs d' r o) some m h k = inl h
-  ack_step d e (act_mark g t d') some m h k = inl h
+  ack_step d e (act_mark g t d' rd) some m h k = inl h
   ack_step d e (act_put i x y d' own g) some m h k = inl h
   ack_step d e (act_certify i lc snap x d' own f n c) some m h k = inl h
   ack_step d e (act_ack i lc from t q ts parts x d' own c r g) some m h k = inl h

@@ -156,7 +156,7 @@ module _ (here : Here) (d e : Doing) (h : Stand here d.view) (n lc i : ℕ) (sna
 around-act : (here : Here) (input : Input) (w : Where) (d e : Doing) → Act here input w d e → Stand here d.view → EachAround here e.view (Around here e.view)
 unfolding begun marked aborted committed closed certified asked acked requested accepted taken refused waits replied commit_came abort_came
 around-act here input w d e (act_begin place rs d' r g) h i y p q own hp k s hq key ne = old_around here input w d' e (act_begin place rs d' r g) h i y p q own hp hp k s hq hq key ne
-around-act here input w d e (act_mark g t d') h i y p q own hp k s hq key ne = old_around here input w d' e (act_mark g t d') h i y p q own hp hp k s hq hq key ne
+around-act here input w d e (act_mark g t d' rd) h i y p q own hp k s hq key ne = old_around here input w d' e (act_mark g t d' rd) h i y p q own hp hp k s hq hq key ne
 around-act here input w d e (act_put n x z d' o g) h i y p q own hp k s hq key ne = old_around here input w d' e (act_put n x z d' o g) h i y p q own hp hp k s hq hq key ne
 around-act here input w d e (act_request n g m x d' o r) h i y p q own hp k s hq key ne = old_around here input w d' e (act_request n g m x d' o r) h i y p q own hp hp k s hq hq key ne
 around-act here input w d e (act_ask n lc t x d' o f l g) h i y p q own hp k s hq key ne = old_around here input w d' e (act_ask n lc t x d' o f l g) h i y p q own hp hp k s hq hq key ne
@@ -230,7 +230,7 @@ pre_old ts fc ps test vs q hq l =
 apart-act : (here : Here) (input : Input) (w : Where) (d e : Doing) → Act here input w d e → Stand here d.view → PresApart e.view
 unfolding begun marked aborted committed closed certified asked acked requested accepted taken refused waits replied commit_came abort_came
 apart-act here input w d e (act_begin place rs d' r g) h p q hp k hq l key = h.apart p q hp k hq l key
-apart-act here input w d e (act_mark g t d') h p q hp k hq l key = h.apart p q hp k hq l key
+apart-act here input w d e (act_mark g t d' rd) h p q hp k hq l key = h.apart p q hp k hq l key
 apart-act here input w d e (act_put n x z d' o g) h p q hp k hq l key = h.apart p q hp k hq l key
 apart-act here input w d e (act_request n g m x d' o r) h p q hp k hq l key = h.apart p q hp k hq l key
 apart-act here input w d e (act_ask n lc t x d' o f c g) h p q hp k hq l key = h.apart p q hp k hq l key

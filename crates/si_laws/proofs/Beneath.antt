@@ -28,7 +28,7 @@ module _ (here : Here) (input : Input) (w : Where) where
   pub leaves : (d e : Doing) → (w ≢ InRule) → Act here input w d e → Leaves w d.view e.view
   unfolding begun marked aborted committed closed certified asked acked requested accepted taken refused waits replied commit_came abort_came
   leaves d e n (act_begin place rs d' r h) = absurd (n r)
-  leaves d e n (act_mark k t d') = record { others = λ j f. refl; same_length = refl }
+  leaves d e n (act_mark k t d' rd) = record { others = λ j f. refl; same_length = refl }
   leaves d e n (act_put i x y d' own g) = record { others = at_one w d'.view.own i _ own.1; same_length = length-set d'.view.own i _ }
   leaves d e n (act_request i k m x d' own g) = record { others = at_one w d'.view.own i _ own.1; same_length = length-set d'.view.own i _ }
   leaves d e n (act_certify i lc snap x d' own f l c) = record { others = at_one w d'.view.own i _ own.1; same_length = length-set d'.view.own i _ }

@@ -86,7 +86,7 @@ carried d e (turns_one n x' y' is q b) = record { each = each_one; fates = each_
 pub done-grows : (here : Here) (input : Input) (w : Where) (d e : Doing) → Act here input w d e → (k : TxId × PartId) → In k d.view.done → In k e.view.done
 unfolding begun marked aborted committed closed certified asked acked requested accepted taken refused waits replied commit_came abort_came
 done-grows here input w d e (act_begin place rs d' r h) k m = m
-done-grows here input w d e (act_mark g t d') k m = m
+done-grows here input w d e (act_mark g t d' rd) k m = m
 done-grows here input w d e (act_put i x y d' own g) k m = m
 done-grows here input w d e (act_request i g n x d' own h) k m = m
 done-grows here input w d e (act_certify i lc snap x d' own f n c) k m = m
@@ -175,7 +175,7 @@ module _ (here : Here) (input : Input) (w : Where) (d e : Doing) (act : Act here
 pub finals-act : (here : Here) (input : Input) (w : Where) (d e : Doing) → Act here input w d e → Stand here d.view → (q : Version) → In q e.view.versions → q.kind ≡ Final → FinalKnown here e.view q
 unfolding begun marked aborted committed closed certified asked acked requested accepted taken refused waits replied commit_came abort_came
 finals-act here input w d e (act_begin place rs d' r g) h q m k = old_final here input w d' e (act_begin place rs d' r g) h q m k
-finals-act here input w d e (act_mark g t d') h q m k = old_final here input w d' e (act_mark g t d') h q m k
+finals-act here input w d e (act_mark g t d' rd) h q m k = old_final here input w d' e (act_mark g t d' rd) h q m k
 finals-act here input w d e (act_put i x y d' own g) h q m k = old_final here input w d' e (act_put i x y d' own g) h q m k
 finals-act here input w d e (act_request i g n x d' own r) h q m k = old_final here input w d' e (act_request i g n x d' own r) h q m k
 finals-act here input w d e (act_ask i lc p x d' own f l g) h q m k = old_final here input w d' e (act_ask i lc p x d' own f l g) h q m k

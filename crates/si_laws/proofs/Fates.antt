@@ -60,7 +60,7 @@ module _ (here : Here) (input : Input) (w : Where) where
       set_after w d'.view e.view n i x z _ own op o.0 refl (λ s t. now_committed (o.1 ∙ ap InTurn (sym s)) (ap (λ (u : Own). u.snap.deps) t ∙ none) _ (set_at d'.view e.view n i z _ o.0 refl s) (ap (λ (u : Own). u.snap) (sym t)))
   stays-act d e (act_close n z d' o p none) i x own op =
       set_after w d'.view e.view n i x z _ own op o.0 refl (λ s t. now_committed (o.1 ∙ ap InTurn (sym s)) (ap (λ (u : Own). u.snap.deps) t ∙ none) _ (set_at d'.view e.view n i z _ o.0 refl s) (ap (λ (u : Own). u.snap) (sym t)))
-  stays-act d e (act_mark k t d') i x own op = stays_open x own op
+  stays-act d e (act_mark k t d' rd) i x own op = stays_open x own op
   stays-act d e (act_accept a ts d' g m) i x own op = stays_open x own op
   stays-act d e (act_refuse a u k d' g m) i x own op = stays_open x own op
   stays-act d e (act_take from a d' c l) i x own op = stays_open x own op

@@ -137,7 +137,7 @@ module _ (here : Here) (ok : IsScene here.scene) where
       none : {k : KeyId} → Looks (fresh place rs) k → ⊥
       none (inl s) = s.1
       none (inr s) = s
-  marked-act input w d e (act_mark k t d') h = rest d'.view e.view (raised-rises d'.view.marks k t) refl h
+  marked-act input w d e (act_mark k t d' rd) h = rest d'.view e.view (raised-rises d'.view.marks k t) refl h
   marked-act input w d e (act_put i x y d' own g) h = turn d'.view e.view i x y refl refl own.0 (changed input d' i x y g.change (within_of d'.view i x h own.0)) h
   marked-act input w d e (act_request i k m x d' own g) h =
       turn d'.view e.view i x (in_phase (Remote k) x) refl refl own.0 (changed input d' i x (in_phase (Remote k) x) g.change (within_of d'.view i x h own.0)) h

@@ -100,7 +100,7 @@ module _ (here : Here) (input : Input) (w : Where) where
   letter-act d e (act_reply tx k rs v u fc d' g) m h =
       elim (in_append d'.sent (letter here tx.node (ReadReply tx k v u (stamp fc)) ∷ []) m h) [ inl j ↦ inl j | inr j ↦ inr (one_letter d' e m tx.node _ (lf_reply tx k rs v u fc g refl) j) ]
   letter-act d e (act_begin place rs d' r g) m h = sent_old d' e m refl h
-  letter-act d e (act_mark k t d') m h = sent_old d' e m refl h
+  letter-act d e (act_mark k t d' rd) m h = sent_old d' e m refl h
   letter-act d e (act_put i x y d' own g) m h = sent_old d' e m refl h
   letter-act d e (act_certify i lc snap x d' own f n c) m h = sent_old d' e m refl h
   letter-act d e (act_close i x d' own p n) m h = sent_old d' e m refl h
@@ -151,7 +151,7 @@ final-act here input w d e (act_take from a d' c l) q m k =
       | inr j ↦ ff_old j
     ]
 final-act here input w d e (act_begin place rs d' r g) q m k = ff_old m
-final-act here input w d e (act_mark g t d') q m k = ff_old m
+final-act here input w d e (act_mark g t d' rd) q m k = ff_old m
 final-act here input w d e (act_put i x y d' own g) q m k = ff_old m
 final-act here input w d e (act_request i g n x d' own r) q m k = ff_old m
 final-act here input w d e (act_ask i lc p x d' own f l g) q m k = ff_old m

@@ -65,3 +65,14 @@ pub mod Causes
 pub mod Writing
 pub mod Conflicts
 pub mod Naming
+pub mod Bounds
+pub mod BoundParts
+pub mod BoundActs
+pub mod BoundLetters
+pub mod Proposing
+pub mod Bounding
+pub mod Repeats
+pub mod Places
+pub mod SeatCounts
+pub mod AckKeys
+pub mod AckCounts

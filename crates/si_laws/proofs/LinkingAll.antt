@@ -177,7 +177,7 @@ module _ (scene : Scene) (s : Stage) (i : ℕ) (v : View) (input : Input) (w : W
 
 -- ---- over every run
 
-linked_opening : (scene : Scene) → Linked scene (stage_of (opening scene))
+pub linked_opening : (scene : Scene) → Linked scene (stage_of (opening scene))
 linked_opening scene = record {
   home = λ n v g i x own. absurd (cc (ap (λ (z : View). slice_get z.own i) (sym (empty n v g)), own));
   master = λ n v g a k. absurd (subst (λ (z : View). In (Held a) z.waiters) (empty n v g) k);

@@ -51,7 +51,7 @@ module _ (here : Here) (input : Input) (w : Where) where
   pub version_act : (d e : Doing) → Act here input w d e → VersionAct here input d e
   unfolding begun marked aborted committed closed certified asked acked requested accepted taken refused waits replied commit_came abort_came
   version_act d e (act_begin place rs d' r h) = va_fewer (λ q k. k)
-  version_act d e (act_mark k t d') = va_fewer (λ q k. k)
+  version_act d e (act_mark k t d' rd) = va_fewer (λ q k. k)
   version_act d e (act_put i x y d' own g) = va_fewer (λ q k. k)
   version_act d e (act_request i k m x d' own g) = va_fewer (λ q k. k)
   version_act d e (act_certify i lc snap x d' own f n c) = va_locals i lc x (λ q h. elim (in_insert_all (map (local_version here i lc) x.writes) d'.view.versions q h) [

@@ -194,7 +194,7 @@ module _ (here : Here) (input : Input) (w : Where) where
   pub locals-act : (d e : Doing) → Act here input w d e → Locals d → Locals e
   unfolding Locals own_step begun marked aborted committed closed certified asked acked requested accepted taken refused waits replied commit_came abort_came
   locals-act d e (act_begin place rs d' r h) l u i k = open_local d' e (own_step here input w d' e (act_begin place rs d' r h)) (λ z. z) u (l u i k)
-  locals-act d e (act_mark m t d') l u i k = open_local d' e (own_step here input w d' e (act_mark m t d')) (λ z. z) u (l u i k)
+  locals-act d e (act_mark m t d' rd) l u i k = open_local d' e (own_step here input w d' e (act_mark m t d' rd)) (λ z. z) u (l u i k)
   locals-act d e (act_put n x y d' own g) l u i k = open_local d' e (own_step here input w d' e (act_put n x y d' own g)) (λ z. z) u (l u i k)
   locals-act d e (act_request n key m x d' own g) l u i k = open_local d' e (own_step here input w d' e (act_request n key m x d' own g)) (λ z. z) u (l u i k)
   locals-act d e (act_ask n lc p x d' own f h g) l u i k = open_local d' e (own_step here input w d' e (act_ask n lc p x d' own f h g)) (λ z. z) u (l u i k)

@@ -67,7 +67,7 @@ module _ (here : Here) (input : Input) (w : Where) (tx : TxId) (p : PartId) wher
     pub pair_step : (d e : Doing) → Act here input w d e → PairStep d e
     unfolding begun marked aborted committed closed certified asked acked requested accepted taken refused waits replied commit_came abort_came
     pair_step d e (act_begin place rs d' r h) = ps_rests (λ k. k) (λ v q k. k)
-    pair_step d e (act_mark g t d') = ps_rests (λ k. k) (λ v q k. k)
+    pair_step d e (act_mark g t d' rd) = ps_rests (λ k. k) (λ v q k. k)
     pair_step d e (act_put i x y d' own g) = ps_rests (λ k. k) (λ v q k. k)
     pair_step d e (act_request i g m x d' own h) = ps_rests (λ k. k) (λ v q k. k)
     pair_step d e (act_certify i lc snap x d' own f n c) = ps_rests (λ k. k) (λ v q k. in_all_old (map (local_version here i lc) x.writes) d'.view.versions v k)

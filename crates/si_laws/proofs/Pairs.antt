@@ -85,7 +85,7 @@ module _ (here : Here) (input : Input) (w : Where) (tx : TxId) (p : PartId) wher
   pub done_back : (d e : Doing) → Act here input w d e → Has (is_pair tx p) e.view.done → DoneNow d.view e.view d
   unfolding begun marked aborted committed closed certified asked acked requested accepted taken refused waits replied commit_came abort_came
   done_back d e (act_begin place rs d' r h) k = d_was k
-  done_back d e (act_mark g t d') k = d_was k
+  done_back d e (act_mark g t d' rd) k = d_was k
   done_back d e (act_put i x y d' own g) k = d_was k
   done_back d e (act_request i g m x d' own h) k = d_was k
   done_back d e (act_certify i lc snap x d' own f n c) k = d_was k
@@ -125,7 +125,7 @@ module _ (here : Here) (input : Input) (w : Where) (tx : TxId) (p : PartId) wher
   pub park_step : (d e : Doing) → Act here input w d e → ParkStep d.view e.view
   unfolding begun marked aborted committed closed certified asked acked requested accepted taken refused waits replied commit_came abort_came
   park_step d e (act_begin place rs d' r h) = inl (omega arith)
-  park_step d e (act_mark g t d') = inl (omega arith)
+  park_step d e (act_mark g t d' rd) = inl (omega arith)
   park_step d e (act_put i x y d' own g) = inl (omega arith)
   park_step d e (act_request i g m x d' own h) = inl (omega arith)
   park_step d e (act_certify i lc snap x d' own f n c) = inl (omega arith)
@@ -172,7 +172,7 @@ module _ (here : Here) (input : Input) (w : Where) (tx : TxId) (p : PartId) wher
     pub known_back : (d e : Doing) → Act here input w d e → Knows tx p e.view → Knows tx p d.view ⊎ Learns d.view e.view d
     unfolding begun marked aborted committed closed certified asked acked requested accepted taken refused waits replied commit_came abort_came
     known_back d e (act_begin place rs d' r h) k = inl k
-    known_back d e (act_mark g t d') k = inl k
+    known_back d e (act_mark g t d' rd) k = inl k
     known_back d e (act_put i x y d' own g) k = inl k
     known_back d e (act_request i g m x d' own h) k = inl k
     known_back d e (act_certify i lc snap x d' own f n c) (inl k) = inl (inl k)

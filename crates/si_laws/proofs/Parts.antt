@@ -76,7 +76,7 @@ module _ (here : Here) (input : Input) (w : Where) where
   pub version_step : (d e : Doing) → Act here input w d e → VersionStep here input d e
   unfolding begun marked aborted committed closed certified asked acked requested accepted taken refused waits replied commit_came abort_came
   version_step d e (act_begin place rs d' r h) = v_rests refl
-  version_step d e (act_mark k t d') = v_rests refl
+  version_step d e (act_mark k t d' rd) = v_rests refl
   version_step d e (act_put i x y d' own g) = v_rests refl
   version_step d e (act_request i k m x d' own g) = v_rests refl
   version_step d e (act_certify i lc snap x d' own f n c) = v_locals i lc x refl
@@ -100,7 +100,7 @@ module _ (here : Here) (input : Input) (w : Where) where
   wait_step d e (act_unwait kept rest r d' h) = w_fewer (λ x k. subst (In x) (sym h.waiters) (elim (in_append kept rest x k) [ inl a ↦ in_left kept (r ∷ rest) x a | inr b ↦ in_right kept (r ∷ rest) x (inr b) ]))
   wait_step d e (act_abort_came from tx p d' c h) = w_fewer (dropped tx p d'.view.waiters)
   wait_step d e (act_begin place rs d' r h) = w_fewer (λ w k. k)
-  wait_step d e (act_mark k t d') = w_fewer (λ w k. k)
+  wait_step d e (act_mark k t d' rd) = w_fewer (λ w k. k)
   wait_step d e (act_put i x y d' own g) = w_fewer (λ w k. k)
   wait_step d e (act_request i k m x d' own g) = w_fewer (λ w k. k)
   wait_step d e (act_certify i lc snap x d' own f n c) = w_fewer (λ w k. k)
@@ -163,7 +163,7 @@ module _ (here : Here) (input : Input) (w : Where) where
   sent_step d e (act_reply tx k rs v u fc d' h) =
       record { new = letter here tx.node (ReadReply tx k v u (record { 0 = fc })) ∷ []; are = refl; each = λ l h. elim h [ inl q ↦ l_other (λ tx p z. subst (λ (y : Message). Asks tx p y.body) (sym q) z) | inr k ↦ absurd k ] }
   sent_step d e (act_begin place rs d' r h) = none_sent d e refl
-  sent_step d e (act_mark k t d') = none_sent d e refl
+  sent_step d e (act_mark k t d' rd) = none_sent d e refl
   sent_step d e (act_put i x y d' own g) = none_sent d e refl
   sent_step d e (act_certify i lc snap x d' own f n c) = none_sent d e refl
   sent_step d e (act_close i x d' own p n) = none_sent d e refl

@@ -158,7 +158,7 @@ module _ (here : Here) (input : Input) where
     reads-act d e (act_abort n cause x d' o f g) i y r own h = set_back d' n i x (in_phase (Aborted (lc_of x.phase) cause) x) y r o.0 own h (λ j. rb_old x o.0 j refl)
     reads-act d e (act_commit n lc fc x d' o l none le f g) i y r own h = set_back d' n i x (in_phase (Committed (Some lc) (Some fc)) x) y r o.0 own h (λ j. rb_old x o.0 j refl)
     reads-act d e (act_close n x d' o p none) i y r own h = set_back d' n i x (in_phase (Committed None None) x) y r o.0 own h (λ j. rb_old x o.0 j refl)
-    reads-act d e (act_mark k t d') i y r own h = rb_old y own h refl
+    reads-act d e (act_mark k t d' rd) i y r own h = rb_old y own h refl
     reads-act d e (act_accept a ts d' g m) i y r own h = rb_old y own h refl
     reads-act d e (act_refuse a u k d' g m) i y r own h = rb_old y own h refl
     reads-act d e (act_take from a d' c l) i y r own h = rb_old y own h refl
@@ -181,7 +181,7 @@ module _ (here : Here) (input : Input) where
     reply-act d e (act_abort n cause x d' o f g) i y k a by fc own h = set_reply d' n i x (in_phase (Aborted (lc_of x.phase) cause) x) y k a by fc o.0 own h (λ q. absurd (cc q))
     reply-act d e (act_commit n lc gc x d' o l none le f g) i y k a by fc own h = set_reply d' n i x (in_phase (Committed (Some lc) (Some gc)) x) y k a by fc o.0 own h (λ q. absurd (cc q))
     reply-act d e (act_close n x d' o p none) i y k a by fc own h = set_reply d' n i x (in_phase (Committed None None) x) y k a by fc o.0 own h (λ q. absurd (cc q))
-    reply-act d e (act_mark l t d') i y k a by fc own h = pb_old y own refl h
+    reply-act d e (act_mark l t d' rd) i y k a by fc own h = pb_old y own refl h
     reply-act d e (act_accept b ts d' g m) i y k a by fc own h = pb_old y own refl h
     reply-act d e (act_refuse b u l d' g m) i y k a by fc own h = pb_old y own refl h
     reply-act d e (act_take from b d' c l) i y k a by fc own h = pb_old y own refl h

@@ -260,7 +260,7 @@ module _ (here : Here) where
   pub script-act : (input : Input) (w : Where) (d e : Doing) → Act here input w d e → AllScripts d.view → AllScripts e.view
   unfolding begun marked aborted committed closed certified asked acked requested accepted taken refused waits replied commit_came abort_came
   script-act input w d e (act_begin place rs d' r g) h = λ j z k. elim (got_push d'.view.own j (fresh place rs) z k) [ inl p ↦ subst (ScriptGood here) (sym p.1) (fresh_script place rs) | inr p ↦ h j z p ]
-  script-act input w d e (act_mark k t d') h = h
+  script-act input w d e (act_mark k t d' rd) h = h
   script-act input w d e (act_put i x y d' own g) h = script_set d'.view.own i x y own.0 (change-good input d' i x y g.change) h
   script-act input w d e (act_request i k m x d' own g) h = script_set d'.view.own i x (in_phase (Remote k) x) own.0 (change-good input d' i x (in_phase (Remote k) x) g.change) h
   script-act input w d e (act_certify i lc snap x d' own f n c) h =

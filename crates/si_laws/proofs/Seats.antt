@@ -30,7 +30,7 @@ flat_map_in f (z ∷ xs) x y (inr h) k = in_right (f z) (flat_map f xs) y (flat_
 above : (b c : ℕ) → b ≤ c → b ≢ c → b + 1 ≤ c
 above b c l f = grind (arith, l, f)
 
-range_in : (a n k : ℕ) → a ≤ k → k < a + n → In k (range_with_len a n)
+pub range_in : (a n k : ℕ) → a ≤ k → k < a + n → In k (range_with_len a n)
 range_in a zero k le less = absurd (omega (arith, le, less))
 range_in a (suc n) k le less = by_first (same_or_not a k) (λ l. range_in (a + 1) n k l (omega (arith, less)))
   where
@@ -38,7 +38,7 @@ range_in a (suc n) k le less = by_first (same_or_not a k) (λ l. range_in (a + 1
     by_first (inl e) rec = inl e
     by_first (inr f) rec = inr (rec (above a k le f))
 
-in_range : (a n k : ℕ) → In k (range_with_len a n) → (a ≤ k) × (k < a + n)
+pub in_range : (a n k : ℕ) → In k (range_with_len a n) → (a ≤ k) × (k < a + n)
 in_range a zero k h = absurd h
 in_range a (suc n) k (inl e) = (omega (arith, e), omega (arith, e))
 in_range a (suc n) k (inr h) = let r = in_range (a + 1) n k h in (omega (arith, r.0), omega (arith, r.1))

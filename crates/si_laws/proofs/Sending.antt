@@ -120,7 +120,7 @@ module _ (here : Here) (input : Input) (w : Where) where
   letter_step d e (act_refuse a u g d' o n) m h = plain_one d' e (letter here a.tx.node (Refusal a.tx a.part u g)) m refl h
   letter_step d e (act_reply t g rs v u fc d' o) m h = plain_one d' e (letter here t.node (ReadReply t g v u (stamp fc))) m refl h
   letter_step d e (act_begin place rs d' r o) m h = inl h
-  letter_step d e (act_mark g t d') m h = inl h
+  letter_step d e (act_mark g t d' rd) m h = inl h
   letter_step d e (act_put i x y d' own g) m h = inl h
   letter_step d e (act_certify i lc snap x d' own f n c) m h = inl h
   letter_step d e (act_ack i lc from t q ts parts x d' own c r g) m h = inl h

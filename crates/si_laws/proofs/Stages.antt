@@ -158,7 +158,7 @@ module _ (here : Here) (input : Input) (w : Where) (tx : TxId) (p : PartId) (oth
   pub done-act : (d e : Doing) → Act here input w d e → Done d.view → Done e.view
   unfolding begun marked aborted committed closed certified asked acked requested accepted taken refused waits replied commit_came abort_came
   done-act d e (act_begin place rs d' r h) k = k
-  done-act d e (act_mark g t d') k = k
+  done-act d e (act_mark g t d' rd) k = k
   done-act d e (act_put i x y d' own g) k = k
   done-act d e (act_request i g m x d' own h) k = k
   done-act d e (act_certify i lc snap x d' own f n c) k = k
@@ -185,7 +185,7 @@ module _ (here : Here) (input : Input) (w : Where) (tx : TxId) (p : PartId) (oth
   stands-act : (d e : Doing) → Act here input w d e → Stands d.view → Done e.view ⊎ Stands e.view
   unfolding begun marked aborted committed closed certified asked acked requested accepted taken refused waits replied commit_came abort_came
   stands-act d e (act_begin place rs d' r h) k = inr k
-  stands-act d e (act_mark g t d') k = inr k
+  stands-act d e (act_mark g t d' rd) k = inr k
   stands-act d e (act_put i x y d' own g) k = inr k
   stands-act d e (act_request i g m x d' own h) k = inr k
   stands-act d e (act_certify i lc snap x d' own f n c) k = inr (k.0, in_all_old (map (local_version here i lc) x.writes) d.view.versions k.0 k.1, k.2)
@@ -225,7 +225,7 @@ module _ (here : Here) (input : Input) (w : Where) (tx : TxId) (p : PartId) (oth
   waits-act : (d e : Doing) → Act here input w d e → SomeWrites d.view → Waits d.view → Done e.view ⊎ (Stands e.view ⊎ Waits e.view)
   unfolding begun marked aborted committed closed certified asked acked requested accepted taken refused waits replied commit_came abort_came
   waits-act d e (act_begin place rs d' r h) some k = inr (inr k)
-  waits-act d e (act_mark g t d') some k = inr (inr k)
+  waits-act d e (act_mark g t d' rd) some k = inr (inr k)
   waits-act d e (act_put i x y d' own g) some k = inr (inr k)
   waits-act d e (act_request i g m x d' own h) some k = inr (inr k)
   waits-act d e (act_certify i lc snap x d' own f n c) some k = inr (inr k)

@@ -65,7 +65,7 @@ module _ (here : Here) (input : Input) (w : Where) where
   pub own_change : (d e : Doing) → Act here input w d e → OwnChange here input d.view e.view
   unfolding begun marked aborted committed closed certified asked acked requested accepted taken refused waits replied commit_came abort_came
   own_change d e (act_begin place rs d' r h) = o_begins place rs refl
-  own_change d e (act_mark k t d') = o_rests refl
+  own_change d e (act_mark k t d' rd) = o_rests refl
   own_change d e (act_put i x y d' own g) = o_puts i x y own.0 (puts_on here input d' i x y g) refl
   own_change d e (act_request i k m x d' own g) = o_puts i x (in_phase (Remote k) x) own.0 (puts_on here input d' i x (in_phase (Remote k) x) g) refl
   own_change d e (act_certify i lc snap x d' own f n c) =
@@ -103,7 +103,7 @@ module _ (here : Here) (input : Input) (w : Where) where
     pub own_stays : (d e : Doing) → Act here input w d e → In v d.view.versions → In v e.view.versions ⊎ DecidesOne d.view e.view i
     unfolding begun marked aborted committed closed certified asked acked requested accepted taken refused waits replied commit_came abort_came
     own_stays d e (act_begin place rs d' r h) k = inl k
-    own_stays d e (act_mark g t d') k = inl k
+    own_stays d e (act_mark g t d' rd) k = inl k
     own_stays d e (act_put j x y d' own g) k = inl k
     own_stays d e (act_request j g m x d' own h) k = inl k
     own_stays d e (act_certify j lc snap x d' own f n c) k = inl (in_all_old (map (local_version here j lc) x.writes) d.view.versions v k)

@@ -126,7 +126,7 @@ module _ (here : Here) where
   needy-act input w d e (act_abort n cause x d' o f g) h i y own = set_needy d' n _ h (record { unmet = λ p. absurd (cc p); waits = λ j w. absurd w }) i y own
   needy-act input w d e (act_commit n lc fc x d' o l none le f g) h i y own = set_needy d' n _ h (record { unmet = λ p. absurd (cc p); waits = λ j w. absurd w }) i y own
   needy-act input w d e (act_close n x d' o p none) h i y own = set_needy d' n _ h (record { unmet = λ p. absurd (cc p); waits = λ j w. absurd w }) i y own
-  needy-act input w d e (act_mark k t d') h i y own = h i y own
+  needy-act input w d e (act_mark k t d' rd) h i y own = h i y own
   needy-act input w d e (act_accept a ts d' g m) h i y own = h i y own
   needy-act input w d e (act_refuse a u k d' g m) h i y own = h i y own
   needy-act input w d e (act_take from a d' c l) h i y own = h i y own

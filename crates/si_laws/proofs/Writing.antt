@@ -96,7 +96,7 @@ wrote-act here input w d e (act_ack n lc from tx p ts parts z d' o c q g) i x k 
 wrote-act here input w d e (act_abort n cause z d' o f g) i x k own h = set_keeps d'.view e.view n i x z _ k own o.0 refl h (λ q. q)
 wrote-act here input w d e (act_commit n lc fc z d' o l none le f g) i x k own h = set_keeps d'.view e.view n i x z _ k own o.0 refl h (λ q. q)
 wrote-act here input w d e (act_close n z d' o p none) i x k own h = set_keeps d'.view e.view n i x z _ k own o.0 refl h (λ q. q)
-wrote-act here input w d e (act_mark l t d') i x k own h = (x, own, h)
+wrote-act here input w d e (act_mark l t d' rd) i x k own h = (x, own, h)
 wrote-act here input w d e (act_accept a ts d' g m) i x k own h = (x, own, h)
 wrote-act here input w d e (act_refuse a u l d' g m) i x k own h = (x, own, h)
 wrote-act here input w d e (act_take from a d' c l) i x k own h = (x, own, h)
@@ -169,7 +169,7 @@ version_from here input w d e (act_commit_came from t p fc ms d' c g) q h =
       | inr j ↦ vf_old q (in_without (of_pair t p) d'.view.versions q j) refl refl
     ]
 version_from here input w d e (act_begin place rs d' r g) q h = vf_old q h refl refl
-version_from here input w d e (act_mark l t d') q h = vf_old q h refl refl
+version_from here input w d e (act_mark l t d' rd) q h = vf_old q h refl refl
 version_from here input w d e (act_put n z y d' o g) q h = vf_old q h refl refl
 version_from here input w d e (act_request n l to z d' o g) q h = vf_old q h refl refl
 version_from here input w d e (act_ask n lc p z d' o f l g) q h = vf_old q h refl refl

@@ -24,9 +24,10 @@ final_times _ = []
 abbrev pub ack_times : Asked → List ℕ
 ack_times a = elim a.ack [ None ↦ [] | Some t ↦ t.0 ∷ [] ]
 
--- those of an own transaction
+-- those of an own transaction, with the timestamps of its dependencies
 abbrev pub own_times : Own → List ℕ
-own_times x = x.snap.rs ∷ x.snap.ffc ∷ or_nothing (lc_of x.phase) ++ final_times x.phase ++ flat_map ack_times x.parts
+own_times x =
+    x.snap.rs ∷ x.snap.ffc ∷ map (λ d. d.rs.0) x.snap.deps ++ or_nothing (lc_of x.phase) ++ final_times x.phase ++ flat_map ack_times x.parts
 
 -- those of one that waits
 abbrev pub waiter_times : Waiter → List ℕ

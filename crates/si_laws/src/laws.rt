@@ -1,5 +1,5 @@
 //! Laws of every run: functions without effect, each of which carries one law.
-ghost use Rattle.si_laws.specs.Laws.Times.{TimesHold};
+ghost use Rattle.si_laws.specs.Laws.Times.{TimesBounded, TimesHold};
 ghost use Rattle.si_laws.specs.Laws.Lasting.{AnswersGrow, DecidedStay};
 ghost use Rattle.si_laws.specs.Laws.Cut.{CutHolds};
 ghost use Rattle.si_laws.specs.Laws.Asking.{PresAsked};
@@ -7,12 +7,17 @@ ghost use Rattle.si_laws.specs.Laws.Session.{SessionHolds};
 ghost use Rattle.si_laws.specs.Laws.Reasons.{CausesNamed, GateLawHolds};
 ghost use Rattle.si_laws.specs.Laws.Marks.{HomeMarksHold};
 ghost use Rattle.si_laws.specs.Laws.Stages.{AcksKnown, StagesForward};
-ghost use Rattle.si_laws.specs.Laws.Presence.{PresenceByBound, PresenceStands};
+ghost use Rattle.si_laws.specs.Laws.Presence.{PresenceHolds, PresenceStands};
 ghost use Rattle.si_laws.specs.Laws.Apart.{ApartHolds, OrderHolds};
 
 /// Times at a node, over every list of events.
 pub fn times_hold()
     ensures { TimesHold }
+{}
+
+/// Every timestamp is below 2^62 and the number of proposals, of which there are 1024 * 113 at most.
+pub fn times_bounded()
+    ensures { TimesBounded }
 {}
 
 /// A decided transaction stays as it is.
@@ -68,12 +73,6 @@ pub fn presence_stands()
     ensures { PresenceStands }
 {}
 
-/// The same by what was given: where the pair is not done, its decision was never given to the node. It rests on the bound of timestamps,
-/// since a decision that reaches the limit would be strange to its receiver.
-pub fn presence_by_bound()
-    ensures { PresenceByBound }
-{}
-
 /// What a committed transaction depended on or read from committed first, and cascades end in their event.
 pub fn gate_law_holds()
     ensures { GateLawHolds }
@@ -87,4 +86,9 @@ pub fn home_marks_hold()
 /// The answer of an abort names the cause with which its transaction stands aborted.
 pub fn causes_named()
     ensures { CausesNamed }
+{}
+
+/// Where versions of a transaction stand, by what was given: where the pair is not done, its decision was never given to the node.
+pub fn presence_holds()
+    ensures { PresenceHolds }
 {}

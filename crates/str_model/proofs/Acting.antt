@@ -1,6 +1,6 @@
 -- A step as a chain of single changes, each under the facts at which it is made. A law over runs looks at each
 -- change once, and never at the order in which a step makes them.
-use Rattle.std.proofs.Common.{List, None, Option, Some, [], false, nat_lt, refl, slice_get, subst, sym, true, ℕ, ◌++◌, ◌+◌, ◌-◌, ◌∷◌, ◌≡◌, ◌≤◌}
+use Rattle.std.proofs.Common.{List, None, Option, Some, [], false, nat_lt, refl, slice_get, subst, sym, true, ℕ, ◌++◌, ◌+◌, ◌-◌, ◌∷◌, ◌≡◌, ◌≤◌, max}
 use Rattle.partition_map.specs.declared.rows.Asked.{Asked}
 use Rattle.str_base.specs.declared.names.Cause.{Cause}
 use Rattle.str_base.specs.declared.names.Cause.TheVariants.{Conflict as ByConflict, Late as IsLate, Lost as IsLost, Wish}
@@ -28,11 +28,11 @@ use Rattle.str_model.specs.declared.messages.Message.{Message}
 use Rattle.str_model.specs.declared.messages.Waiter.{Waiter}
 use Rattle.str_model.specs.declared.messages.Waiter.TheVariants.{Held, Read}
 use Rattle.str_model.specs.Acts.{abort_came, aborted, accepted, acked, asked, begun, certified, closed, commit_came, committed, in_phase, marked, refused, replied, requested, taken, waits, with_waiters}
-use Rattle.str_model.specs.Clients.{last_index, of_session}
+use Rattle.str_model.specs.Clients.{last_index, of_session, reading_limit}
 use Rattle.str_model.specs.Gates.{Ask, CommitAt, gate_of}
 use Rattle.str_model.specs.Proposals.{Accept, Refuse, is_known, is_parked, master_turn, proposed, ts_limit}
 use Rattle.str_model.specs.Returns.{own_named, with_ack}
-use Rattle.str_scene.specs.Scenes.{Here, Session, is_master, nth}
+use Rattle.str_scene.specs.Scenes.{Here, Session, hosts, is_master, nth}
 use Rattle.dependency_set.specs.Snapshots.{Snap}
 use Rattle.str_model.specs.Steps.{decides, drop_held}
 use Rattle.str_model.specs.Strange.{is_valid}
@@ -99,6 +99,11 @@ pub data Reads (here : Here) (x : Own) (k : KeyId) : Type 0 where
 abbrev pub JustMarked : View → KeyId → ℕ → Type 0
 JustMarked v k t = (ms : List ℕ) × (v.marks ≡ raised ms k t)
 
+-- a read of another node has come, and has left its mark
+abbrev pub ComesToRead : Here → Input → Doing → NodeId → TxId → KeyId → Ts → Type 0
+ComesToRead here input d from tx k rs =
+    (m : Message) × (input ≡ Deliver m) × (m.sender ≡ from) × (m.body ≡ ReadReq tx k rs) × (is_valid here m ≡ true) × JustMarked d.view k rs.0
+
 -- what was read, and the snapshot then
 pub data ReadsTo (here : Here) (v : View) (snap : Snap) (k : KeyId) (a : Value) (by : Option TxId) (new : Snap) : Type 0 where
   to_final : (fc : ℕ) → read_turn here v snap k ≡ Plain a by fc new → ReadsTo here v snap k a by new
@@ -164,9 +169,9 @@ abbrev pub left_waiting : {here : Here} {input : Input} {d : Doing} {a : Arrived
 left_waiting {d = d} (it_comes from c u z m) = d.view.waiters
 left_waiting (it_waits kept rest q) = kept ++ rest
 
--- one who begins to wait has just come
+-- one who begins to wait has just come; a read has left its mark
 pub data Arrives (here : Here) (input : Input) (d : Doing) : Waiter → Type 0 where
-  a_read : (from : NodeId) (tx : TxId) (k : KeyId) (rs : Ts) → Comes here input from (ReadReq tx k rs) → Arrives here input d (Read tx k rs)
+  a_read : (from : NodeId) (tx : TxId) (k : KeyId) (rs : Ts) → ComesToRead here input d from tx k rs → Arrives here input d (Read tx k rs)
   a_prepare : (from : NodeId) (a : Arrived) → Comes here input from (Prepare a.tx a.part a.rs a.lc a.writes) → is_known d.view a.tx a.part ≡ false → is_parked d.view a.tx a.part ≡ false
       → IsMasters here a → Arrives here input d (Held a)
 
@@ -185,9 +190,11 @@ pub data NextPlace (own : List Own) (place : TxPlace) : Type 0 where
   is_next : (i : ℕ) (x : Own) → last_index (of_session place.session) own ≡ Some i → slice_get own i ≡ Some x → is_decided x.phase ≡ true
       → place.index ≡ x.place.index + 1 → NextPlace own place
 
--- a transaction may begin: the session is one of this node, the place is its next one, and the timestamp is at least the floor
+-- a transaction may begin: the session is one of this node, the place is its next one, and the timestamp is at least the floor, and
+-- above it at most the limit of readings
 pub record Begins (here : Here) (place : TxPlace) (rs : ℕ) (d : Doing) : Type 0 where
   pub above : d.view.floor ≤ rs
+  pub most : rs ≤ max reading_limit d.view.floor
   pub text : Session
   pub session : nth here.scene.sessions place.session.0 ≡ Some text
   pub node : same_node text.node here.node ≡ true
@@ -195,9 +202,14 @@ pub record Begins (here : Here) (place : TxPlace) (rs : ℕ) (d : Doing) : Type 
   pub script : nth text.txs place.index ≡ Some ops
   pub next : NextPlace d.view.own place
 
--- the read was asked for by the message that has come, or waits here
+-- the mark that rises is for a read of an own transaction, or for one that has come
+pub data IsReading (here : Here) (input : Input) (d : Doing) (k : KeyId) (t : ℕ) : Type 0 where
+  own_reading : (i : ℕ) (x : Own) → slice_get d.view.own i ≡ Some x → t ≡ x.snap.rs → IsReading here input d k t
+  far_reading : (from : NodeId) (tx : TxId) (rs : Ts) → t ≡ rs.0 → Comes here input from (ReadReq tx k rs) → IsReading here input d k t
+
+-- the read was asked for by the message that has come, and has left its mark, or it waits here
 pub data IsAsked (here : Here) (input : Input) (d : Doing) (tx : TxId) (k : KeyId) (rs : ℕ) : Type 0 where
-  asked_now : (from : NodeId) (t : Ts) → t.0 ≡ rs → Comes here input from (ReadReq tx k t) → IsAsked here input d tx k rs
+  asked_now : (from : NodeId) (t : Ts) → t.0 ≡ rs → ComesToRead here input d from tx k t → IsAsked here input d tx k rs
   asked_before : (t : Ts) → t.0 ≡ rs → In (Read tx k t) d.view.waiters → IsAsked here input d tx k rs
 
 -- a read of another node is answered
@@ -211,18 +223,19 @@ NoneHeld here a d Of =
     (i : ℕ) (x : Own) (v : Version) (w : Write) → Of i → slice_get d.view.own i ≡ Some x → is_decided x.phase ≡ false → In v d.view.versions → In w a.writes
     → v.key ≡ w.key → of_tx (name_of here i) v ≡ true → v.kind ≡ LocalKind → ⊥
 
--- a Replicate may be taken by a slave: its timestamp is below the limit, the pair is new here, and no undecided own transaction has a
+-- a Replicate may be taken by a replica that is a slave: its timestamp is below the limit, the pair is new here, and no undecided own transaction has a
 -- Local version of one of its keys
 pub record Takes (here : Here) (d : Doing) (a : Arrived) : Type 0 where
   pub below : nat_lt (proposed d.view a) ts_limit ≡ true
   pub unknown : is_known d.view a.tx a.part ≡ false
   pub slave : is_master here.scene here.node a.part ≡ false
+  pub hosted : hosts here.scene here.node a.part ≡ true
   pub foreign : same_node a.tx.node here.node ≡ false
   pub none_held : NoneHeld here a d (λ i. Unit {0})
 
 pub data Act (here : Here) (input : Input) (w : Where) : Doing → Doing → Type 0 where
   act_begin : (place : TxPlace) (rs : ℕ) (d : Doing) → w ≡ InRule → Begins here place rs d → Act here input w d (begun place rs d)
-  act_mark : (k : KeyId) (t : ℕ) (d : Doing) → Act here input w d (marked k t d)
+  act_mark : (k : KeyId) (t : ℕ) (d : Doing) → IsReading here input d k t → Act here input w d (marked k t d)
   act_put : (i : ℕ) (x y : Own) (d : Doing) → IsOwn w d i x → Goes here input d i x y → Act here input w d (put i y d)
   act_request : (i : ℕ) (k : KeyId) (master : NodeId) (x : Own) (d : Doing) → IsOwn w d i x → Goes here input d i x (in_phase (Remote k) x) → Act here input w d (requested here i k master x d)
   act_certify : (i lc : ℕ) (snap : Snap) (x : Own) (d : Doing) → IsAsking here w d i x → is_decided x.phase ≡ false → lc_of x.phase ≡ None

@@ -160,7 +160,7 @@ read_visible-good here view snap k None f =
     if_elim (TurnGood view snap) (hosts_key here k) _ _ (λ e. gated-good view snap here snap (Plain Absent None 0 snap) (extends_self view snap)) (λ e. tt)
 read_visible-good here view snap k (Some v) f = let g = f v refl in read_kind-good here view snap v v.kind g.0 refl g.1
 
-in_last : (o : Option Version) (xs : List Version) (v : Version) → last_or o xs ≡ Some v → (o ≡ Some v) ⊎ In v xs
+pub in_last : (o : Option Version) (xs : List Version) (v : Version) → last_or o xs ≡ Some v → (o ≡ Some v) ⊎ In v xs
 in_last o [] v e = inl e
 in_last o (x ∷ xs) v e = elim (in_last (Some x) xs v e) [ inl q ↦ inr (inl cc) | inr h ↦ inr (inr h) ]
 

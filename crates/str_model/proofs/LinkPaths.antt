@@ -23,7 +23,7 @@ use Rattle.str_model.proofs.Along.{close-path, half_turn-path, waiter_turn-waite
 use Rattle.str_model.proofs.Evicting.{all_evicted}
 use Rattle.str_model.proofs.Linking.{Link, evict_linked_to, l_close, l_evict, l_half, l_rule, l_wait, last_of, valid}
 use Rattle.str_model.proofs.Operating.{at_own-path}
-use Rattle.str_model.proofs.Ruling.{evict-unknown, evict_at-path, rule-path, takes_parts}
+use Rattle.str_model.proofs.Ruling.{evict-unknown, evict_at-path, rule-path, takes_parts, takes_at}
 
 -- the last eviction, and then the versions are taken
 pub take_is : (here : Here) (a : Arrived) (d r : Doing) → Arrivals.replicate_rule here a d ≡ Some r
@@ -66,10 +66,9 @@ module _ (here : Here) (input : Input) where
           let a : Arrived = record { tx = tx; part = p; rs = rs; lc = lc; writes = ws } in
           let c : Comes here input m.sender (Replicate a.tx a.part a.rs a.lc a.writes) = (m, e, refl, f, valid here input d r whole m e) in
           let k = take_is here a d r (ap (λ b. Steps.body_rule here m.sender b d) (sym f) ∙ body_of m d r q) in
-          let t = takes_parts here a d k.1 in
           let x : Doing = evict here a (length d.view.own) d in
           subst (λ z. Path here input InRule z r) (sym (evict_linked_to here input d m.sender a c (length d.view.own)))
-          (subst (Path here input InRule x) k.2 (one (act_take m.sender a x c (record { below = k.0; unknown = evict-unknown here input InRule refl a (length d.view.own) d t.2; slave = t.0; foreign = t.1; none_held = all_evicted here a d }))))
+          (subst (Path here input InRule x) k.2 (one (act_take m.sender a x c (takes_at here input InRule refl a d k.1 k.0))))
       by_body (ReadReq tx k rs) f = rule_to d r whole
       by_body (ReadReply tx k a by fc) f = rule_to d r whole
       by_body (Prepare tx p rs lc ws) f = rule_to d r whole

@@ -23,7 +23,7 @@ use Rattle.dependency_set.specs.Snapshots.{Snap}
 use Rattle.str_model.specs.Turns.{Away, CertTurn, Certified, Conflict, DepTurn, Keep, Late, Lost, Plain, ReadTurn, Speculative, Wait, WaitGate, cert_turn, dep_turn, greatest, read_turn}
 use Rattle.str_model.specs.Turns
 use Rattle.str_model.specs.Views.{Active, CertWait, Closing, Doing, Own, Phase, ReadWait, Remote, View, is_decided, lc_of, put}
-use Rattle.str_model.proofs.Acting.{AsksCommit, Change, GoesOn, IsMasters, IsOwn, JustMarked, Needs, Path, Reads, Touches, Where, act_abort, act_certify, act_mark, act_put, act_request, and_then, asks_new, by_certification, by_script, ch_away, ch_blind, ch_close, ch_gate, ch_known, ch_read, ch_wait, one, reads_new, stay, to_final, to_local}
+use Rattle.str_model.proofs.Acting.{AsksCommit, Change, GoesOn, IsMasters, IsOwn, JustMarked, Needs, Path, Reads, Touches, Where, act_abort, act_certify, act_mark, act_put, act_request, and_then, asks_new, by_certification, by_script, ch_away, ch_blind, ch_close, ch_gate, ch_known, ch_read, ch_wait, one, own_reading, reads_new, stay, to_final, to_local}
 use Rattle.str_model.proofs.Gaining.{Extends, Gains, Names, Settles, TurnGood, extends_self, gains_it, gains_of, if_elim, read_turn-good}
 use Rattle.str_model.proofs.Members.{In}
 
@@ -172,7 +172,7 @@ read_again : (here : Here) (k : KeyId) (t : ℕ) (snap : Snap) (d : Doing) → r
 unfolding marked read_turn
 read_again here k t snap d = refl
 
-just_marked : (k : KeyId) (t : ℕ) (d : Doing) → JustMarked (marked k t d).view k t
+pub just_marked : (k : KeyId) (t : ℕ) (d : Doing) → JustMarked (marked k t d).view k t
 unfolding marked
 just_marked k t d = (d.view.marks, refl)
 
@@ -195,7 +195,7 @@ module _ (here : Here) (input : Input) (w : Where) where
   pub read_now-path : (i : ℕ) (k : KeyId) (x : Own) (d : Doing) → IsFree w d i x → Reads here x k → Path here input w d (read_now here i k x d)
   unfolding read_now
   read_now-path i k x d f r =
-      and_then d (marked k x.snap.rs d) _ (one (act_mark k x.snap.rs d))
+      and_then d (marked k x.snap.rs d) _ (one (act_mark k x.snap.rs d (own_reading i x f.own.0 refl)))
       (read_done-path i k x (read_turn here d.view x.snap k) (marked k x.snap.rs d) (free_marked w k x.snap.rs d i x f)
       (read_marked here k x d (read_turn here d.view x.snap k) (read_turn-good here d.view x.snap k)) r (just_marked k x.snap.rs d) (read_again here k x.snap.rs x.snap d))
 

@@ -30,7 +30,7 @@ module _ (here : Here) (input : Input) (w : Where) where
   unfoldable pub own_step : (d e : Doing) → Act here input w d e → OwnStep d.view e.view
   unfolding begun marked aborted committed closed certified asked acked requested accepted taken refused waits replied commit_came abort_came
   own_step d e (act_begin place rs d' r h) = starts_one place rs h.above refl refl
-  own_step d e (act_mark k t d') = rests refl refl
+  own_step d e (act_mark k t d' rd) = rests refl refl
   own_step d e (act_put i x y d' own g) = turns_one i x y own.0 refl (goes_on g.goes refl)
   own_step d e (act_request i k m x d' own g) = turns_one i x _ own.0 refl (goes_on g.goes refl)
   own_step d e (act_certify i lc snap x d' own f n c) =

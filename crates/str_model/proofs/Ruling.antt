@@ -39,9 +39,9 @@ use Rattle.str_model.specs.Turns.{Give, ServeTurn, ServeWait, serve_turn}
 use Rattle.str_base.specs.Versions.{of_pair, of_tx, same_key, same_node, stamp, without}
 use Rattle.str_model.specs.Views.{Aborted, Active, Committed, Doing, Global, Own, Phase, Remote, Reply, is_decided, name_of, put}
 use Rattle.str_model.proofs.Evicting.{all_evicted}
-use Rattle.str_model.proofs.Acting.{Comes, InRule, IsOwn, NextPlace, NoneHeld, Path, PathTo, Takes, Touches, Where, a_prepare, a_read, act_abort, act_abort_came, act_accept, act_ack, act_begin, act_commit_came, act_mark, act_put, act_refuse, act_reply, act_take, act_wait, and_then, by_eviction, by_refusal, ch_reply, is_first, is_next, it_comes, more, one, stay, asked_now}
+use Rattle.str_model.proofs.Acting.{Comes, InRule, IsOwn, NextPlace, NoneHeld, Path, PathTo, Takes, Touches, Where, a_prepare, a_read, act_abort, act_abort_came, act_accept, act_ack, act_begin, act_commit_came, act_mark, act_put, act_refuse, act_reply, act_take, act_wait, and_then, by_eviction, by_refusal, ch_reply, is_first, is_next, it_comes, more, one, stay, asked_now, JustMarked, far_reading}
 use Rattle.str_model.proofs.Gaining.{and_left, and_right, if_elim, or_false_right}
-use Rattle.str_model.proofs.Operating.{IsFresh, at_own-path, free_at, nor_left, nor_right, op_or_commit-path, phase-goes}
+use Rattle.str_model.proofs.Operating.{IsFresh, at_own-path, free_at, just_marked, nor_left, nor_right, op_or_commit-path, phase-goes}
 
 not_is : (b : Bool) → not b ≡ true → b ≡ false
 not_is true e = absurd cc
@@ -90,7 +90,7 @@ module _ (here : Here) (input : Input) (w : Where) where
         → same_node text.node here.node ≡ true → nth text.txs place.index ≡ o → NextPlace d.view.own place → PathTo here input w d (Clients.begin here place t o d)
     begin-path place t text None d se ne sc nx = tt
     begin-path place t text (Some ops) d se ne sc nx =
-        one (act_begin place _ d is_rule (record { above = omega arith; text = text; session = se; node = ne; ops = ops; script = sc; next = nx }))
+        one (act_begin place _ d is_rule (record { above = omega arith; most = omega arith; text = text; session = se; node = ne; ops = ops; script = sc; next = nx }))
 
     go_on-path : (s : SessionId) (t : ℕ) (text : Session) (i : ℕ) (x : Own) (p : Phase) (d : Doing) → nth here.scene.sessions s.0 ≡ Some text
         → same_node text.node here.node ≡ true → Clients.last_index (Clients.of_session s) d.view.own ≡ Some i → IsOwn w d i x → x.phase ≡ p
@@ -126,10 +126,10 @@ module _ (here : Here) (input : Input) (w : Where) where
 
     -- ---- a message
 
-    serve_done-path : (from : NodeId) (tx : TxId) (k : KeyId) (rs : ℕ) (turn : ServeTurn) (d : Doing) → Comes here input from (ReadReq tx k (stamp rs))
+    serve_done-path : (from : NodeId) (tx : TxId) (k : KeyId) (rs : ℕ) (turn : ServeTurn) (d : Doing) → Comes here input from (ReadReq tx k (stamp rs)) → JustMarked d.view k rs
         → serve_turn d.view.versions k rs ≡ turn → Path here input w d (Arrivals.serve_done here tx k rs turn d)
-    serve_done-path from tx k rs (Give v by fc) d c e = one (act_reply tx k rs v by fc d (record { gives = e; was_asked = asked_now from (stamp rs) refl c }))
-    serve_done-path from tx k rs (ServeWait by) d c e = one (act_wait _ d (a_read from tx k (stamp rs) c))
+    serve_done-path from tx k rs (Give v by fc) d c j e = one (act_reply tx k rs v by fc d (record { gives = e; was_asked = asked_now from (stamp rs) refl (c.0, c.1, c.2, c.3, c.4, j) }))
+    serve_done-path from tx k rs (ServeWait by) d c j e = one (act_wait _ d (a_read from tx k (stamp rs) (c.0, c.1, c.2, c.3, c.4, j)))
 
     read_req-path : (from : NodeId) (tx : TxId) (k : KeyId) (rs : ℕ) (d : Doing) → Comes here input from (ReadReq tx k (stamp rs)) → PathTo here input w d (Arrivals.read_req here tx k rs d)
     unfolding Arrivals.read_req marked
@@ -137,7 +137,7 @@ module _ (here : Here) (input : Input) (w : Where) where
         if_elim (PathTo here input w d)
         (hosts_key here k && (not (same_node tx.node here.node) && not (list_any (Arrivals.waits_read tx k) d.view.waiters)))
         (Some (Arrivals.serve_done here tx k rs (serve_turn d.view.versions k rs) (marked k rs d))) None
-        (λ e. and_then d (marked k rs d) _ (one (act_mark k rs d)) (serve_done-path from tx k rs (serve_turn d.view.versions k rs) (marked k rs d) c refl)) (λ e. tt)
+        (λ e. and_then d (marked k rs d) _ (one (act_mark k rs d (far_reading from tx (stamp rs) refl c))) (serve_done-path from tx k rs (serve_turn d.view.versions k rs) (marked k rs d) c (just_marked k rs d) refl)) (λ e. tt)
 
     nth-get : {X : Type 0} (xs : List X) (n : ℕ) (x : X) → nth xs n ≡ Some x → slice_get xs (n - 1) ≡ Some x
     nth-get xs zero x e = absurd cc
@@ -231,10 +231,10 @@ module _ (here : Here) (input : Input) (w : Where) where
         let e : Doing = Arrivals.evict here a i d in evict_own-unknown a i (slice_get e.view.own i) e (evict-unknown a i d h)
 
     take_if-path : (a : Arrived) (from : NodeId) (d e : Doing) → Comes here input from (Replicate a.tx a.part a.rs a.lc a.writes) → NoneHeld here a e (λ i. Unit {0})
-        → Path here input w d e → Unknown a e → is_master here.scene here.node a.part ≡ false → same_node a.tx.node here.node ≡ false → PathTo here input w d (Arrivals.take_if here a e)
-    take_if-path a from d e c n p u s f =
+        → Path here input w d e → Unknown a e → is_master here.scene here.node a.part ≡ false → same_node a.tx.node here.node ≡ false → hosts here.scene here.node a.part ≡ true → PathTo here input w d (Arrivals.take_if here a e)
+    take_if-path a from d e c n p u s f o =
         if_elim (PathTo here input w d) (nat_lt (proposed e.view a) ts_limit) (Some (taken here a (proposed e.view a) e)) None
-        (λ h. more d e _ p (act_take from a e c (record { below = h; unknown = u; slave = s; foreign = f; none_held = n }))) (λ h. tt)
+        (λ h. more d e _ p (act_take from a e c (record { below = h; unknown = u; slave = s; hosted = o; foreign = f; none_held = n }))) (λ h. tt)
 
     replicate_rule-path : (a : Arrived) (from : NodeId) (d : Doing) → Comes here input from (Replicate a.tx a.part a.rs a.lc a.writes)
         → PathTo here input w d (Arrivals.replicate_rule here a d)
@@ -242,7 +242,8 @@ module _ (here : Here) (input : Input) (w : Where) where
     replicate_rule-path a from d c =
         if_elim (PathTo here input w d) (takes here d.view a) (Arrivals.take_if here a (Arrivals.evict here a (length d.view.own) d)) None
         (λ h. let n = none_of_three (hosts here.scene here.node a.part) (is_master here.scene here.node a.part) (same_node a.tx.node here.node) (Proposals.is_known d.view a.tx a.part) h in
-        take_if-path a from d (Arrivals.evict here a (length d.view.own) d) c (all_evicted here a d) (evict-path a from (length d.view.own) d c) (evict-unknown a (length d.view.own) d n.2) n.0 n.1) (λ h. tt)
+        take_if-path a from d (Arrivals.evict here a (length d.view.own) d) c (all_evicted here a d) (evict-path a from (length d.view.own) d c) (evict-unknown a (length d.view.own) d n.2) n.0 n.1
+        (and_left (hosts here.scene here.node a.part) (not (is_master here.scene here.node a.part) && (not (same_node a.tx.node here.node) && not (Proposals.is_known d.view a.tx a.part))) h)) (λ h. tt)
 
     -- what a slave takes is new at it, once its own writers of the keys are evicted
     pub takes_at : (a : Arrived) (d : Doing) → takes here d.view a ≡ true → nat_lt (proposed (Arrivals.evict here a (length d.view.own) d).view a) ts_limit ≡ true
@@ -250,7 +251,8 @@ module _ (here : Here) (input : Input) (w : Where) where
     unfolding takes
     takes_at a d h below =
         let n = none_of_three (hosts here.scene here.node a.part) (is_master here.scene here.node a.part) (same_node a.tx.node here.node) (Proposals.is_known d.view a.tx a.part) h in
-        record { below = below; unknown = evict-unknown a (length d.view.own) d n.2; slave = n.0; foreign = n.1; none_held = all_evicted here a d }
+        record { below = below; unknown = evict-unknown a (length d.view.own) d n.2; slave = n.0; foreign = n.1; none_held = all_evicted here a d;
+          hosted = and_left (hosts here.scene here.node a.part) (not (is_master here.scene here.node a.part) && (not (same_node a.tx.node here.node) && not (Proposals.is_known d.view a.tx a.part))) h }
 
     -- ---- answers of participants
 

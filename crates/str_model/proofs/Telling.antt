@@ -40,7 +40,7 @@ module _ (here : Here) (input : Input) (w : Where) where
   unfoldable pub tell_step : (d e : Doing) → Act here input w d e → TellStep here d e
   unfolding begun marked aborted committed closed certified asked acked requested accepted taken refused waits replied commit_came abort_came
   tell_step d e (act_begin place rs d' r h) = t_begins place rs h refl refl
-  tell_step d e (act_mark k t d') = t_rests refl refl
+  tell_step d e (act_mark k t d' rd) = t_rests refl refl
   tell_step d e (act_put i x y d' own g) = t_goes i x y own.0 g.goes.was_open g.goes.is_open g.goes.same_place g.goes.snap.rs refl refl
   tell_step d e (act_request i k m x d' own g) = t_goes i x _ own.0 g.goes.was_open refl refl refl refl refl
   tell_step d e (act_certify i lc snap x d' own f n c) =
