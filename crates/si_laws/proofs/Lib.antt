@@ -65,3 +65,4 @@ pub mod Causes
 pub mod Writing
 pub mod Conflicts
 pub mod Naming
+pub mod Refusing
