@@ -66,3 +66,4 @@ pub mod Writing
 pub mod Conflicts
 pub mod Naming
 pub mod Refusing
+pub mod Judging
