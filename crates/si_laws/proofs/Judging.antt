@@ -41,7 +41,7 @@ use Rattle.str_model.proofs.Gaining.{and_left, and_right, if_elim}
 use Rattle.str_model.proofs.Linking.{Link, evict_linked_to, l_close, l_evict, l_half, l_rule, l_wait, last_of, valid}
 use Rattle.str_model.proofs.LinkPaths.{take_is}
 use Rattle.str_model.proofs.Members.{In, in_append}
-use Rattle.str_model.proofs.Operating.{nor_left, nor_right}
+use Rattle.str_model.proofs.Operating.{IsFresh, nor_left, nor_right}
 use Rattle.si_laws.proofs.Refusing.{IsRefusal, NoRefusal, NoneOf, NoneTo, client_none, evict_one_none, half_none, none_aborted, none_mapped, none_more, none_one, none_same, turn_none}
 
 -- the message is the Refuse of a Prepare that is here and is judged so
@@ -57,25 +57,18 @@ pub record Judges (here : Here) (input : Input) (d : Doing) (m : Message) : Type
 abbrev pub Judged : Here → Input → Doing → Doing → Type 0
 Judged here input d e = (m : Message) → In m e.sent → IsRefusal m.body → In m d.sent ⊎ Judges here input d m
 
--- a Prepare that is judged as it comes is new here, and this node is its master
-pub record Fresh (here : Here) (d : Doing) (a : Arrived) (u : TxId) (k : KeyId) : Type 0 where
-  pub turn : master_turn d.view a ≡ Refuse u k
-  pub unknown : is_known d.view a.tx a.part ≡ false
-  pub unparked : is_parked d.view a.tx a.part ≡ false
-  pub mine : IsMasters here a
-
 not_is : (b : Bool) → not b ≡ true → b ≡ false
 not_is true e = absurd cc
 not_is false e = refl
 
-fresh : (here : Here) (d : Doing) (a : Arrived) (u : TxId) (k : KeyId) → prepare_turn here d.view a ≡ Refuse u k → Fresh here d a u k
+fresh : (here : Here) (d : Doing) (a : Arrived) (u : TxId) (k : KeyId) → prepare_turn here d.view a ≡ Refuse u k → IsFresh here d a (Refuse u k)
 unfolding prepare_turn
 fresh here d a u k =
-    if_elim (λ t. t ≡ Refuse u k → Fresh here d a u k)
+    if_elim (λ t. t ≡ Refuse u k → IsFresh here d a (Refuse u k))
     (is_master here.scene here.node a.part && (not (same_node a.tx.node here.node) && not (is_known d.view a.tx a.part || is_parked d.view a.tx a.part)))
     (master_turn d.view a) Ignore
     (λ e h. let n = and_right _ _ (and_right _ _ e) in
-    record { turn = h; unknown = nor_left (is_known d.view a.tx a.part) (is_parked d.view a.tx a.part) n; unparked = nor_right (is_known d.view a.tx a.part) (is_parked d.view a.tx a.part) n; mine = record { master = and_left _ _ e; foreign = not_is (same_node a.tx.node here.node) (and_left _ _ (and_right _ _ e)) } })
+    record { is = h; unknown = nor_left (is_known d.view a.tx a.part) (is_parked d.view a.tx a.part) n; unparked = nor_right (is_known d.view a.tx a.part) (is_parked d.view a.tx a.part) n; mine = record { master = and_left _ _ e; foreign = not_is (same_node a.tx.node here.node) (and_left _ _ (and_right _ _ e)) } })
     (λ e h. absurd (cc h))
 
 module _ (here : Here) (input : Input) where
@@ -181,7 +174,7 @@ module _ (here : Here) (input : Input) where
   master_judged from a (Accept ts) d r c e q = let is : accepted here a ts d ≡ r = cc q in subst (Judged here input d) is (none_judged d (accepted here a ts d) (accepted_none a ts d))
   master_judged from a (Refuse u k) d r c e q =
       let f = fresh here d a u k e in
-      let is : refused here a u k d ≡ r = cc q in subst (Judged here input d) is (come_judged a u k d (it_comes from c f.unknown f.unparked f.mine) f.turn)
+      let is : refused here a u k d ≡ r = cc q in subst (Judged here input d) is (come_judged a u k d (it_comes from c f.unknown f.unparked f.mine) f.is)
   master_judged from a (Park u) d r c e q = let is : waits (Held a) d ≡ r = cc q in subst (Judged here input d) is (λ m h z. inl h)
   master_judged from a Ignore d r c e q = absurd (cc q)
 

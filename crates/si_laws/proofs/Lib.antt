@@ -67,3 +67,4 @@ pub mod Conflicts
 pub mod Naming
 pub mod Refusing
 pub mod Judging
+pub mod SentBy
