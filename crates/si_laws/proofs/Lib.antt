@@ -68,3 +68,4 @@ pub mod Naming
 pub mod Refusing
 pub mod Judging
 pub mod SentBy
+pub mod Refused
