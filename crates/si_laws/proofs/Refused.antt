@@ -236,8 +236,7 @@ module _ (scene : Scene) (ok : IsScene scene) (es : List Event) where
               let new = at_in z.new r.message z.member in
               let reason = reason_is t x c.arrived f.version tx rs f.reason in
               let vtx : f.version.tx ≡ u = f.tx ∙ by in
-              let vkey : f.version.key ≡ k = f.key ∙ key in
-              (
+              let vkey : f.version.key ≡ k = f.key ∙ key in (
                 (wrote_is x k (f.write, mine, f.of_key ∙ key), theirs.0, subst (λ y. Rattle.si_laws.specs.Standing.Begun (run scene es) y theirs.0) vtx theirs.1, subst (Rattle.si_laws.specs.Standing.Wrote theirs.0) vkey theirs.2),
                 inr (record {
                   master = subst (λ q. is_master scene n q ≡ true) at r.master;

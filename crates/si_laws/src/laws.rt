@@ -4,7 +4,7 @@ ghost use Rattle.si_laws.specs.Laws.Lasting.{AnswersGrow, DecidedStay};
 ghost use Rattle.si_laws.specs.Laws.Cut.{CutHolds};
 ghost use Rattle.si_laws.specs.Laws.Asking.{PresAsked};
 ghost use Rattle.si_laws.specs.Laws.Session.{SessionHolds};
-ghost use Rattle.si_laws.specs.Laws.Reasons.{CausesNamed, GateLawHolds};
+ghost use Rattle.si_laws.specs.Laws.Reasons.{CausesNamed, GateLawHolds, ReasonsHold};
 ghost use Rattle.si_laws.specs.Laws.Marks.{HomeMarksHold};
 ghost use Rattle.si_laws.specs.Laws.Stages.{AcksKnown, StagesForward};
 ghost use Rattle.si_laws.specs.Laws.Presence.{PresenceByBound, PresenceStands};
@@ -87,4 +87,10 @@ pub fn home_marks_hold()
 /// The answer of an abort names the cause with which its transaction stands aborted.
 pub fn causes_named()
     ensures { CausesNamed }
+{}
+
+/// The gate law, and each abort has the cause that it names: a conflict that was found at home, evicted or refused by the master of the key's
+/// partition, a dependency that aborted or came too late, or a wish of the script.
+pub fn reasons_hold()
+    ensures { ReasonsHold }
 {}
