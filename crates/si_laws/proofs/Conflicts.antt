@@ -40,7 +40,7 @@ use Rattle.si_laws.proofs.Writing.{WroteIn, WroteKey, Written, wrote-act, writte
 abbrev pub WroteAt : ℕ → KeyId → View → Type 0
 WroteAt i k v = (y : Own) × Owns v i y × WroteKey y.writes k
 
-wrote_is : (y : Own) (k : KeyId) → WroteKey y.writes k → Wrote y k
+pub wrote_is : (y : Own) (k : KeyId) → WroteKey y.writes k → Wrote y k
 wrote_is y k h =
     let r = at_in y.writes h.0 h.1 in
     (h.0.value, (r.0, r.1 ∙ ap Some (λ i. record { key = h.2 i; value = h.0.value })))
@@ -54,12 +54,12 @@ some_of p (y ∷ xs) e = by_test (p y) refl (some_of p xs) e
     by_test false q f g = let r = f g in (r.0, inr r.1, r.2)
 
 module _ (scene : Scene) (ok : IsScene scene) (es : List Event) where
-  written_moment : (j m : ℕ) (n : NodeId) (d : Doing) (a : MomentAt (trace scene es) j m n d) (t : Took scene es j a.0 n) → Written (during (stage_of (run scene t.from.early)) t.takes.place d)
+  pub written_moment : (j m : ℕ) (n : NodeId) (d : Doing) (a : MomentAt (trace scene es) j m n d) (t : Took scene es j a.0 n) → Written (during (stage_of (run scene t.from.early)) t.takes.place d)
   written_moment j m n d a t =
       at_each_moment scene Written (λ s i v input w d e is seen hs act h. written-act scene s i v input is seen d e w act h) (written_opening scene) es j m a.0 n d t a.3
 
   -- what was written by a moment of the run is written at its end
-  wrote_final : (j m : ℕ) (n : NodeId) (d : Doing) (a : MomentAt (trace scene es) j m n d) (t : Took scene es j a.0 n) (u : TxId) (k : KeyId) → WroteIn (during (stage_of (run scene t.from.early)) t.takes.place d) u k
+  pub wrote_final : (j m : ℕ) (n : NodeId) (d : Doing) (a : MomentAt (trace scene es) j m n d) (t : Took scene es j a.0 n) (u : TxId) (k : KeyId) → WroteIn (during (stage_of (run scene t.from.early)) t.takes.place d) u k
       → (y : Own) × Begun (run scene es) u y × Wrote y k
   wrote_final j m n d a t u k c =
       elim (got_set (run scene t.from.early).nodes t.takes.place c.node d.view c.view c.there) [

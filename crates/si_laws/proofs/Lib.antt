@@ -76,3 +76,7 @@ pub mod Places
 pub mod SeatCounts
 pub mod AckKeys
 pub mod AckCounts
+pub mod Refusing
+pub mod Judging
+pub mod SentBy
+pub mod Refused

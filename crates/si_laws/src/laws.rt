@@ -4,7 +4,7 @@ ghost use Rattle.si_laws.specs.Laws.Lasting.{AnswersGrow, DecidedStay};
 ghost use Rattle.si_laws.specs.Laws.Cut.{CutHolds};
 ghost use Rattle.si_laws.specs.Laws.Asking.{PresAsked};
 ghost use Rattle.si_laws.specs.Laws.Session.{SessionHolds};
-ghost use Rattle.si_laws.specs.Laws.Reasons.{CausesNamed, GateLawHolds};
+ghost use Rattle.si_laws.specs.Laws.Reasons.{CausesNamed, GateLawHolds, ReasonsHold};
 ghost use Rattle.si_laws.specs.Laws.Marks.{HomeMarksHold};
 ghost use Rattle.si_laws.specs.Laws.Stages.{AcksKnown, StagesForward};
 ghost use Rattle.si_laws.specs.Laws.Presence.{PresenceHolds, PresenceStands};
@@ -91,4 +91,10 @@ pub fn causes_named()
 /// Where versions of a transaction stand, by what was given: where the pair is not done, its decision was never given to the node.
 pub fn presence_holds()
     ensures { PresenceHolds }
+{}
+
+/// The gate law, and each abort has the cause that it names: a conflict that was found at home, evicted or refused by the master of the key's
+/// partition, a dependency that aborted or came too late, or a wish of the script.
+pub fn reasons_hold()
+    ensures { ReasonsHold }
 {}
