@@ -1,0 +1,6 @@
+//! The gate of a certified transaction: which partition it asks next, what it waits for, or that it commits.
+#![tactic(auto)]
+
+pub mod gates;
+
+pub use gates::{DepParts, GateTurn, gate};
