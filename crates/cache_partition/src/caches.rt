@@ -1,5 +1,5 @@
 //! Local versions in partitions that a node does not host.
-ghost use Rattle.std.specs.Prelude.{◌≡◌, ◌<◌, ◌≤◌, ◌+◌, [], OnErr, OnOk, slice_get};
+ghost use Rattle.std.specs.Prelude.{◌≡◌, ◌<◌, ◌≤◌, ◌+◌, ◌^◌, [], OnErr, OnOk, length, slice_get};
 ghost use Rattle.str_base.specs.Versions.{chain, insert_version, newest, of_pair, visible, without};
 ghost use Rattle.version_chain.specs.ChainLists.{Apart, Each, is_among, last_held};
 ghost use Rattle.cache_partition.specs.CacheLists.{IsCache, IsCached, StaysHere};
@@ -127,6 +127,7 @@ impl CachePartition {
     /// The `i`-th version of a key from 0.
     pub fn at(&self, key: KeyId, i: usize) -> Option<Version>
         ensures value { result ≡ slice_get (chain key self.now.versions) i }
+        ensures limit { length (chain key self.now.versions) < 2 ^ 63 }
         ensures kept { IsCache self.now }
     {
         self.chains.at(key, i)

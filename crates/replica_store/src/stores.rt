@@ -1,5 +1,5 @@
 //! The versions of the partitions that a node hosts.
-ghost use Rattle.std.specs.Prelude.{◌≡◌, ◌<◌, ◌≤◌, ◌+◌, [], OnErr, OnOk, slice_get};
+ghost use Rattle.std.specs.Prelude.{◌≡◌, ◌<◌, ◌≤◌, ◌+◌, ◌^◌, [], OnErr, OnOk, length, slice_get};
 ghost use Rattle.str_base.specs.Versions.{chain, finalise, insert_version, newest, of_pair, visible, without};
 ghost use Rattle.version_chain.specs.ChainLists.{Apart, Each, is_among, last_held};
 ghost use Rattle.replica_store.specs.StoreLists.{IsStore, LiesIn, StaysHere};
@@ -137,6 +137,7 @@ impl ReplicaStore {
     /// The `i`-th version of a key from 0.
     pub fn at(&self, key: KeyId, i: usize) -> Option<Version>
         ensures value { result ≡ slice_get (chain key self.now.versions) i }
+        ensures limit { length (chain key self.now.versions) < 2 ^ 63 }
         ensures kept { IsStore self.now }
     {
         self.chains.at(key, i)

@@ -1,0 +1,53 @@
+-- Whom a gate names.
+use Rattle.std.proofs.Common.{Bool, List, None, Option, Some, [], false, if◌then◌else◌, refl, true, ◌∷◌, ◌≡◌}
+use Rattle.dependency_set.specs.declared.names.Dep.{Dep}
+use Rattle.dependency_set.specs.Snapshots.{Snap, holds, oldest}
+use Rattle.snapshot_read.specs.Causes.{GateWaits}
+use Rattle.str_base.specs.declared.names.NodeId.{NodeId}
+use Rattle.str_base.specs.declared.names.TxId.{TxId}
+use Rattle.str_model.specs.Turns.{ReadTurn, Wait, gated, waits_for}
+use Rattle.str_scene.specs.Scenes.{Here}
+
+-- where there is no dependency the gate lets the snapshot through
+pub open_without : (snap : Snap) → oldest snap.deps ≡ None → holds snap ≡ true
+open_without snap e = by_deps snap.deps refl e
+  where
+    by_deps : (ds : List Dep) → snap.deps ≡ ds → oldest ds ≡ None → holds snap ≡ true
+    by_deps [] q f = rw q refl
+    by_deps (d ∷ ds) q f = absurd (cc f)
+
+-- a shut gate names its oldest dependency
+pub shut_names : (here : Here) (snap : Snap) (by : TxId) → holds snap ≡ false → by ≡ waits_for here (oldest snap.deps) → GateWaits here.node snap by
+shut_names here snap by h e = by_oldest (oldest snap.deps) refl e
+  where
+    by_oldest : (d : Option Dep) → oldest snap.deps ≡ d → by ≡ waits_for here d → GateWaits here.node snap by
+    by_oldest None q f = absurd (cc (open_without snap q, h))
+    by_oldest (Some d) q f = record { shut = h; dep = d; least = q; named = f }
+
+-- a turn behind a gate waits only where the gate is shut
+pub gated_waits : (here : Here) (snap : Snap) (turn : ReadTurn) (by : TxId) → ((n : TxId) → turn ≡ Wait n → ⊥) → gated here snap turn ≡ Wait by → GateWaits here.node snap by
+gated_waits here snap turn by n e = by_test (holds snap) refl e
+  where
+    by_test : (b : Bool) → holds snap ≡ b → (if b then turn else Wait (waits_for here (oldest snap.deps))) ≡ Wait by → GateWaits here.node snap by
+    by_test true h f = absurd (n by f)
+    by_test false h f = shut_names here snap by h (cc f)
+
+-- and it waits where it is shut
+pub waits_gated : (here : Here) (snap : Snap) (turn : ReadTurn) (by : TxId) → GateWaits here.node snap by → gated here snap turn ≡ Wait by
+waits_gated here snap turn by g = rw (g.shut, g.least, g.named) refl
+
+-- where a gate waits for nobody it lets the turn through
+pub gated_open : (here : Here) (snap : Snap) (turn : ReadTurn) → holds snap ≡ true → turn ≡ gated here snap turn
+gated_open here snap turn h = rw h refl
+
+-- whom a gate names is one
+pub names_one : (node : NodeId) (snap : Snap) (a b : TxId) → GateWaits node snap a → GateWaits node snap b → a ≡ b
+names_one node snap a b g h = let d : g.dep ≡ h.dep = cc (g.least, h.least) in rw (g.named, h.named, d) refl
+
+-- the same of an equal snapshot
+pub same_waits : (node : NodeId) (s t : Snap) (by : TxId) → s ≡ t → GateWaits node s by → GateWaits node t by
+same_waits node s t by e g = rw (← e) g
+
+-- the same at an equal node
+pub waits_at : (n m : NodeId) (s : Snap) (by : TxId) → n ≡ m → GateWaits m s by → GateWaits n s by
+waits_at n m s by e g = rw e g

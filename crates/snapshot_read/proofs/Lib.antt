@@ -1,0 +1,5 @@
+pub mod Fitting
+pub mod Gating
+pub mod Seeing
+pub mod Reading
+pub mod Finding

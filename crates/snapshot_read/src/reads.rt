@@ -1,0 +1,303 @@
+//! Reads of a key.
+ghost use Rattle.std.specs.Prelude.{◌≡◌, ◌↔◌, ◌≤◌, List, length, true};
+ghost use Rattle.dependency_set.specs.Snapshots.{accept_final};
+ghost use Rattle.partition_map.specs.Maps.{HasKey};
+ghost use Rattle.snapshot_read.specs.Causes.{GateWaits, IsAway, ReadWaits, ServeWaits};
+ghost use Rattle.snapshot_read.specs.Shown.{Agree, AreNamed, AreTold, IsNamed, OthersNamed, Shows, StandAt, of_key};
+ghost use Rattle.snapshot_read.specs.Turning.{serve_of, turn_of};
+ghost use Rattle.str_base.specs.declared.names.NodeId.{NodeId as Node};
+ghost use Rattle.str_base.specs.declared.names.TxId.{TxId as Name};
+ghost use Rattle.str_base.specs.Versions.{is_local, last_pre, visible};
+ghost use Rattle.str_model.specs.Turns;
+ghost use Rattle.str_model.specs.Turns.{gated, read_kind, read_turn, reply_turn, serve_turn};
+ghost use Rattle.str_model.specs.Views.{Own, View};
+ghost use Rattle.str_scene.specs.Scenes.{Here};
+
+use crate::taking::{gate_waits, take_over};
+use cache_partition::CachePartition;
+use dependency_set::{OwnSnap, Snap, accept_final};
+use partition_map::PartitionMap;
+use replica_store::ReplicaStore;
+use std::marker::{Send, Sync};
+use str_base::{KeyId, Kind, NodeId, Ts, TxId, Value, Version};
+
+/// What a read of an own transaction comes to.
+#[derive(Drop)]
+pub enum ReadTurn {
+    /// The value of a Final version, which `by` wrote and which was committed at `fc`. Absent, None and 0 where none is visible.
+    Plain {
+        value: Value,
+        by: Option<TxId>,
+        fc: Ts,
+        snap: Snap,
+    },
+    /// The value of a Local version of `by`, on which the reading transaction depends from now on.
+    Speculative {
+        value: Value,
+        by: TxId,
+        snap: Snap,
+    },
+    /// It waits for `by`.
+    Wait {
+        by: TxId,
+    },
+    /// The key is not hosted, and the master of its partition is asked.
+    Remote {
+        master: NodeId,
+    },
+}
+
+/// What a read of another node comes to.
+#[derive(Clone, Copy, Debug, PartialEq, Eq)]
+pub enum ServeTurn {
+    /// The value, its writer and its timestamp. Absent, None and 0 where none is visible.
+    Give {
+        value: Value,
+        by: Option<TxId>,
+        fc: Ts,
+    },
+    /// It waits for `by`.
+    Wait {
+        by: TxId,
+    },
+}
+
+/// A read of a key for an own transaction with this snapshot. A Pre version at or below the snapshot is waited for. Else the last
+/// version at or below the snapshot is read, and the snapshot takes over what that version brings; the gate of the new
+/// snapshot may make it wait. Where the key is not hosted and no version is visible, the master is asked. `own` tells of at most
+/// 15 own transactions, of each origin of a Local version, of each dependency of `snap`, and of each dependency of those that have a
+/// Local version at or below the snapshot. It changes nothing.
+pub fn try_read(
+    node: NodeId,
+    snap: &Snap,
+    own: &[OwnSnap],
+    store: &ReplicaStore,
+    cache: &CachePartition,
+    map: &PartitionMap,
+    key: KeyId,
+) -> ReadTurn
+    requires key { HasKey map.now key }
+    requires here { StandAt node map.now store.now cache.now }
+    requires few { length own.now ≤ 15 }
+    requires deps { AreNamed own.now snap.now.deps }
+    requires told { AreTold own.now snap.now.rs store.now.versions cache.now.versions }
+    ensures turn { (here : Here) (view : View) → Shows here view node own.now store.now cache.now map.now → turn_of result ≡ read_turn here view snap.now key }
+    ensures wait { (here : Here) (view : View) → Shows here view node own.now store.now cache.now map.now → (by : Name) → (result ≡ ReadTurn.Wait by) ↔ ReadWaits here view snap.now key by }
+    ensures remote { (here : Here) (view : View) → Shows here view node own.now store.now cache.now map.now → (m : Node) → (result ≡ ReadTurn.Remote m) ↔ IsAway here view snap.now key m }
+{
+    let _ = (store.node(), cache.node());
+    let part = map.part_of(key);
+    let is_hosted = map.hosts(node, part);
+    let rs = snap.rs();
+    if let Some(Version { tx: by, .. }) = last_pre(store, cache, is_hosted, key, rs) {
+        return ReadTurn::Wait { by };
+    }
+    match last_visible(store, cache, is_hosted, key, rs) {
+        Some(version) => read_version(node, snap, own, &version),
+        None if is_hosted => plain(node, Value::Absent, None, Ts(0), snap.copy()),
+        None => ReadTurn::Remote {
+            master: map.master(part),
+        },
+    }
+}
+
+/// The last Pre version of a key at or below `rs`, in the store that holds the key.
+fn last_pre(
+    store: &ReplicaStore,
+    cache: &CachePartition,
+    is_hosted: bool,
+    key: KeyId,
+    rs: Ts,
+) -> Option<Version>
+    ensures { result ≡ last_pre (of_key is_hosted store.now.versions cache.now.versions) key rs.0 }
+{
+    if is_hosted {
+        store.undecided(key, rs, false)
+    } else {
+        cache.undecided(key, rs, false)
+    }
+}
+
+/// The last version of a key at or below `rs`, in the store that holds the key.
+fn last_visible(
+    store: &ReplicaStore,
+    cache: &CachePartition,
+    is_hosted: bool,
+    key: KeyId,
+    rs: Ts,
+) -> Option<Version>
+    ensures { result ≡ visible (of_key is_hosted store.now.versions cache.now.versions) key rs.0 }
+{
+    if is_hosted {
+        store.visible(key, rs)
+    } else {
+        cache.visible(key, rs)
+    }
+}
+
+/// The read of a visible version, by its kind.
+fn read_version(node: NodeId, snap: &Snap, own: &[OwnSnap], version: &Version) -> ReadTurn
+    requires few { length own.now ≤ 15 }
+    requires deps { AreNamed own.now snap.now.deps }
+    requires origin { is_local version.now.kind ≡ true → IsNamed own.now version.now.tx.seq }
+    requires others { is_local version.now.kind ≡ true → OthersNamed own.now version.now.tx.seq }
+    ensures { (here : Here) (own' : List Own) → here.node ≡ node → Agree own' own.now → turn_of result ≡ read_kind here own' snap.now version.now version.now.kind }
+{
+    let (value, by, ts) = (version.value, version.tx, version.ts);
+    match version.kind {
+        Kind::Pre => ReadTurn::Wait { by },
+        Kind::Local => speculative(node, value, by, take_over(own, by.seq, snap)),
+        Kind::Final => plain(node, value, Some(by), ts, accept_final(snap, ts)),
+    }
+}
+
+/// A read of what is final, where the gate of its new snapshot lets it through.
+fn plain(node: NodeId, value: Value, by: Option<TxId>, fc: Ts, snap: Snap) -> ReadTurn
+    ensures turn { (here : Here) → here.node ≡ node → turn_of result ≡ gated here snap (Turns.Plain value by fc.0 snap) }
+    ensures wait { (who : Name) → (result ≡ ReadTurn.Wait who) ↔ GateWaits node snap who }
+{
+    match gate_waits(node, &snap) {
+        Some(by) => ReadTurn::Wait { by },
+        None => ReadTurn::Plain {
+            value,
+            by,
+            fc,
+            snap,
+        },
+    }
+}
+
+/// A read of what a transaction wrote that is undecided, where the gate of its new snapshot lets it through.
+fn speculative(node: NodeId, value: Value, by: TxId, snap: Snap) -> ReadTurn
+    ensures { (here : Here) → here.node ≡ node → turn_of result ≡ gated here snap (Turns.Speculative value by snap) }
+{
+    match gate_waits(node, &snap) {
+        Some(by) => ReadTurn::Wait { by },
+        None => ReadTurn::Speculative { value, by, snap },
+    }
+}
+
+/// What a reply from a master comes to. The snapshot takes it in as final at `fc`, whether it names a writer or not. It waits where the
+/// gate of the new snapshot fails.
+#[tactic(auto, unfolding(str_model::specs::Turns::reply_turn))]
+pub fn take_reply(node: NodeId, snap: &Snap, value: Value, by: Option<TxId>, fc: Ts) -> ReadTurn
+    ensures turn { (here : Here) → here.node ≡ node → turn_of result ≡ reply_turn here snap.now value by fc.0 }
+    ensures wait { (who : Name) → (result ≡ ReadTurn.Wait who) ↔ GateWaits node (accept_final snap.now fc.0) who }
+{
+    plain(node, value, by, fc, accept_final(snap, fc))
+}
+
+/// A read of a key at a snapshot for a transaction of another node. It waits for the last undecided version at or below the
+/// snapshot, and else gives the last version.
+#[tactic(auto, unfolding(str_model::specs::Turns::serve_turn))]
+pub fn serve(store: &ReplicaStore, key: KeyId, rs: Ts) -> ServeTurn
+    ensures turn { serve_of result ≡ serve_turn store.now.versions key rs.0 }
+    ensures wait { (by : Name) → (result ≡ ServeTurn.Wait by) ↔ ServeWaits store.now.versions key rs.0 by }
+{
+    if let Some(version) = store.undecided(key, rs, true) {
+        return ServeTurn::Wait { by: version.tx };
+    }
+    match store.visible(key, rs) {
+        Some(version) => ServeTurn::Give {
+            value: version.value,
+            by: Some(version.tx),
+            fc: version.ts,
+        },
+        None => ServeTurn::Give {
+            value: Value::Absent,
+            by: None,
+            fc: Ts(0),
+        },
+    }
+}
+
+fn sendable<T: Send + Sync>(_: &T) {}
+
+fn all_sendable(read: &ReadTurn, served: &ServeTurn) {
+    sendable(read);
+    sendable(served);
+}
+
+#[cfg(test)]
+mod tests {
+    use super::*;
+    use dependency_set::{Dep, Deps};
+    use std::test::Fail;
+    use str_base::{PartId, ShortList};
+
+    fn tx(node: u8, seq: u32) -> TxId {
+        TxId {
+            node: NodeId(node),
+            seq,
+        }
+    }
+
+    // The snapshot at 20 depends on transaction 3, which began at 10.
+    #[test]
+    fn takes_replies(rt: HostRuntime) -> Result<(), Fail> {
+        for (fc, waits) in [(0, false), (10, false), (11, true)] {
+            let dep = Dep { seq: 3, rs: Ts(10) };
+            let mut deps = Deps::new();
+            deps.push(dep);
+            let snap = Snap::new(Ts(20), Ts(0), deps);
+            let value = Value::Num(7);
+            match take_reply(NodeId(1), &snap, value, Some(tx(2, 4)), Ts(fc)) {
+                ReadTurn::Plain {
+                    value: got,
+                    by,
+                    fc: at,
+                    snap,
+                } => {
+                    assert!(rt; !waits);
+                    assert_eq!(rt; got, value);
+                    assert_eq!(rt; by, Some(tx(2, 4)));
+                    assert_eq!(rt; at, Ts(fc));
+                    assert_eq!(rt; snap.ffc(), Ts(fc));
+                    assert_eq!(rt; snap.deps(), [dep].as_slice());
+                }
+                ReadTurn::Wait { by } => {
+                    assert!(rt; waits);
+                    assert_eq!(rt; by, tx(1, 3));
+                }
+                _ => assert!(rt; false),
+            }
+        }
+        Ok(())
+    }
+
+    // A Local version at 9, which is then committed at 12.
+    #[test]
+    fn serves_versions(rt: HostRuntime) -> Result<(), Fail> {
+        let mut hosted = ShortList::new();
+        hosted.push(PartId(1));
+        let mut store = ReplicaStore::new(rt.alloc(), NodeId(1), hosted);
+        store.reserve(1)?;
+        store.insert(Version {
+            key: KeyId(0),
+            part: PartId(1),
+            tx: tx(1, 5),
+            ts: Ts(9),
+            value: Value::Num(7),
+            kind: Kind::Local,
+        });
+        let none = ServeTurn::Give {
+            value: Value::Absent,
+            by: None,
+            fc: Ts(0),
+        };
+        let wait = ServeTurn::Wait { by: tx(1, 5) };
+        for (key, rs, want) in [(0, 8, none), (0, 9, wait), (1, 9, none)] {
+            assert_eq!(rt; serve(&store, KeyId(key), Ts(rs)), want);
+        }
+        store.finalise(tx(1, 5), PartId(1), Ts(12));
+        let give = ServeTurn::Give {
+            value: Value::Num(7),
+            by: Some(tx(1, 5)),
+            fc: Ts(12),
+        };
+        for (rs, want) in [(11, none), (12, give)] {
+            assert_eq!(rt; serve(&store, KeyId(0), Ts(rs)), want);
+        }
+        Ok(())
+    }
+}
