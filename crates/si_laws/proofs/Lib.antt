@@ -56,3 +56,5 @@ pub mod AckKeys
 pub mod AckCounts
 pub mod Marking
 pub mod HomeMarks
+pub mod ReadLetters
+pub mod Replying

@@ -105,7 +105,7 @@ module _ (here : Here) (input : Input) (w : Where) where
   pub half_turn-path : (i : ℕ) (d : Doing) → Touches w i → Path here input w d (Pass.half_turn here i d)
   half_turn-path i d t = and_then d (resolved_first i d) (Pass.half_turn here i d) (first-path i d t) (again-half i d t)
 
-  close-path : (i : ℕ) (d : Doing) → Touches w i → Path here input w (Pass.half_turn here i d) (Pass.turn here i d)
+  pub close-path : (i : ℕ) (d : Doing) → Touches w i → Path here input w (Pass.half_turn here i d) (Pass.turn here i d)
   unfolding Pass.turn
   close-path i d t =
       let e : Doing = Pass.half_turn here i d in

@@ -42,7 +42,7 @@ IsSeen s (Deliver m) = Sent s m
 abbrev pub at_place : Scene → ℕ → Here
 at_place scene i = record { scene = scene; node = record { 0 = i + 1 } }
 
-during_start : (s : Stage) (i : ℕ) (v : View) → slice_get s.nodes i ≡ Some v → during s i (starts v) ≡ s
+pub during_start : (s : Stage) (i : ℕ) (v : View) → slice_get s.nodes i ≡ Some v → during s i (starts v) ≡ s
 during_start s i v e = λ j. record { nodes = set_got s.nodes i v e j; sent = append-nil s.sent j; answers = append-nil s.answers j }
 
 module _ (scene : Scene) (I : Stage → Type 0)
@@ -93,7 +93,7 @@ module _ (scene : Scene) (I : Stage → Type 0)
 -- the same by single changes
 module _ (scene : Scene) (I : Stage → Type 0)
     (keeps : (s : Stage) (i : ℕ) (v : View) (input : Input) (w : Where) (d e : Doing) → slice_get s.nodes i ≡ Some v → IsSeen s input → I s → Act (at_place scene i) input w d e → I (during s i d) → I (during s i e)) where
-  by_acts : (s : Stage) (i : ℕ) (v : View) (input : Input) (e : Doing) → slice_get s.nodes i ≡ Some v → IsSeen s input → StepPath (at_place scene i) input (starts v) e → I s → I (during s i e)
+  pub by_acts : (s : Stage) (i : ℕ) (v : View) (input : Input) (e : Doing) → slice_get s.nodes i ≡ Some v → IsSeen s input → StepPath (at_place scene i) input (starts v) e → I s → I (during s i e)
   by_acts s i v input e is seen p h =
       step-keeps (at_place scene i) input (λ d. I (during s i d)) (λ u d e. keeps s i v input u d e is seen h) (starts v) e p (subst I (sym (during_start s i v is)) h)
 

@@ -15,4 +15,9 @@ pub mod Sorted
 pub mod AtMoments
 pub mod LastMoment
 pub mod Resting
+pub mod Linking
+pub mod LinkPaths
+pub mod Tracing
+pub mod Later
+pub mod Onward
 pub mod Telling

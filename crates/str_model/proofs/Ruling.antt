@@ -47,7 +47,7 @@ not_is : (b : Bool) → not b ≡ true → b ≡ false
 not_is true e = absurd cc
 not_is false e = refl
 
-none_of_three : (a b c d : Bool) → (a && (not b && (not c && not d))) ≡ true → (b ≡ false) × (c ≡ false) × (d ≡ false)
+pub none_of_three : (a b c d : Bool) → (a && (not b && (not c && not d))) ≡ true → (b ≡ false) × (c ≡ false) × (d ≡ false)
 none_of_three false b c d e = absurd cc
 none_of_three true true c d e = absurd cc
 none_of_three true false true d e = absurd cc
@@ -186,7 +186,7 @@ module _ (here : Here) (input : Input) (w : Where) where
 
     -- ---- evictions
 
-    evict_at-path : (a : Arrived) (from : NodeId) (i : ℕ) (x : Own) (o : Option Write) (d : Doing) → Comes here input from (Replicate a.tx a.part a.rs a.lc a.writes)
+    pub evict_at-path : (a : Arrived) (from : NodeId) (i : ℕ) (x : Own) (o : Option Write) (d : Doing) → Comes here input from (Replicate a.tx a.part a.rs a.lc a.writes)
         → IsOwn w d i x → is_decided x.phase ≡ false → Path here input w d (Arrivals.evict_at here a i x o d)
     evict_at-path a from i x None d c own f = stay d
     evict_at-path a from i x (Some w) d c own f = one (act_abort i _ x d own f (by_eviction from a w c))
@@ -219,7 +219,7 @@ module _ (here : Here) (input : Input) (w : Where) where
         by_phase true = h
         by_phase false = evict_at-unknown a i x (held_key d.view.versions (name_of here i) a.writes) d h
 
-    evict-unknown : (a : Arrived) (n : ℕ) (d : Doing) → Unknown a d → Unknown a (Arrivals.evict here a n d)
+    pub evict-unknown : (a : Arrived) (n : ℕ) (d : Doing) → Unknown a d → Unknown a (Arrivals.evict here a n d)
     evict-unknown a zero d h = h
     evict-unknown a (suc i) d h =
         let e : Doing = Arrivals.evict here a i d in evict_own-unknown a i (slice_get e.view.own i) e (evict-unknown a i d h)
