@@ -58,3 +58,5 @@ pub mod Marking
 pub mod HomeMarks
 pub mod ReadLetters
 pub mod Replying
+pub mod Sources
+pub mod Sourcing
