@@ -60,3 +60,4 @@ pub mod ReadLetters
 pub mod Replying
 pub mod Sources
 pub mod Sourcing
+pub mod DoneMarks

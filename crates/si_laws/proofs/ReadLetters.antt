@@ -18,6 +18,7 @@ use Rattle.str_model.specs.declared.messages.Body.{Body}
 use Rattle.str_model.specs.declared.messages.Body.TheVariants.{Abort, Ack, Commit, Prepare, ReadReply, ReadReq, Refuse as Refusal, Replicate}
 use Rattle.str_model.specs.declared.messages.Input.{Input}
 use Rattle.str_model.specs.declared.messages.Message.{Message}
+use Rattle.str_model.specs.Gates.{CommitAt, gate_of}
 use Rattle.str_model.specs.Owned.{Owns}
 use Rattle.str_model.specs.Proposals.{proposed}
 use Rattle.str_model.specs.Views.{Doing, Own, is_decided, letter, name_of}
@@ -35,7 +36,7 @@ pub data ReadLetter (here : Here) (input : Input) (d e : Doing) (m : Message) : 
   rl_request : (i : ℕ) (k : KeyId) (x : Own) → Owns d.view i x → m.body ≡ ReadReq (name_of here i) k (stamp x.snap.rs) → ReadLetter here input d e m
   rl_reply : (tx : TxId) (k : KeyId) (rs : ℕ) (v : Value) (by : Option TxId) (fc : ℕ) → Serves here input d tx k rs v by fc → m.sender ≡ here.node → m.body ≡ ReadReply tx k v by (stamp fc)
       → e.view ≡ d.view → ReadLetter here input d e m
-  rl_commit : (i lc fc : ℕ) (x : Own) (a : Asked) → Owns d.view i x → is_decided x.phase ≡ false → In a x.parts → m.receiver ≡ a.node
+  rl_commit : (i lc fc : ℕ) (x : Own) (a : Asked) → Owns d.view i x → (is_decided x.phase ≡ false) × (gate_of here d.view lc x ≡ CommitAt fc) → In a x.parts → m.receiver ≡ a.node
       → m.body ≡ Commit (name_of here i) a.part (stamp fc) (Acts.marks_in here d.view a.part x.writes) → ReadLetter here input d e m
   rl_other : is_other m.body ≡ true → ReadLetter here input d e m
 
@@ -75,7 +76,7 @@ module _ (here : Here) (input : Input) (w : Where) where
   letters_act d e (act_commit i lc fc x d' own l n le f g) m h = elim (in_append d'.sent (Acts.commit_letters here i x fc d'.view) m h) [
     | inl j ↦ inl j
     | inr j ↦ (let r = in_map (λ (a : Asked). letter here a.node (Commit (name_of here i) a.part (stamp fc) (Acts.marks_in here d'.view a.part x.writes))) x.parts m j in
-        inr (rl_commit i lc fc x r.0 own.0 f r.1 (ap (λ (z : Message). z.receiver) (sym r.2)) (ap (λ (z : Message). z.body) (sym r.2))))
+        inr (rl_commit i lc fc x r.0 own.0 (f, g) r.1 (ap (λ (z : Message). z.receiver) (sym r.2)) (ap (λ (z : Message). z.body) (sym r.2))))
   ]
   letters_act d e (act_close i x d' own p n) m h = inl h
   letters_act d e (act_accept a ts d' g t) m h =

@@ -29,7 +29,7 @@ use Rattle.str_model.specs.declared.messages.Message.{Message}
 use Rattle.str_model.specs.declared.messages.Waiter.{Waiter}
 use Rattle.str_model.specs.declared.messages.Waiter.TheVariants.{Read}
 use Rattle.str_model.specs.Owned.{Owns}
-use Rattle.str_model.specs.Runs.{World, opening_view, run}
+use Rattle.str_model.specs.Runs.{World, opening, opening_view, run}
 use Rattle.str_model.specs.Strange.{has_key, has_named, has_node}
 use Rattle.str_model.specs.Strange
 use Rattle.str_model.specs.Views.{Doing, Own, View, name_of}
@@ -202,7 +202,7 @@ module _ (scene : Scene) (s : Stage) (i : ℕ) (v : View) (input : Input) (w : W
             kept_ (subst (λ (r : ℕ). HasRs scene (during s i d) tx r × (r ≤ mark_of d.view.marks k)) rs_is g')
         arrived r (a_prepare from a c u z m) y = absurd (cc y)
 
-    far_step : FarReads scene (during s i e)
+    pub far_step : FarReads scene (during s i e)
     far_step = record {
       marks = λ n u g. elim (got_set s.nodes i n e.view u g) [
         | inl q ↦ (let l = h.marks i d.view there_d in omega (arith, ap (λ (z : View). length z.marks) q.1, up.same_length, l))
@@ -217,16 +217,19 @@ module _ (scene : Scene) (s : Stage) (i : ℕ) (v : View) (input : Input) (w : W
       replies = reply_e;
     }
 
-pub far_reads : (scene : Scene) (es : List Event) → FarReads scene (stage_of (run scene es))
-far_reads scene es = everywhere scene (FarReads scene) (λ s i v input w d e is seen hs a h. far_step scene s i v input w d e is seen a h) (record {
+pub far_opening : (scene : Scene) → FarReads scene (stage_of (opening scene))
+far_opening scene = record {
   marks = λ n v g. ap (λ (z : View). length z.marks) (empty n v g) ∙ length_copies (length scene.keys.names) 0;
   requests = λ m k. absurd k;
   waiting = λ n v g tx k rs j. absurd (subst (λ (z : View). In (Read tx k rs) z.waiters) (empty n v g) j);
   replies = λ m k. absurd k;
-}) es
+}
   where
     empty : (n : ℕ) (v : View) → slice_get (replicate scene.nodes (opening_view scene)) n ≡ Some v → v ≡ opening_view scene
     empty n v g = got_replicate scene.nodes n (opening_view scene) v g
+
+pub far_reads : (scene : Scene) (es : List Event) → FarReads scene (stage_of (run scene es))
+far_reads scene es = everywhere scene (FarReads scene) (λ s i v input w d e is seen hs a h. far_step scene s i v input w d e is seen a h) (far_opening scene) es
 
 -- the timestamp of a transaction that began
 rs_of : (scene : Scene) (w : World) (t : TxId) (x : Own) (rs : ℕ) → Begun w t x → HasRs scene (stage_of w) t rs → x.snap.rs ≡ rs
