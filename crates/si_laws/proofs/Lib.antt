@@ -61,3 +61,5 @@ pub mod Replying
 pub mod Sources
 pub mod Sourcing
 pub mod DoneMarks
+pub mod CommitSteps
+pub mod MarksLaw

@@ -232,7 +232,7 @@ pub far_reads : (scene : Scene) (es : List Event) → FarReads scene (stage_of (
 far_reads scene es = everywhere scene (FarReads scene) (λ s i v input w d e is seen hs a h. far_step scene s i v input w d e is seen a h) (far_opening scene) es
 
 -- the timestamp of a transaction that began
-rs_of : (scene : Scene) (w : World) (t : TxId) (x : Own) (rs : ℕ) → Begun w t x → HasRs scene (stage_of w) t rs → x.snap.rs ≡ rs
+pub rs_of : (scene : Scene) (w : World) (t : TxId) (x : Own) (rs : ℕ) → Begun w t x → HasRs scene (stage_of w) t rs → x.snap.rs ≡ rs
 rs_of scene w t x rs b h =
     let at : nth w.nodes (h.n + 1) ≡ Some b.0 = ap (λ (z : TxId). nth w.nodes z.node.0) (sym h.name) ∙ b.1 in
     let view : b.0 ≡ h.view = one_of b.0 h.view (nth w.nodes (h.n + 1)) at (to_nth w.nodes h.n h.view h.there) in

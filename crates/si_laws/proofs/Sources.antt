@@ -1,7 +1,7 @@
 -- What a read and a reply give is a version of the key.
 use Rattle.dependency_set.specs.Snapshots.{Snap, accept_final, holds, oldest}
-use Rattle.si_laws.proofs.Marking.{finish-looks, finish_next-looks, same_key-is}
-use Rattle.std.proofs.Common.{Bool, List, None, Option, Some, [], ap, false, filter, if◌then◌else◌, inl, inr, nat_le, refl, slice_get, subst, subst₂, sym, true, ℕ, ◌&&◌, ◌++◌, ◌+◌, ◌-◌, ◌∙◌, ◌∷◌, ◌≡◌, ◌⊎◌}
+use Rattle.si_laws.proofs.Marking.{finish-looks, same_key-is}
+use Rattle.std.proofs.Common.{Bool, List, None, Option, Some, [], ap, false, filter, if◌then◌else◌, inl, inr, nat_le, refl, slice_get, subst, subst₂, sym, true, ℕ, ◌&&◌, ◌+◌, ◌-◌, ◌∙◌, ◌∷◌, ◌≡◌}
 use Rattle.str_base.specs.declared.names.KeyId.{KeyId}
 use Rattle.str_base.specs.declared.names.Kind.{Kind}
 use Rattle.str_base.specs.declared.names.Kind.TheVariants.{Final, Local as LocalKind, Pre}
@@ -22,7 +22,7 @@ use Rattle.str_model.specs.declared.names.ReadDone.{ReadDone}
 use Rattle.str_model.specs.Scripts.{finish, finish_next, noted, own_op}
 use Rattle.str_model.specs.Turns.{Away, Give, Plain, ReadTurn, ServeTurn, ServeWait, Speculative, Wait, gated, read_turn, reply_turn, serve_turn, take_over}
 use Rattle.str_model.specs.Turns
-use Rattle.str_model.specs.Views.{Active, Closing, Doing, Own, Phase, Reply, View}
+use Rattle.str_model.specs.Views.{Active, Closing, Doing, Own, Reply, View}
 use Rattle.str_scene.specs.declared.names.Op.TheVariants.{Abort as Stop, Add, Del, Get, Need, Put, Puts}
 use Rattle.str_scene.specs.declared.names.Op.{Op}
 use Rattle.str_scene.specs.Scenes.{Here, first_or, hosts_key, part_of, replicas}

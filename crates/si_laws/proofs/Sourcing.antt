@@ -1,12 +1,10 @@
 -- Whoever was read from wrote the key: versions, replies and reads are of transactions that were certified with a write of it.
-use Rattle.dependency_set.specs.Snapshots.{Snap}
-use Rattle.partition_map.specs.declared.rows.Asked.{Asked}
 use Rattle.si_laws.proofs.Linked.{IsCertified, Linked, certified_stays}
 use Rattle.si_laws.proofs.Linking.{linked_opening, linked_step, placed_writes}
 use Rattle.si_laws.proofs.Parts.{Placed, by_master, by_slave}
 use Rattle.si_laws.proofs.ReadLetters.{ReadLetter, is_other, letters_act, rl_commit, rl_other, rl_reply, rl_request}
 use Rattle.si_laws.proofs.Sources.{OwnFrom, change_from, got_from, serve_from, still_from}
-use Rattle.std.proofs.Common.{Bool, List, None, Option, Some, [], ap, filter, inl, inr, map, refl, replicate, slice_get, slice_set, subst, subst₂, sym, ℕ, ◌++◌, ◌+◌, ◌∙◌, ◌∷◌, ◌≡◌, ◌⊎◌}
+use Rattle.std.proofs.Common.{Bool, List, None, Option, Some, ap, filter, inl, inr, map, refl, replicate, slice_get, slice_set, subst, subst₂, sym, ℕ, ◌++◌, ◌∙◌, ◌≡◌}
 use Rattle.str_base.specs.declared.names.KeyId.{KeyId}
 use Rattle.str_base.specs.declared.names.NodeId.{NodeId}
 use Rattle.str_base.specs.declared.names.Ts.{Ts}
@@ -16,22 +14,18 @@ use Rattle.str_base.specs.declared.names.Version.{Version}
 use Rattle.str_base.specs.declared.names.Write.{Write}
 use Rattle.str_base.specs.Versions.{insert_all, of_pair, of_tx, settled, without}
 use Rattle.str_model.proofs.Acting.{Act, Comes, Where, act_abort, act_abort_came, act_accept, act_ack, act_ask, act_begin, act_certify, act_close, act_commit, act_commit_came, act_mark, act_put, act_refuse, act_reply, act_request, act_take, act_unwait, act_wait}
-use Rattle.str_model.proofs.Everywhere.{IsSeen, Sent, Stage, at_place, during, everywhere, stage_of}
+use Rattle.str_model.proofs.Everywhere.{IsSeen, Sent, Stage, at_place, during, stage_of}
 use Rattle.str_model.proofs.Lists.{get_set, get_set_other, got_push, got_replicate, got_set}
 use Rattle.str_model.proofs.Members.{In, in_append, in_at, in_filter, in_insert_all, in_left, in_map, in_right, in_without}
 use Rattle.str_model.specs.Acts.{abort_came, aborted, accepted, acked, asked, begun, certified, closed, commit_came, committed, fresh, in_phase, is_hosted_of, local_version, marked, pre_version, refused, replied, requested, taken, waits, with_asked}
 use Rattle.str_model.specs.declared.messages.Arrived.{Arrived}
-use Rattle.str_model.specs.declared.messages.Body.{Body}
-use Rattle.str_model.specs.declared.messages.Body.TheVariants.{ReadReply, ReadReq}
+use Rattle.str_model.specs.declared.messages.Body.TheVariants.{ReadReply}
 use Rattle.str_model.specs.declared.messages.Input.{Input}
-use Rattle.str_model.specs.declared.messages.Input.TheVariants.{Deliver}
 use Rattle.str_model.specs.declared.messages.Message.{Message}
-use Rattle.str_model.specs.declared.names.ReadDone.{ReadDone}
 use Rattle.str_model.specs.Owned.{Owns}
 use Rattle.str_model.specs.Proposals.{proposed}
-use Rattle.str_model.specs.Runs.{opening, opening_view, run}
-use Rattle.str_model.specs.Views.{Aborted, Committed, Doing, Global, Local, Own, Remote, Reply, View, lc_of, name_of}
-use Rattle.str_scene.specs.declared.names.Event.{Event}
+use Rattle.str_model.specs.Runs.{opening, opening_view}
+use Rattle.str_model.specs.Views.{Aborted, Committed, Doing, Global, Local, Own, Remote, View, lc_of, name_of}
 use Rattle.str_scene.specs.Scenes.{Here, Scene, in_part, participants}
 
 -- the transaction was certified with a write of the key
@@ -144,10 +138,14 @@ pub record Sourced (scene : Scene) (s : Stage) : Type 0 where
 more_from : (P Q : TxId → KeyId → Type 0) (x : Own) → ((u : TxId) (k : KeyId) → P u k → Q u k) → OwnFrom P x → OwnFrom Q x
 more_from P Q x f h = record { reads = λ r u j e. f u r.key (h.reads r u j e); phase = λ k a u fc e. f u k (h.phase k a u fc e) }
 
+module _ (scene : Scene) (s : Stage) (i : ℕ) (v : View) (input : Input) (w : Where) (d e : Doing) (is : slice_get s.nodes i ≡ Some v) (act : Act (at_place scene i) input w d e) where
+  pub wrote_stays : (u : TxId) (k : KeyId) → WroteKey scene (during s i d) u k → WroteKey scene (during s i e) u k
+  wrote_stays u k r = record { rs = r.rs; lc = r.lc; all = r.all; certified = certified_stays scene s i v input w d e is act u r.rs r.lc r.all r.certified; write = r.write; there = r.there; key = r.key }
+
 module _ (scene : Scene) (s : Stage) (i : ℕ) (v : View) (input : Input) (w : Where) (d e : Doing) (is : slice_get s.nodes i ≡ Some v) (seen : IsSeen s input) (act : Act (at_place scene i) input w d e)
     (h : Sourced scene (during s i d)) where
-  wrote_stays : (u : TxId) (k : KeyId) → WroteKey scene (during s i d) u k → WroteKey scene (during s i e) u k
-  wrote_stays u k r = record { rs = r.rs; lc = r.lc; all = r.all; certified = certified_stays scene s i v input w d e is act u r.rs r.lc r.all r.certified; write = r.write; there = r.there; key = r.key }
+  wrote_on : (u : TxId) (k : KeyId) → WroteKey scene (during s i d) u k → WroteKey scene (during s i e) u k
+  wrote_on = wrote_stays scene s i v input w d e is act
 
   here_d : slice_get (slice_set s.nodes i d.view) i ≡ Some d.view
   here_d = get_set s.nodes i v d.view is
@@ -160,19 +158,19 @@ module _ (scene : Scene) (s : Stage) (i : ℕ) (v : View) (input : Input) (w : W
       let g : Sent s c.0 = subst (IsSeen s) c.1 seen in h.replies c.0 (in_left s.sent d.sent c.0 (in_at s.sent g.0 c.0 g.1)) tx k a by fc u c.3 t
 
   version_e : (q : Version) → VersionBack (at_place scene i) input d e q → WroteKey scene (during s i e) q.tx q.key
-  version_e q (vb_old z k t g) = wrote_stays q.tx q.key (subst₂ (λ (a : TxId) (b : KeyId). WroteKey scene (during s i d) a b) t g (h.versions i d.view here_d z k))
+  version_e q (vb_old z k t g) = wrote_on q.tx q.key (subst₂ (λ (a : TxId) (b : KeyId). WroteKey scene (during s i d) a b) t g (h.versions i d.view here_d z k))
   version_e q (vb_local n lc y x own l k t g) =
       record { rs = y.snap.rs; lc = lc; all = y.writes; certified = record { n = i; i = n; view = e.view; x = y; there = here_e; own = own; name = t; lc_is = l; writes = refl; rs_is = refl }; write = x; there = k; key = sym g }
   version_e q (vb_pre a x p k t g) =
       let r = (placed_writes scene s i v input w d e is seen act h.linked_ a p).0 in
       let f = in_filter (in_part scene a.part) r.0 x (subst (In x) r.2 k) in
-      wrote_stays q.tx q.key (record { rs = a.rs.0; lc = a.lc.0; all = r.0; certified = subst (λ (z : TxId). IsCertified scene (during s i d) z a.rs.0 a.lc.0 r.0) (sym t) r.1; write = x; there = f.0; key = sym g })
+      wrote_on q.tx q.key (record { rs = a.rs.0; lc = a.lc.0; all = r.0; certified = subst (λ (z : TxId). IsCertified scene (during s i d) z a.rs.0 a.lc.0 r.0) (sym t) r.1; write = x; there = f.0; key = sym g })
 
   reply_e : (m : Message) → In m (s.sent ++ e.sent) → (tx : TxId) (k : KeyId) (a : Value) (by : Option TxId) (fc : Ts) (u : TxId) → m.body ≡ ReadReply tx k a by fc → by ≡ Some u → WroteKey scene (during s i e) u k
   reply_e m j tx k a by fc u q t = elim (in_append s.sent e.sent m j) [
-    | inl z ↦ wrote_stays u k (h.replies m (in_left s.sent d.sent m z) tx k a by fc u q t)
+    | inl z ↦ wrote_on u k (h.replies m (in_left s.sent d.sent m z) tx k a by fc u q t)
     | inr z ↦ (elim (letters_act (at_place scene i) input w d e act m z) [
-      | inl y ↦ wrote_stays u k (h.replies m (in_right s.sent d.sent m y) tx k a by fc u q t)
+      | inl y ↦ wrote_on u k (h.replies m (in_right s.sent d.sent m y) tx k a by fc u q t)
       | inr y ↦ fresh_ y
     ])
   ]
@@ -183,32 +181,32 @@ module _ (scene : Scene) (s : Stage) (i : ℕ) (v : View) (input : Input) (w : W
           let same : ReadReply z l c o _ ≡ ReadReply tx k a by fc = sym b ∙ q in
           let key : l ≡ k = cc same in
           let writer : o ≡ by = cc same in
-          wrote_stays u k (subst (λ (z : KeyId). WroteKey scene (during s i d) u z) key
+          wrote_on u k (subst (λ (z : KeyId). WroteKey scene (during s i d) u z) key
           (got_from (at_place scene i) input (λ u k. WroteKey scene (during s i d) u k) d (h.versions i d.view here_d) came_from l o (serve_from d.view.versions l r c o gc g.gives) u (writer ∙ t)))
       fresh_ (rl_commit n lc gc x c own f g r b) = absurd (cc (b, q))
       fresh_ (rl_other b) = absurd (cc (ap is_other q, b))
 
-  sourced_step : Sourced scene (during s i e)
+  pub sourced_step : Sourced scene (during s i e)
   sourced_step = record {
     linked_ = linked_step scene s i v input w d e is seen act h.linked_;
     versions = λ n u g q k. elim (got_set s.nodes i n e.view u g) [
       | inl z ↦ version_e q (versions_back (at_place scene i) input w d e act q (subst (λ (y : View). In q y.versions) z.1 k))
-      | inr z ↦ wrote_stays q.tx q.key (h.versions n u (get_set_other s.nodes i n d.view z.0 ∙ z.1) q k)
+      | inr z ↦ wrote_on q.tx q.key (h.versions n u (get_set_other s.nodes i n d.view z.0 ∙ z.1) q k)
     ];
     replies = reply_e;
-    own = λ n u g j x k. more_from (λ u k. WroteKey scene (during s i d) u k) (λ u k. WroteKey scene (during s i e) u k) x wrote_stays (elim (got_set s.nodes i n e.view u g) [
+    own = λ n u g j x k. more_from (λ u k. WroteKey scene (during s i d) u k) (λ u k. WroteKey scene (during s i e) u k) x wrote_on (elim (got_set s.nodes i n e.view u g) [
       | inl z ↦ own_from (at_place scene i) input w (λ u k. WroteKey scene (during s i d) u k) d (h.versions i d.view here_d) came_from e act (h.own i d.view here_d) j x (subst (λ (y : View). slice_get y.own j ≡ Some x) z.1 k)
       | inr z ↦ h.own n u (get_set_other s.nodes i n d.view z.0 ∙ z.1) j x k
     ]);
   }
 
-pub sourced : (scene : Scene) (es : List Event) → Sourced scene (stage_of (run scene es))
-sourced scene es = everywhere scene (Sourced scene) (λ s i v input w d e is seen hs a h. sourced_step scene s i v input w d e is seen a h) (record {
+pub sourced_opening : (scene : Scene) → Sourced scene (stage_of (opening scene))
+sourced_opening scene = record {
   linked_ = linked_opening scene;
   versions = λ n v g q k. absurd (subst (λ (z : View). In q z.versions) (empty n v g) k);
   replies = λ m k. absurd k;
   own = λ n v g i x k. absurd (cc (ap (λ (z : View). slice_get z.own i) (sym (empty n v g)), k));
-}) es
+}
   where
     empty : (n : ℕ) (v : View) → slice_get (replicate scene.nodes (opening_view scene)) n ≡ Some v → v ≡ opening_view scene
     empty n v g = got_replicate scene.nodes n (opening_view scene) v g

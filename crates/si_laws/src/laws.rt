@@ -4,6 +4,7 @@ ghost use Rattle.si_laws.specs.Laws.Lasting.{AnswersGrow, DecidedStay};
 ghost use Rattle.si_laws.specs.Laws.Asking.{PresAsked};
 ghost use Rattle.si_laws.specs.Laws.Session.{SessionHolds};
 ghost use Rattle.si_laws.specs.Laws.Stages.{AcksKnown, StagesForward};
+ghost use Rattle.si_laws.specs.Laws.Marks.{MarksHold};
 ghost use Rattle.si_laws.specs.Laws.Presence.{PresenceByBound, PresenceHolds, PresenceStands};
 ghost use Rattle.si_laws.specs.Laws.Apart.{ApartHolds, OrderHolds};
 
@@ -74,4 +75,10 @@ pub fn presence_by_bound()
 /// Where versions of a transaction stand, by what was given: where the pair is not done, its decision was never given to the node.
 pub fn presence_holds()
     ensures { PresenceHolds }
+{}
+
+/// Who has read a key has left its mark: at its own node, and at the master that replied; and where it has read from a transaction that was
+/// undecided then and has committed since, at each participant of that one for the key's partition, or in a Commit under way to it.
+pub fn marks_hold()
+    ensures { MarksHold }
 {}
