@@ -80,3 +80,10 @@ pub mod Refusing
 pub mod Judging
 pub mod SentBy
 pub mod Refused
+pub mod ReadLetters
+pub mod Replying
+pub mod Sources
+pub mod Sourcing
+pub mod DoneMarks
+pub mod CommitSteps
+pub mod MarksLaw

@@ -21,7 +21,7 @@ use Rattle.si_laws.specs.Laws.Marks.{WaitsFor}
 
 -- ---- lists of marks
 
-index_same : (ms : List ℕ) (i t : ℕ) → i < length ms → slice_index (slice_set ms i t) i ≡ t
+pub index_same : (ms : List ℕ) (i t : ℕ) → i < length ms → slice_index (slice_set ms i t) i ≡ t
 index_same [] i t h = absurd (omega (arith, h))
 index_same (m ∷ ms) zero t h = refl
 index_same (m ∷ ms) (suc i) t h = index_same ms i t (omega (arith, h))

@@ -5,9 +5,9 @@ ghost use Rattle.si_laws.specs.Laws.Cut.{CutHolds};
 ghost use Rattle.si_laws.specs.Laws.Asking.{PresAsked};
 ghost use Rattle.si_laws.specs.Laws.Session.{SessionHolds};
 ghost use Rattle.si_laws.specs.Laws.Reasons.{CausesNamed, GateLawHolds, ReasonsHold};
-ghost use Rattle.si_laws.specs.Laws.Marks.{HomeMarksHold};
 ghost use Rattle.si_laws.specs.Laws.Stages.{AcksKnown, StagesForward};
 ghost use Rattle.si_laws.specs.Laws.Presence.{PresenceHolds, PresenceStands};
+ghost use Rattle.si_laws.specs.Laws.Marks.{HomeMarksHold, MarksHold};
 ghost use Rattle.si_laws.specs.Laws.Apart.{ApartHolds, OrderHolds};
 
 /// Times at a node, over every list of events.
@@ -97,4 +97,10 @@ pub fn presence_holds()
 /// partition, a dependency that aborted or came too late, or a wish of the script.
 pub fn reasons_hold()
     ensures { ReasonsHold }
+{}
+
+/// Who has read a key has left its mark: at its own node, and at the master that replied; and where it has read from a transaction that was
+/// undecided then and has committed since, at each participant of that one for the key's partition, or in a Commit under way to it.
+pub fn marks_hold()
+    ensures { MarksHold }
 {}

@@ -19,4 +19,5 @@ pub mod LinkPaths
 pub mod Tracing
 pub mod Later
 pub mod Resting
+pub mod Onward
 pub mod Telling

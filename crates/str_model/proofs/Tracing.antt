@@ -1,5 +1,5 @@
 -- The events of a trace: where each was done, from which view, and what it left.
-use Rattle.std.proofs.Common.{List, None, Option, Some, [], add-one, ap, append_assoc, inl, inr, length, refl, slice_get, slice_set, sub-one, subst, suc, sym, zero, ℕ, ◌++◌, ◌+◌, ◌-◌, ◌<◌, ◌∙◌, ◌∷◌, ◌≡◌, ◌≢◌, ◌⊎◌}
+use Rattle.std.proofs.Common.{List, None, Option, Some, [], add-one, ap, append_assoc, inl, inr, length, refl, slice_get, slice_set, sub-one, subst, suc, sym, zero, ℕ, ◌++◌, ◌+◌, ◌-◌, ◌<◌, ◌∙◌, ◌∷◌, ◌≡◌, ◌≢◌, ◌⊎◌, append-nil}
 use Rattle.str_base.specs.declared.names.NodeId.{NodeId}
 use Rattle.str_scene.specs.declared.names.Event.{Event}
 use Rattle.str_scene.specs.declared.names.Event.TheVariants.{Client as ClientEvent, Deliver as DeliverEvent}
@@ -33,6 +33,8 @@ pub record Takes (scene : Scene) (w : World) (e : Event) (h : Happening) (w' : W
   pub last : Doing
   pub ends : EndsAt h.moments last
   pub after : w'.nodes ≡ slice_set w.nodes place last.view
+  pub sent : w'.sent ≡ w.sent ++ last.sent
+  pub answers : w'.answers ≡ w.answers ++ last.released
 
 -- an event: a node takes it, or none does
 pub data Turns (scene : Scene) (w : World) (e : Event) (h : Happening) (w' : World) : Type 0 where
@@ -64,6 +66,8 @@ module _ (scene : Scene) where
         last = starts v;
         ends = idle_ends (at_place scene i) input v q;
         after = sym (set_got w.nodes i v is);
+        sent = sym (append-nil w.sent);
+        answers = sym (append-nil w.answers);
       })
   step_turns e i w v input (Some d) is seen q =
       somebody (record {
@@ -78,6 +82,8 @@ module _ (scene : Scene) where
         last = d;
         ends = last_moment (at_place scene i) input v d q;
         after = refl;
+        sent = refl;
+        answers = refl;
       })
 
   at_turns : (e : Event) (n : NodeId) (input : Input) (w : World) (o : Option View) → nth w.nodes n.0 ≡ o → IsSeen (stage_of w) input
@@ -119,6 +125,8 @@ module _ (scene : Scene) where
             last = t.last;
             ends = t.ends;
             after = t.after;
+            sent = t.sent;
+            answers = t.answers;
           })
 
       by_message : (o : Option Message) → nth w.sent i ≡ o → Turns scene w (DeliverEvent i) (Traces.seen_message scene w (DeliverEvent i) o) (Runs.deliver_event scene (DeliverEvent i) i w o)
