@@ -31,6 +31,7 @@ mod Tests
 mod TextsApart
 mod Wholes
 mod Wider
+mod FinishLemmas
 mod Judging
 mod TableRoom
 mod FirstLine

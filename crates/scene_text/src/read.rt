@@ -1,5 +1,5 @@
 //! A scene, read from its text.
-ghost use Rattle.std.specs.Prelude.{◌≡◌, ◌⊎◌, ◌<◌, ◌≤◌, ◌+◌, ◌++◌, ◌∷◌, [], IfOk, IfErr, IsTrue, ◌↔◌, OnOk, length, take, true, false};
+ghost use Rattle.std.specs.Prelude.{◌≡◌, ◌⊎◌, ◌<◌, ◌≤◌, ◌+◌, ◌++◌, ◌∷◌, [], IfOk, IfErr, None, IsTrue, ◌↔◌, OnOk, length, take, true, false};
 ghost use Rattle.scene_text.specs.LineOrder.{follows as follows_line, op_follows, section_follows};
 ghost use Rattle.scene_text.specs.LineTexts.{IsForm};
 ghost use Rattle.scene_text.specs.Reaching.{Reached};
@@ -7,6 +7,7 @@ ghost use Rattle.scene_text.specs.Reading.{fault_at, version_given, IsBadText, I
 ghost use Rattle.scene_text.specs.Taking.{is_up_to, key_number, scene_limits, settled, take_line};
 ghost use Rattle.scene_text.specs.Taking.Taken.{Now};
 ghost use Rattle.str_scene.specs.Drafts.{empty_draft, with_key};
+ghost use Rattle.str_scene.specs.Refusals.{finish_fault};
 ghost use Rattle.str_scene.specs.SceneLimits.{is_name};
 ghost use Rattle.str_scene.specs.Spelling.{IsText};
 
@@ -371,11 +372,15 @@ impl Reader {
         matches!(self.place, Place::AfterEnd)
     }
 
-    /// The scene that the lines give.
-    fn finish(self) -> Result<Scene, SceneFault>
-        ensures { IfOk result (λ s. s ≡ self.draft) }
+    /// The scene that the lines give, after the last of them.
+    fn finish(self) -> Scene
+        requires { finish_fault self.draft ≡ None }
+        ensures { result ≡ self.draft }
     {
-        self.build.finish()
+        match self.build.finish() {
+            Ok(scene) => scene,
+            Err(_) => unreachable!(),
+        }
     }
 }
 
@@ -465,10 +470,7 @@ pub fn read_scene(alloc: Global, text: &[u8]) -> Result<Scene, TextFault>
             why: Why::Cut,
         });
     }
-    match reader.finish() {
-        Ok(scene) => Ok(scene),
-        Err(_) => Err(TextFault::Memory),
-    }
+    Ok(reader.finish())
 }
 
 #[cfg(test)]

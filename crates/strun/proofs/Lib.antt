@@ -18,3 +18,5 @@ pub mod OneNode
 pub mod Isolated
 pub mod Partial
 pub mod Said
+pub mod FirstTests
+pub mod Refusing

@@ -1,6 +1,7 @@
 -- The lines that the program says, spelled out.
 use Rattle.std.specs.Prelude.{[], codes, refl, ◌≡◌}
-use Rattle.strun.specs.Tops.{not_built, own_name}
+use Rattle.strun.specs.Refusals.{not_built, too_many}
+use Rattle.strun.specs.Tops.{own_name}
 use Rattle.top_status.specs.declared.status.Status.TheVariants.{NoMemory, Ok as StatusOk, ReadFault, Refused, Usage, WriteFault}
 use Rattle.top_status.specs.Statuses.{line_of}
 
@@ -12,9 +13,13 @@ said_nothing = refl
 pub said_usage : line_of own_name not_built Usage ≡ codes "strun: usage\n"
 said_usage = refl
 
--- the input is refused
-pub said_refused : line_of own_name not_built Refused ≡ codes "strun: not built\n"
-said_refused = refl
+-- the scene isn't a first one
+pub said_other : line_of own_name not_built Refused ≡ codes "strun: not built\n"
+said_other = refl
+
+-- there are too many bytes
+pub said_long : line_of own_name too_many Refused ≡ codes "strun: more than 1048576 bytes\n"
+said_long = refl
 
 -- a read failed
 pub said_read_fault : line_of own_name not_built ReadFault ≡ codes "strun: read fault\n"

@@ -1,3 +1,4 @@
 pub mod ClusterStates
+pub mod Refusals
 pub mod Tops
 pub mod Printing

@@ -6,20 +6,18 @@ use Rattle.str_model.specs.Drains.{cluster_run}
 use Rattle.str_model.specs.Lines.{render}
 use Rattle.str_outer.specs.Causes.{Rose}
 use Rattle.str_outer.specs.Pieces.{AppendsPrefix}
-use Rattle.str_scene.specs.FirstScenes.{IsFirstText}
 use Rattle.str_scene.specs.Scenes.{Scene}
+use Rattle.strun.specs.Refusals.{IsFirstText, IsRefusal}
 use Rattle.top_status.specs.declared.failure.Failure.{Failure}
 use Rattle.top_status.specs.declared.failure.Failure.TheVariants.{Memory, Read, Refused as Refusal, Usage, Write}
 use Rattle.top_status.specs.declared.status.Status.{Status}
 use Rattle.top_status.specs.declared.status.Status.TheVariants.{NoMemory, Ok as StatusOk, Refused}
+use Rattle.top_status.specs.Statuses.{line_of}
+use Rattle.top_status.specs.Telling.{Tells}
 
 -- the program's name
 abbrev pub own_name : List ℕ
 own_name = codes "strun"
-
--- what is said of a refused input
-abbrev pub not_built : List ℕ
-not_built = codes "not built"
 
 -- the words ask for a run
 abbrev pub IsRunWords : List (List ℕ) → Type 0
@@ -36,12 +34,19 @@ pub record Ran (left left' held held' : Option (List ℕ)) : Type 0 where
   pub written : Appends held held' (render scene (cluster_run scene))
   pub isolated : SIRun scene (cluster_run scene).answers
 
--- the source was read to its end or to 1,048,577 bytes, and what was read is the text of no first scene
-pub record IsRefused (left left' : Option (List ℕ)) : Type 0 where
+-- the source was read to its end or to 1,048,577 bytes, and what was read is refused with these words
+pub record IsRefused (left left' : Option (List ℕ)) (said : List ℕ) : Type 0 where
   pub bytes : List ℕ
   pub consumed : Consumes left left' bytes
   pub whole : (length bytes ≡ 1048577) ⊎ IsAtEnd left'
-  pub refused : (scene : Scene) → ¬ IsFirstText bytes scene
+  pub refusal : IsRefusal bytes said
+
+-- standard error grew by the line of the status, or by a prefix of it where one of its counts rose; that of a refusal says why what was
+-- read is refused
+pub record IsTold (left left' : Option (List ℕ)) (status : Status) (held held' : Option (List ℕ)) (faults faults' wants wants' : ℕ) : Type 0 where
+  pub said : List ℕ
+  pub refused : status ≡ Refused → IsRefused left left' said
+  pub tells : Tells (line_of own_name said status) held held' faults faults' wants wants'
 
 -- the source gave the text of a first scene, and a prefix of the rendering of its run was written
 pub record PartlyRan (left left' held held' : Option (List ℕ)) : Type 0 where
@@ -67,16 +72,16 @@ abbrev pub Refuses : Option (List ℕ) → ℕ → ℕ → Status → Type 0
 Refuses left read read' status =
     (bytes : List ℕ) → left ≡ Some bytes → ((scene : Scene) → ¬ IsFirstText bytes scene) → ¬ Rose read read' → (status ≡ Refused) ⊎ (status ≡ NoMemory)
 
--- a text that is refused is that of no first scene
+-- why a text is refused
 abbrev pub RefusesText : List ℕ → Failure → Type 0
-RefusesText text (Refusal said) = (said.items ≡ not_built) × ((scene : Scene) → ¬ IsFirstText text scene)
+RefusesText text (Refusal said) = IsRefusal text said.items
 RefusesText text Memory = ⊤
 RefusesText text _ = ⊥
 
 -- why a run failed, and what was written until then
 abbrev pub RunFails : Option (List ℕ) → Option (List ℕ) → ℕ → ℕ → Option (List ℕ) → Option (List ℕ) → ℕ → ℕ → Failure → Type 0
 RunFails left left' read read' held held' write write' Usage = ⊥
-RunFails left left' read read' held held' write write' (Refusal said) = (said.items ≡ not_built) × IsRefused left left' × (held' ≡ held)
+RunFails left left' read read' held held' write write' (Refusal said) = IsRefused left left' said.items × (held' ≡ held)
 RunFails left left' read read' held held' write write' Read = Rose read read' × (held' ≡ held)
 RunFails left left' read read' held held' write write' Write = Rose write write' × PartlyRan left left' held held'
 RunFails left left' read read' held held' write write' Memory = IsPartial left left' held held'

@@ -2,6 +2,7 @@
 #![tactic(auto)]
 
 mod cluster;
+mod first;
 mod lines;
 #[cfg(test)]
 mod tests;

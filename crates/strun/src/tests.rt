@@ -88,7 +88,7 @@ fn whole_calls(rt: HostRuntime) -> Result<(), Fail> {
             text: b"str 1\nnodes 2\n",
             status: Status::Refused,
             out: b"",
-            err: b"strun: not built\n",
+            err: b"strun: line 3: cut\n",
             ..plain
         },
     )?;
@@ -151,6 +151,42 @@ fn each_write_fails_in_turn(rt: HostRuntime) -> Result<(), Fail> {
             },
             out: &EMPTY_END[..held],
             err: if fails { b"strun: write fault\n" } else { b"" },
+        };
+        check(&rt, &call)?;
+    }
+    Ok(())
+}
+
+#[test]
+fn refused_texts(rt: HostRuntime) -> Result<(), Fail> {
+    let cases: [(&'static [u8], &'static [u8]); 8] = [
+        (b"", b"strun: line 1: cut\n"),
+        (b"str 3\n", b"strun: line 1: form\n"),
+        (b"str 1\nnodes 01\n", b"strun: line 2: form\n"),
+        (b"str 1\nnodes 9\n", b"strun: line 2: range\n"),
+        (b"str 1\nnodes 1\npart 1 1\nsched", b"strun: line 4: cut\n"),
+        (
+            b"str 1\nnodes 1\npart 1 1\nschedule\nend\nend\n",
+            b"strun: line 6: form\n",
+        ),
+        (
+            b"str 1\nnodes 2\npart 1 1\nschedule\nend\n",
+            b"strun: not built\n",
+        ),
+        (
+            b"str 1\nnodes 1\npart 1 1\nsession 1\ntx\nadd a@1 1\nschedule\nend\n",
+            b"strun: not built\n",
+        ),
+    ];
+    for (text, err) in cases {
+        let call = Call {
+            word: "run",
+            text,
+            failing_read: 0,
+            failing_write: 0,
+            status: Status::Refused,
+            out: b"",
+            err,
         };
         check(&rt, &call)?;
     }

@@ -1,5 +1,5 @@
 //! The top call of the program.
-ghost use Rattle.std.specs.Prelude.{◌≡◌, ◌↔◌, ◌≤◌, flat_map, map, IsTrue, OnErr, OnOk, IfErr, IfOk};
+ghost use Rattle.std.specs.Prelude.{◌≡◌, ◌↔◌, ◌≤◌, flat_map, length, map, IsTrue, OnErr, OnOk, IfErr, IfOk};
 ghost use Rattle.std.specs.String.{string_bytes};
 ghost use Rattle.std.specs.Io.KnownBytes.{Appends};
 ghost use Rattle.si_laws.specs.SnapshotIsolation.{SIRun};
@@ -7,24 +7,28 @@ ghost use Rattle.str_model.specs.Drains.{cluster_run};
 ghost use Rattle.str_model.specs.Lines.{answer_line, render};
 ghost use Rattle.str_outer.specs.Causes.{Rose};
 ghost use Rattle.str_outer.specs.Pieces.{AppendsPrefix};
-ghost use Rattle.str_scene.specs.FirstScenes.{IsFirst, IsFirstText};
+ghost use Rattle.str_scene.specs.FirstScenes.{IsFirst};
 ghost use Rattle.str_scene.specs.SceneLimits.{IsScene};
-ghost use Rattle.strun.specs.Tops.{Completes, IsPartial, IsRefused, IsRunWords, Ran, Refuses, RefusesText, RunFails, not_built, own_name};
-ghost use Rattle.top_status.specs.Failures.{HasWriteCause, refusal_of, status_of};
+ghost use Rattle.strun.specs.Refusals.{IsFirstText, line_said, not_built};
+ghost use Rattle.strun.specs.Tops.{Completes, IsPartial, IsRunWords, IsTold, Ran, Refuses, RefusesText, RunFails, own_name};
+ghost use Rattle.top_status.specs.Failures.{HasWriteCause, RefusesWith, refusal_of, status_of};
 ghost use Rattle.top_status.specs.Statuses.{IsQuiet, IsStopped, line_of};
 ghost use Rattle.top_status.specs.Telling.{Tells};
 
 use crate::cluster::Cluster;
+use crate::first::is_first;
 use crate::lines::{push_end, push_line};
+use scene_text::{TextFault, read_scene};
 use std::alloc::{AllocError, Global};
 use str_outer::{Sink, Source};
-use str_scene::{FirstFault, Scene, first_scene};
-use top_status::{Failure, Status, answer, read_input, refuse, write_piece};
+use str_scene::{Scene, Why};
+use top_status::{Failure, Status, answer, read_input, refuse, refuse_at, write_piece};
 
 /// Does what the words ask for: `run` reads a scene, runs it, and writes the answers and the end line.
 ///
 /// It reads `src` to its end or to 1,048,577 bytes. Where the status isn't `Ok`, one line is written on `err`; a
-/// refusal of `err` changes no status.
+/// refusal of `err` changes no status. Refused are more than 1,048,576 bytes, a text with a bad line, and the text of a
+/// scene that isn't a first one; the line says which.
 pub fn top<S: Source, K: Sink, E: Sink>(
     alloc: Global,
     words: &[String],
@@ -34,14 +38,13 @@ pub fn top<S: Source, K: Sink, E: Sink>(
 ) -> Status
     ensures ran { result ≡ Status.Ok → Ran (S.left src.old) (S.left src.new) (K.held out.old) (K.held out.new) }
     ensures usage { (result ≡ Status.Usage) ↔ (¬ IsRunWords (map string_bytes words.now)) }
-    ensures refused { result ≡ Status.Refused → IsRefused (S.left src.old) (S.left src.new) }
     ensures read_fault { result ≡ Status.ReadFault → Rose (S.faults src.old) (S.faults src.new) }
     ensures write_fault { result ≡ Status.WriteFault → Rose (K.faults out.old) (K.faults out.new) }
     ensures quiet { IsQuiet result → K.held out.new ≡ K.held out.old }
     ensures partial { IsStopped result → IsPartial (S.left src.old) (S.left src.new) (K.held out.old) (K.held out.new) }
     ensures complete { IsRunWords (map string_bytes words.now) → Completes (S.left src.old) (S.faults src.old) (S.faults src.new) (K.faults out.old) (K.faults out.new) result }
     ensures refuses { IsRunWords (map string_bytes words.now) → Refuses (S.left src.old) (S.faults src.old) (S.faults src.new) result }
-    ensures told { Tells (line_of own_name not_built result) (E.held err.old) (E.held err.new)
+    ensures told { IsTold (S.left src.old) (S.left src.new) result (E.held err.old) (E.held err.new)
         (E.faults err.old) (E.faults err.new) (E.wants err.old) (E.wants err.new) }
 {
     if !is_run(words) {
@@ -72,15 +75,44 @@ fn run<S: Source, K: Sink>(alloc: Global, src: &mut S, out: &mut K) -> Result<()
     write_run(alloc, &scene, out)
 }
 
-/// The scene of a text that is accepted. Every other text is refused.
+/// The first scene of a text. Every other text is refused.
 fn accept(alloc: Global, text: &[u8]) -> Result<Scene, Failure>
+    requires { length text.now ≤ 1048577 }
     ensures accepted { IfOk result (λ scene. IsFirstText text.now scene) }
     ensures refused { IfErr result (RefusesText text.now) }
 {
-    match first_scene(alloc, text) {
-        Ok(scene) => Ok(scene),
-        Err(FirstFault::NotBuilt) => Err(refuse(alloc, b"not built")),
-        Err(FirstFault::Memory) => Err(Failure::Memory),
+    if text.len() > 1_048_576 {
+        return Err(refuse(alloc, b"more than 1048576 bytes"));
+    }
+    match read_scene(alloc, text) {
+        Ok(scene) => first_only(alloc, scene),
+        Err(TextFault::Bad { line, why }) => Err(refuse_line(alloc, line, why)),
+        Err(TextFault::Memory) => Err(Failure::Memory),
+    }
+}
+
+/// The scene, where it is a first one. Every other scene is refused.
+fn first_only(alloc: Global, scene: Scene) -> Result<Scene, Failure>
+    ensures same { IfOk result (λ s. s ≡ scene) }
+    ensures first { IfOk result IsFirst }
+    ensures refused { IfErr result (λ failure. (¬ IsFirst scene) × RefusesWith not_built failure) }
+    ensures limits { IsScene scene }
+{
+    if is_first(&scene) {
+        return Ok(scene);
+    }
+    Err(refuse(alloc, b"not built"))
+}
+
+/// The refusal of a bad line, or want of memory.
+fn refuse_line(alloc: Global, line: u64, why: Why) -> Failure
+    ensures { RefusesWith (line_said line why) result }
+{
+    match why {
+        Why::Cut => refuse_at(alloc, b"line ", line, b": cut"),
+        Why::Form => refuse_at(alloc, b"line ", line, b": form"),
+        Why::Range => refuse_at(alloc, b"line ", line, b": range"),
+        Why::Count => refuse_at(alloc, b"line ", line, b": count"),
     }
 }
 

@@ -1,5 +1,6 @@
 use Rattle.std.proofs.Common.{arith, rules, slice_range}
 use Rattle.std.proofs.lemmas.Grind.{common_steps}
+use Rattle.scene_text.proofs.FinishLemmas.{end_finishes}
 use Rattle.scene_text.proofs.FirstLine.{all_read, fault_bad, next_reached}
 use Rattle.scene_text.proofs.ReaderLemmas.{bad_end, bad_tail, end_text}
 use Rattle.scene_text.proofs.read.read_scene.Goals as goal
@@ -25,7 +26,12 @@ returns-then-not-is_at_end-clause-bad c =
     bad_end c.args.text.now c.loop-feed.count c.loop-feed.reader (all_read c.args.text.now c.loop-feed.start c.loop-feed.count c.loop-feed.reader (omega arith) c.loop-feed.invariant.reached)
     (λ e. grind (arith, common_steps, c.is_at_end.ensures.1 e))
 
-pub returns-in-Ok-clause-read : goal.returns-in-Ok-clause-read
-returns-in-Ok-clause-read c =
-    rw c.in-Ok.ensures (end_text c.args.text.now c.loop-feed.count c.loop-feed.reader (all_read c.args.text.now c.loop-feed.start c.loop-feed.count c.loop-feed.reader (omega arith) c.loop-feed.invariant.reached)
+pub finish-requires : goal.finish-requires
+finish-requires c =
+    end_finishes c.args.text.now c.loop-feed.count c.loop-feed.reader (all_read c.args.text.now c.loop-feed.start c.loop-feed.count c.loop-feed.reader (omega arith) c.loop-feed.invariant.reached)
+    (c.is_at_end.ensures.0 (grind (arith, common_steps)))
+
+pub returns-clause-read : goal.returns-clause-read
+returns-clause-read c =
+    rw c.finish.ensures (end_text c.args.text.now c.loop-feed.count c.loop-feed.reader (all_read c.args.text.now c.loop-feed.start c.loop-feed.count c.loop-feed.reader (omega arith) c.loop-feed.invariant.reached)
     (c.is_at_end.ensures.0 (grind (arith, common_steps)))).1

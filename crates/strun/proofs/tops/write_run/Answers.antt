@@ -2,6 +2,7 @@ use Rattle.std.proofs.Common.{refl, ◌∙◌}
 use Rattle.strun.proofs.Isolated.{first_isolated}
 use Rattle.top_status.proofs.Failing.{on_err}
 use Rattle.strun.proofs.Partial.{answers_partly, answers_whole, line_partly}
+use Rattle.strun.proofs.Refusing.{later_cause}
 use Rattle.strun.proofs.Written.{all_written}
 use Rattle.strun.proofs.tops.write_run.Goals as goal
 
@@ -37,3 +38,6 @@ returns-clause-partial g c =
     line_partly c.args.scene.now _ _ _ _ _ _ _ _ c.write_piece.result c.in_ok-cluster.ensures.scene c.in_ok-cluster.ensures.world c.counts.ensures
     (c.as_slice.ensures.value ∙ rw (c.in_ok-push_end.ensures.ok, c.new-line.ensures.items) refl)
     c.in_ok-write_answers.ensures.written c.write_piece.ensures.partial
+
+pub returns-clause-failed : goal.returns-clause-failed
+returns-clause-failed g c = later_cause _ _ _ c.write_piece.result c.write_answers.ensures.later c.write_piece.ensures.failed
