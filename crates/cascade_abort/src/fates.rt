@@ -40,9 +40,9 @@ pub enum DepTurn {
     Late { by: u32, fc: Ts },
 }
 
-/// Looks at the dependencies of a snapshot by rising number, and stops at the first that aborted or that committed above the
-/// snapshot's timestamp. Those that were looked at before and committed leave the snapshot, and raise its greatest
-/// final timestamp. All else of it stays. A dependency that `fates` does not name counts as undecided.
+/// Looks at the dependencies of a snapshot by rising number, and stops at the first that aborted or that committed
+/// above the snapshot's timestamp. Those that were looked at before and committed leave the snapshot, and raise its
+/// greatest final timestamp. All else of it stays. A dependency that `fates` does not name counts as undecided.
 pub fn resolve(snap: &mut Snap, fates: &[Fate]) -> DepTurn
     ensures turn { (own : List Own) → Names own snap.old.deps fates.now → turn_of result snap.new ≡ dep_turn own snap.old }
     ensures snap { snap.new ≡ left fates.now snap.old }

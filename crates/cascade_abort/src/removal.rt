@@ -26,7 +26,8 @@ pub fn drop_all(
     requires cached { AllWritten map.now writes.now tx cache.old.versions }
     ensures store { store.new.versions ≡ without (of_tx tx) store.old.versions }
     ensures cache { cache.new.versions ≡ without (of_tx tx) cache.old.versions }
-    ensures merged { IsCache cache.old → IsStore store.old → Each (λ v. Each (Apart v) store.old.versions) cache.old.versions → merged cache.new.versions store.new.versions ≡ without (of_tx tx) (merged cache.old.versions store.old.versions) }
+    ensures merged { IsCache cache.old → IsStore store.old → Each (λ v. Each (Apart v) store.old.versions) cache.old.versions →
+        merged cache.new.versions store.new.versions ≡ without (of_tx tx) (merged cache.old.versions store.old.versions) }
     ensures store_here { StoreStays store.old store.new }
     ensures cache_here { CacheStays cache.old cache.new }
     ensures store_spare { store.old.spare ≤ store.new.spare }

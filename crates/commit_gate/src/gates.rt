@@ -70,17 +70,21 @@ pub enum GateTurn {
 }
 
 /// What a transaction that was certified at `lc` does next. `parts` are its participants, and `wrote` tells of each
-/// dependency of its snapshot the partitions that it wrote in. It asks the first partition that is not asked and in which no
-/// dependency wrote. Else it waits for the dependency with the least number, else for the first participant that has not answered. Else
-/// it commits at the greatest of `lc` and all answers. It changes nothing.
+/// dependency of its snapshot the partitions that it wrote in. It asks the first partition that is not asked and in
+/// which no dependency wrote. Else it waits for the dependency with the least number, else for the first participant
+/// that has not answered. Else it commits at the greatest of `lc` and all answers. It changes nothing.
 pub fn gate(snap: &Snap, lc: Ts, parts: &Participants, wrote: &[DepParts]) -> GateTurn
     ensures turn { turn_of result ≡ gate_turn snap.now lc.0 parts.now wrote.now }
-    ensures own { (here : Here) (view : View) (x : Own) → x.snap ≡ snap.now → x.parts ≡ parts.now → Tells here view.own snap.now.deps wrote.now → turn_of result ≡ gate_of here view lc.0 x }
+    ensures own { (here : Here) (view : View) (x : Own) → x.snap ≡ snap.now → x.parts ≡ parts.now →
+        Tells here view.own snap.now.deps wrote.now → turn_of result ≡ gate_of here view lc.0 x }
     ensures ask { (part : Part) → (result ≡ GateTurn.Ask part) ↔ FirstFree wrote.now parts.now part }
-    ensures least { (part : Part) (i : ℕ) (a : Participant) → result ≡ GateTurn.Ask part → IsUpwards parts.now → slice_get parts.now i ≡ Some a → IsTrue (may_ask wrote.now a) → part.0 ≤ a.part.0 }
+    ensures least { (part : Part) (i : ℕ) (a : Participant) → result ≡ GateTurn.Ask part → IsUpwards parts.now →
+        slice_get parts.now i ≡ Some a → IsTrue (may_ask wrote.now a) → part.0 ≤ a.part.0 }
     ensures shut { (by : ℕ) → (result ≡ GateTurn.Shut by) ↔ (NoneFree wrote.now parts.now × IsLeast snap.now.deps by) }
-    ensures missing { (part : Part) (node : Node) → (result ≡ GateTurn.Missing part node) ↔ (NoneFree wrote.now parts.now × (snap.now.deps ≡ []) × FirstMissing parts.now part node) }
-    ensures commit { (fc : Time) → (result ≡ GateTurn.Commit fc) ↔ (NoneFree wrote.now parts.now × (snap.now.deps ≡ []) × NoneMissing parts.now × IsGreatest lc.0 parts.now fc.0) }
+    ensures missing { (part : Part) (node : Node) → (result ≡ GateTurn.Missing part node) ↔
+        (NoneFree wrote.now parts.now × (snap.now.deps ≡ []) × FirstMissing parts.now part node) }
+    ensures commit { (fc : Time) → (result ≡ GateTurn.Commit fc) ↔
+        (NoneFree wrote.now parts.now × (snap.now.deps ≡ []) × NoneMissing parts.now × IsGreatest lc.0 parts.now fc.0) }
 {
     let items = parts.as_slice();
     if let Some(free) = first_free(items, wrote) {

@@ -69,7 +69,7 @@ module _ (here : Here) (input : Input) where
       by_order j x dep end (inl lt) own op m = end.below j x dep lt own op m
       by_order j x dep end (inr q) own op m = end.at_it x dep (subst (λ k. Owns (Pass.turn here i d).view k x) q own) op m
 
-  pass_open : (n : ℕ) (d : Doing) → Depends here d.view → Below here n (Pass.pass_to here n d).view
+  pub pass_open : (n : ℕ) (d : Doing) → Depends here d.view → Below here n (Pass.pass_to here n d).view
   pass_open zero d h = record { base = h; below = λ i x dep lt own op m. absurd (omega (arith, lt)) }
   pass_open (suc i) d h = turn_open i (Pass.pass_to here i d) (pass_open i d h)
 

@@ -1,6 +1,7 @@
 -- Laws of every run, over the definitions alone.
 
 pub mod Dependencies
+pub mod Cascades
 pub mod Newest
 pub mod Pairs
 pub mod Rest

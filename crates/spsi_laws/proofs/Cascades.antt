@@ -1,0 +1,30 @@
+-- One pass by rising number ends every cascade, over every run.
+use Rattle.std.proofs.Common.{Option, Some, length, refl, subst, ◌≡◌}
+use Rattle.si_laws.proofs.Beneath.{Below}
+use Rattle.si_laws.proofs.Depending.{depends-act}
+use Rattle.si_laws.proofs.Owners.{Depends}
+use Rattle.si_laws.proofs.Standing.{open_opening, pass_open, step_open}
+use Rattle.spsi_laws.proofs.Dependencies.{stands_below}
+use Rattle.spsi_laws.specs.Laws.Cascades.{CascadesEnd}
+use Rattle.str_model.proofs.Acting.{InRule, Path, PathTo, along}
+use Rattle.str_model.proofs.Everywhere.{at_each_event, at_place}
+use Rattle.str_model.proofs.Ruling.{rule-path}
+use Rattle.str_model.specs.declared.messages.Input.{Input}
+use Rattle.str_model.specs.Pass.{pass_to}
+use Rattle.str_model.specs.Steps.{rule}
+use Rattle.str_model.specs.Views.{Doing, View, starts}
+use Rattle.str_scene.specs.Scenes.{Here}
+
+-- after a rule each dependency is of a transaction that is undecided or was decided since
+ruled_depends : (here : Here) (input : Input) (v : View) (ruled : Doing) → rule here input (starts v) ≡ Some ruled → Depends here v → Depends here ruled.view
+ruled_depends here input v ruled e h =
+    let d : Doing = starts v in
+    let p : Path here input InRule d ruled = subst (λ (o : Option Doing). PathTo here input InRule d o) e (rule-path here input InRule refl d) in
+    along here input InRule (λ z. Depends here z.view) (depends-act here input InRule) d ruled p h
+
+pub cascades_end : CascadesEnd
+cascades_end scene ok events n v is input ruled m i k x dep e lt own op at =
+    let here : Here = at_place scene n in
+    let h = at_each_event scene ok (λ here v. Below here (length v.own) v) (λ here. open_opening here scene) (λ here good input v e p h. step_open here input v e p h) events n v is in
+    let below = pass_open here input m ruled (ruled_depends here input v ruled e h.base) in
+    stands_below here m (pass_to here m ruled).view below i k x dep lt own op at
