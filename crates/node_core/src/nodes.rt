@@ -135,10 +135,28 @@ mod tests {
     use std::test::Fail;
     use str_base::Value;
     use str_model::Outcome;
-    use str_scene::first::first_scene;
+    use partition_map::PartRow;
+    use std::alloc::Global;
+    use str_base::PartId;
+    use str_scene::{Op, OpList, SceneBuild, SceneFault, is_first};
 
-    const TEXT: &[u8] =
-        b"str 1\nnodes 1\npart 1 1\nsession 1\ntx\nput a@1 5\ntx\nget a@1\nschedule\ndrain\nend\n";
+    /// A session at the one node: a put, and then a get of the key.
+    fn put_and_get(alloc: Global) -> Result<Scene, SceneFault> {
+        let mut build = SceneBuild::new(alloc, 1);
+        build.nodes(1)?;
+        let mut row = PartRow::new();
+        row.push(NodeId(1));
+        build.part(row)?;
+        build.session(NodeId(1))?;
+        let key = build.key(b"a", PartId(1))?;
+        for op in [Op::Put(key, 5), Op::Get(key)] {
+            let mut ops = OpList::new();
+            ops.push(op);
+            build.tx(ops)?;
+        }
+        build.drain()?;
+        build.finish()
+    }
 
     /// A client step, with room made before.
     fn go(node: &mut Node, out: &mut Outbox, reading: u64) -> Result<bool, AllocError> {
@@ -166,7 +184,10 @@ mod tests {
 
     #[test]
     fn a_commit_is_read(rt: HostRuntime) -> Result<(), Fail> {
-        let scene = first_scene(rt.alloc(), TEXT)?;
+        let scene = put_and_get(rt.alloc())?;
+        if !is_first(&scene) {
+            return Err("a first scene".into());
+        }
         let mut node = Node::new(rt.alloc(), NodeId(1), &scene)?;
         let mut out = Outbox::new(rt.alloc());
         for reading in [10, 0, 0, 0, 0, 0] {

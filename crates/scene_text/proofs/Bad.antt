@@ -23,7 +23,7 @@ use Rattle.scene_text.specs.declared.lines.Line.{Line}
 use Rattle.scene_text.specs.declared.lines.Line.TheVariants.{Abort as LAbort, Add as LAdd, Client as LClient, Del as LDel, Deliver as LDeliver, Drain as LDrain, End as LEnd, Get as LGet, Need as LNeed, Nodes as LNodes, Part as LPart, Put as LPut, Puts as LPuts, Schedule as LSchedule, Session as LSession, Tx as LTx, Version as LVersion}
 use Rattle.str_base.specs.Versions.{same_node}
 use Rattle.str_scene.proofs.Each.{each_append, each_at, each_from}
-use Rattle.str_scene.specs.Building.{Each}
+use Rattle.str_scene.specs.Lists.{Each}
 use Rattle.str_scene.specs.declared.faults.Why.{Why}
 use Rattle.str_scene.specs.declared.faults.Why.TheVariants.{Count, Cut, Form, Range}
 

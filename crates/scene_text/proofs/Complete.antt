@@ -19,7 +19,7 @@ use Rattle.scene_text.specs.declared.lines.Line.{Line}
 use Rattle.scene_text.specs.declared.lines.Line.TheVariants.{Drain as LDrain, End as LEnd, Nodes as LNodes, Part as LPart, Schedule as LSchedule, Version as LVersion}
 use Rattle.str_base.specs.declared.names.NodeId.{NodeId}
 use Rattle.str_base.specs.declared.names.PartId.{PartId}
-use Rattle.str_scene.specs.Building.{Each}
+use Rattle.str_scene.specs.Lists.{Each}
 use Rattle.str_scene.specs.Drafts.{drained, empty_draft, with_entry, with_nodes, with_row}
 use Rattle.str_scene.specs.SceneLimits.{IsRow, all_ops, counted, key_of, text_of}
 use Rattle.str_scene.specs.Scenes.{KeyTable, Scene, Session}

@@ -16,7 +16,7 @@ use Rattle.scene_text.specs.Taking.{Limits, State, Taken, after, at_start, goes_
 use Rattle.scene_text.specs.Taking.Taken.{Now}
 use Rattle.scene_text.specs.declared.lines.Line.{Line}
 use Rattle.scene_text.specs.declared.lines.Line.TheVariants.{Abort as LAbort, End as LEnd, Nodes as LNodes, Part as LPart, Schedule as LSchedule, Version as LVersion}
-use Rattle.str_scene.specs.Building.{Each}
+use Rattle.str_scene.specs.Lists.{Each}
 use Rattle.str_scene.specs.Drafts.{with_nodes}
 use Rattle.str_scene.specs.Scenes.{Scene}
 use Rattle.str_scene.specs.declared.names.Op.{Op}

@@ -5,7 +5,7 @@ use Rattle.std.proofs.lemmas.Slice.Eq.{bytes_eq-Decides}
 use Rattle.std.specs.Str.{bytes_eq}
 use Rattle.str_scene.proofs.Counts.{counted_next, counted_old}
 use Rattle.str_scene.proofs.Each.{each_push, get_left, get_middle, get_push}
-use Rattle.str_scene.specs.Building.{Each}
+use Rattle.str_scene.specs.Lists.{Each}
 use Rattle.str_scene.specs.Keys.{string_place, with_string}
 use Rattle.str_scene.specs.SceneLimits.{counted}
 

@@ -28,7 +28,7 @@ use Rattle.str_base.specs.declared.names.NodeId.{NodeId}
 use Rattle.str_base.specs.declared.names.PartId.{PartId}
 use Rattle.str_base.specs.declared.names.SessionId.{SessionId}
 use Rattle.str_scene.specs.declared.names.Event.TheVariants.{Client, Deliver}
-use Rattle.str_scene.specs.Building.{Each}
+use Rattle.str_scene.specs.Lists.{Each}
 use Rattle.str_scene.specs.Drafts.{empty_draft, is_none_yet, may_have_entry, may_have_nodes, may_have_part, may_have_session, may_have_tx, with_nodes, with_row, with_session}
 use Rattle.str_scene.specs.Refusals.{IsRefused, drain_fault, entry_fault, first_fault, is_row as row_is, is_up_to, is_known, nodes_fault, part_fault, session_fault, sessions_at, is_puts, is_script, tx_fault}
 use Rattle.str_scene.specs.SceneLimits.{IsOp}

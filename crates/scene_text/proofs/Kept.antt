@@ -12,7 +12,7 @@ use Rattle.scene_text.specs.declared.lines.Line.TheVariants.{Drain as LDrain, En
 use Rattle.str_base.specs.Versions.{same_node}
 use Rattle.str_base.specs.declared.names.NodeId.{NodeId}
 use Rattle.str_base.specs.declared.names.PartId.{PartId}
-use Rattle.str_scene.specs.Building.{Each}
+use Rattle.str_scene.specs.Lists.{Each}
 use Rattle.str_scene.specs.Drafts.{empty_draft, with_nodes}
 use Rattle.str_scene.specs.SceneLimits.{Exists, IsByteText, IsKey, IsOp, IsRow, all_ops, counted, key_of, text_of}
 use Rattle.str_scene.specs.Scenes.{KeyTable, Scene, Session}

@@ -20,7 +20,7 @@ use Rattle.str_base.specs.declared.names.PartId.{PartId}
 use Rattle.str_base.specs.declared.names.TextId.{TextId}
 use Rattle.str_scene.proofs.Each.{each_at}
 use Rattle.str_scene.proofs.Pairs.{interned}
-use Rattle.str_scene.specs.Building.{Each}
+use Rattle.str_scene.specs.Lists.{Each}
 use Rattle.str_scene.specs.Keys.{place_of, string_place, with_pair, with_string}
 use Rattle.str_scene.specs.SceneLimits.{IsByteText, IsKey, IsKeyOf, IsNumber, IsOp, counted, key_of, text_of}
 use Rattle.str_scene.specs.Scenes.{KeyTable, Scene, Session}

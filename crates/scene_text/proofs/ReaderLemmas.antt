@@ -17,10 +17,10 @@ use Rattle.scene_text.specs.Taking.{Limits, State, at_start, goes_on, placed, sc
 use Rattle.scene_text.specs.Taking.Taken.{Now, Refused}
 use Rattle.scene_text.specs.declared.lines.Line.{Line}
 use Rattle.str_scene.proofs.Each.{each_append, each_at, each_from}
-use Rattle.str_scene.specs.Building.{Each}
+use Rattle.str_scene.specs.Lists.{Each}
 use Rattle.str_scene.specs.SceneLimits.{IsScene}
 use Rattle.str_scene.specs.Spelling.{IsText, ended, scene_lines, spelling}
-use Rattle.str_scene.specs.TextLines.{is_without}
+use Rattle.str_scene.specs.Lists.{is_without}
 use Rattle.str_scene.specs.declared.faults.Why.{Why}
 use Rattle.str_scene.specs.declared.faults.Why.TheVariants.{Count, Cut, Form, Range}
 

@@ -17,7 +17,7 @@ use Rattle.scene_text.specs.declared.lines.Line.TheVariants.{Nodes as LNodes, Sc
 use Rattle.str_base.specs.Versions.{same_node}
 use Rattle.str_base.specs.declared.names.NodeId.{NodeId}
 use Rattle.str_scene.proofs.Each.{each_push}
-use Rattle.str_scene.specs.Building.{Each}
+use Rattle.str_scene.specs.Lists.{Each}
 use Rattle.str_scene.specs.Drafts.{with_session}
 use Rattle.str_scene.specs.SceneLimits.{Exists, all_ops}
 use Rattle.str_scene.specs.Scenes.{KeyTable, Scene, Session}

@@ -14,7 +14,7 @@ use Rattle.scene_text.specs.declared.lines.Line.TheVariants.{Nodes as LNodes, Se
 use Rattle.str_base.specs.Versions.{same_node}
 use Rattle.str_base.specs.declared.names.NodeId.{NodeId}
 use Rattle.str_scene.proofs.Each.{each_push}
-use Rattle.str_scene.specs.Building.{Each}
+use Rattle.str_scene.specs.Lists.{Each}
 use Rattle.str_scene.specs.Drafts.{add_tx, with_tx}
 use Rattle.str_scene.specs.SceneLimits.{all_ops}
 use Rattle.str_scene.specs.Scenes.{KeyTable, Scene, Session}

@@ -18,7 +18,7 @@ use Rattle.str_base.specs.declared.names.KeyId.{KeyId}
 use Rattle.str_base.specs.declared.names.NodeId.{NodeId}
 use Rattle.str_base.specs.declared.names.TextId.{TextId}
 use Rattle.str_scene.proofs.Each.{each_append, each_at}
-use Rattle.str_scene.specs.Building.{Each}
+use Rattle.str_scene.specs.Lists.{Each}
 use Rattle.str_scene.specs.SceneLimits.{Exists, IsOp, IsRow}
 use Rattle.str_scene.specs.Scenes.{KeyTable, Scene, Session}
 use Rattle.str_scene.specs.Spelling.{drain_lines, event_spelled, head_lines, hex_byte, key_spelled, name_spelled, op_spelled, part_lines, part_spelled, scene_lines, session_lines, tail_lines, text_spelled, tx_lines}

@@ -5,9 +5,9 @@ use Rattle.std.specs.List.{list_all}
 use Rattle.std.specs.Prelude.{flat_map}
 use Rattle.scene_text.proofs.Tests.{both, parts}
 use Rattle.scene_text.specs.FirstBad.{IsSplit}
-use Rattle.str_scene.proofs.TextLines.{is_without-here, split_unique}
+use Rattle.str_scene.proofs.Without.{is_without-here, split_unique}
 use Rattle.str_scene.specs.Spelling.{ended}
-use Rattle.str_scene.specs.TextLines.{is_without}
+use Rattle.str_scene.specs.Lists.{is_without}
 
 -- a line more before a split
 pub split_more : (line bytes : List ℕ) (lines : List (List ℕ)) (tail : List ℕ) → is_without 10 line ≡ true → IsSplit bytes lines tail → IsSplit (line ++ 10 ∷ bytes) (line ∷ lines) tail

@@ -15,7 +15,7 @@ use Rattle.scene_text.specs.SceneLines.{lines_of}
 use Rattle.scene_text.specs.Taking.{Limits, State, at_start, scene_limits, take_lines}
 use Rattle.scene_text.specs.Taking.Taken.{Now}
 use Rattle.scene_text.specs.declared.lines.Line.{Line}
-use Rattle.str_scene.specs.Building.{Each}
+use Rattle.str_scene.specs.Lists.{Each}
 use Rattle.str_scene.specs.SceneLimits.{IsScene}
 use Rattle.str_scene.specs.Scenes.{Scene}
 use Rattle.str_scene.specs.Spelling.{scene_lines}

@@ -15,7 +15,7 @@ use Rattle.scene_text.specs.Taking.{State, in_range, is_up_to, key_number, scene
 use Rattle.str_base.specs.declared.names.KeyId.{KeyId}
 use Rattle.str_base.specs.declared.names.PartId.{PartId}
 use Rattle.str_base.specs.declared.names.TextId.{TextId}
-use Rattle.str_scene.specs.Building.{Each}
+use Rattle.str_scene.specs.Lists.{Each}
 use Rattle.scene_text.specs.declared.lines.Line.TheVariants.{Puts as LPuts}
 use Rattle.str_scene.specs.Drafts.{may_have_tx, with_key}
 use Rattle.str_scene.specs.Keys.{number_of, place_of, same_pair, string_number, string_place, with_pair, with_string}

@@ -13,10 +13,10 @@ use Rattle.scene_text.proofs.Tests.{both, parts}
 use Rattle.str_base.specs.declared.names.NodeId.{NodeId}
 use Rattle.str_base.specs.declared.names.PartId.{PartId}
 use Rattle.str_base.specs.declared.names.SessionId.{SessionId}
-use Rattle.str_scene.proofs.TextLines.{is_without-append, is_without-name, split_unique}
+use Rattle.str_scene.proofs.Without.{is_without-append, is_without-name, split_unique}
 use Rattle.str_scene.specs.SceneLimits.{is_name}
 use Rattle.str_scene.specs.Spelling.{hex_byte, hex_digit}
-use Rattle.str_scene.specs.TextLines.{is_without}
+use Rattle.str_scene.specs.Lists.{is_without}
 
 -- a key, a space and more, in their parts
 key_parts : (name : List ℕ) (p : PartId) (xs : List ℕ) → key_text name p ++ 32 ∷ xs ≡ name ++ 64 ∷ (numeral p.0 ++ 32 ∷ xs)

@@ -1,6 +1,6 @@
 -- A fact of each element of a list, head by head.
 use Rattle.std.proofs.Common.{List, Some, [], ap, length, refl, slice_get, subst, suc, zero, ℕ, ◌++◌, ◌∷◌, ◌≡◌, ◌⊎◌, inl, inr}
-use Rattle.str_scene.specs.Building.{Each}
+use Rattle.str_scene.specs.Lists.{Each}
 
 -- after a push
 pub each_push : {X : Type 0} (P : X → Type 0) (xs : List X) (y : X) → Each P xs → P y → Each P (xs ++ y ∷ [])

@@ -15,7 +15,7 @@ use Rattle.str_scene.proofs.Put.{put_each, put_longer, put_unique}
 use Rattle.str_scene.proofs.Seen.{there_from_get_or}
 use Rattle.str_scene.proofs.TableLemmas.{insert-with_pair, insert-with_string}
 use Rattle.str_scene.proofs.Weaker.{IsLonger, event_weaker, session_weaker}
-use Rattle.str_scene.specs.Building.{Each}
+use Rattle.str_scene.specs.Lists.{Each}
 use Rattle.str_scene.specs.DraftLimits.{HasNumber, IsDraft}
 use Rattle.str_scene.specs.Drafts.{add_tx, is_none_yet, may_have_tx, with_key, with_text, with_tx}
 use Rattle.str_scene.specs.KeyLaws.{same_pair_self}

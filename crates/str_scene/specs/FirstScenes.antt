@@ -27,10 +27,3 @@ pub record IsFirst (scene : Scene) : Type 0 where
   pub parts : scene.parts ≡ (record { 0 = 1 } ∷ []) ∷ []
   pub ops : list_all is_get_or_put (all_ops scene) ≡ true
   pub events : list_all is_client scene.schedule ≡ true
-
--- the bytes are the text of this first scene, and are not too long to be read
-pub record IsFirstText (bytes : List ℕ) (scene : Scene) : Type 0 where
-  pub short : length bytes ≤ 1048576
-  pub scene_ : IsScene scene
-  pub first : IsFirst scene
-  pub text : IsText bytes scene

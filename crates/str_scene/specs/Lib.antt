@@ -2,12 +2,11 @@ pub mod Scenes
 pub mod SceneLimits
 pub mod Spelling
 pub mod FirstScenes
-pub mod TextLines
 pub mod Keys
 pub mod KeyLaws
-pub mod Building
 pub mod Keeping
 pub mod Drafts
 pub mod DraftLimits
 pub mod Refusals
 pub mod Numbers
+pub mod Lists

@@ -7,17 +7,14 @@ mod build_tests;
 mod checks;
 pub mod faults;
 pub mod first;
-mod first_build;
 pub mod keys;
-pub mod lines;
 pub mod names;
 mod numbered;
 pub mod scenes;
 
 pub use build::SceneBuild;
 pub use faults::{SceneFault, Why};
-pub use first::{FirstFault, first_scene};
+pub use first::is_first;
 pub use keys::{ByteText, KeyTable, Name};
-pub use lines::Line;
 pub use names::{Event, Op, OpList, TxPlace};
 pub use scenes::{Scene, SessionText};

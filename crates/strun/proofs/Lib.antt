@@ -18,5 +18,4 @@ pub mod OneNode
 pub mod Isolated
 pub mod Partial
 pub mod Said
-pub mod FirstTests
 pub mod Refusing

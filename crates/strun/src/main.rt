@@ -2,7 +2,6 @@
 #![tactic(auto)]
 
 mod cluster;
-mod first;
 mod lines;
 #[cfg(test)]
 mod tests;

@@ -16,12 +16,11 @@ ghost use Rattle.top_status.specs.Statuses.{IsQuiet, IsStopped, line_of};
 ghost use Rattle.top_status.specs.Telling.{Tells};
 
 use crate::cluster::Cluster;
-use crate::first::is_first;
 use crate::lines::{push_end, push_line};
 use scene_text::{TextFault, read_scene};
 use std::alloc::{AllocError, Global};
 use str_outer::{Sink, Source};
-use str_scene::{Scene, Why};
+use str_scene::{Scene, Why, is_first};
 use top_status::{Failure, Status, answer, read_input, refuse, refuse_at, write_piece};
 
 /// Does what the words ask for: `run` reads a scene, runs it, and writes the answers and the end line.

@@ -1,6 +1,6 @@
 use Rattle.std.proofs.Common.{ap, length, sym, ◌∙◌}
-use Rattle.strun.proofs.FirstTests.{by_events, first_parts, none_first, not_ops}
-use Rattle.strun.proofs.first.is_first.Goals as goal
+use Rattle.str_scene.proofs.FirstTests.{by_events, first_parts, none_first, not_ops}
+use Rattle.str_scene.proofs.first.is_first.Goals as goal
 
 pub returns-then-parts-ne1-clause-first : goal.returns-then-parts-ne1-clause-first
 returns-then-parts-ne1-clause-first c =

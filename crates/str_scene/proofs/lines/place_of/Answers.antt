@@ -1,6 +1,0 @@
-use Rattle.std.proofs.Common.{arith}
-use Rattle.str_scene.proofs.TextLines.{is_without_more}
-use Rattle.str_scene.proofs.lines.place_of.Goals as goal
-
-pub loop-i-preserved : goal.loop-i-preserved
-loop-i-preserved c = is_without_more c.args.byte _ _ _ (omega arith) c.loop-i-test.true c.if-bytes-i.false c.loop-i.invariant
