@@ -1,7 +1,7 @@
 -- Why an input is refused, and what is told of it.
-use Rattle.std.proofs.Common.{Err, IfErr, List, Ok, Option, Result, arith, inl, inr, length, refl, subst, ℕ, ◌<◌, ◌≡◌, ◌≤◌, ◌⊎◌}
+use Rattle.std.proofs.Common.{Err, IfErr, List, Ok, Option, Result, ap, arith, inl, inr, length, refl, subst, sym, ℕ, ◌<◌, ◌∙◌, ◌≡◌, ◌≤◌, ◌⊎◌}
 use Rattle.std.specs.Io.KnownBytes.{Consumes, IsAtEnd}
-use Rattle.scene_text.proofs.FirstBadLaws.{first_bad_no_text, one_scene_of}
+use Rattle.scene_text.proofs.FirstBadLaws.{first_bad_no_text, first_bad_unique, one_scene_of}
 use Rattle.scene_text.specs.FirstBad.{FirstBad}
 use Rattle.scene_text.specs.Reading.{IsFaultOf}
 use Rattle.scene_text.specs.declared.read.TextFault.{TextFault}
@@ -109,3 +109,17 @@ refused_of left left' read read' held held' write write' (Err Usage) f e = absur
 refused_of left left' read read' held held' write write' (Err Read) f e = absurd (cc e)
 refused_of left left' read read' held held' write write' (Err Write) f e = absurd (cc e)
 refused_of left left' read read' held held' write write' (Err Memory) f e = absurd (cc e)
+
+-- bytes are refused with one text
+pub one_refusal : (bytes r s : List ℕ) → IsRefusal bytes r → IsRefusal bytes s → r ≡ s
+one_refusal bytes r s (long l e) (long m f) = e ∙ sym f
+one_refusal bytes r s (long l e) (bad line why m b f) = absurd (omega (arith, l, m))
+one_refusal bytes r s (long l e) (other scene m is text n f) = absurd (omega (arith, l, m))
+one_refusal bytes r s (bad line why l b e) (long m f) = absurd (omega (arith, l, m))
+one_refusal bytes r s (bad line why l b e) (bad line' why' m b' f) =
+    let p = first_bad_unique bytes line line' why why' b b' in
+    e ∙ (ap (λ (k : ℕ). line_said k why) p.0 ∙ (ap (line_said line') p.1 ∙ sym f))
+one_refusal bytes r s (bad line why l b e) (other scene m is text n f) = absurd (first_bad_no_text bytes line why scene b is text)
+one_refusal bytes r s (other scene l is text n e) (long m f) = absurd (omega (arith, l, m))
+one_refusal bytes r s (other scene l is text n e) (bad line why m b f) = absurd (first_bad_no_text bytes line why scene b is text)
+one_refusal bytes r s (other scene l is text n e) (other scene' m is' text' n' f) = e ∙ sym f
