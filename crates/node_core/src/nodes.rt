@@ -132,12 +132,11 @@ fn all_sendable(node: &Node) {
 #[cfg(test)]
 mod tests {
     use super::*;
-    use std::test::Fail;
-    use str_base::Value;
-    use str_model::Outcome;
     use partition_map::PartRow;
     use std::alloc::Global;
-    use str_base::PartId;
+    use std::test::Fail;
+    use str_base::{PartId, Value};
+    use str_model::Outcome;
     use str_scene::{Op, OpList, SceneBuild, SceneFault, is_first};
 
     /// A session at the one node: a put, and then a get of the key.
