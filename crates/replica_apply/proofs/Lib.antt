@@ -1,0 +1,4 @@
+pub mod Holding
+pub mod Least
+pub mod Evicting
+pub mod Keeping

@@ -1,0 +1,118 @@
+//! Versions are placed, committed and taken out.
+ghost use Rattle.std.specs.Prelude.{◌≡◌, ◌<◌, ◌≤◌, ◌+◌, false, length, map, not, true};
+ghost use Rattle.replica_apply.specs.Changes.{AreMarked, Becomes, CanInsert, IsAdded, was_done};
+ghost use Rattle.replica_store.specs.StoreLists.{StaysHere};
+ghost use Rattle.str_base.specs.Versions.{finalise, insert_all, of_pair, without};
+ghost use Rattle.str_model.specs.Acts.{pre_version as pre_version_of, raise_all as raised_all};
+ghost use Rattle.str_model.specs.Steps.{drop_held};
+ghost use Rattle.version_chain.specs.ChainLists.{is_among};
+
+use last_reader::Marks;
+use replica_store::{DoneList, Parked, ReplicaStore};
+use str_base::{Kind, PartId, Ts, TxId, Version, Write};
+use str_model::{Arrived, KeyMarks};
+
+/// The Pre version that a write becomes.
+fn pre_version(a: &Arrived, ts: Ts, write: Write) -> Version
+    ensures { result ≡ pre_version_of a.now ts.0 write }
+{
+    Version {
+        key: write.key,
+        part: a.part,
+        tx: a.tx,
+        ts,
+        value: write.value,
+        kind: Kind::Pre,
+    }
+}
+
+/// Puts a Pre version of each write in its place. There is room for each, its partition is hosted, and no version of its key by
+/// its transaction stands there.
+pub fn place(store: &mut ReplicaStore, a: &Arrived, ts: Ts)
+    requires room { length a.now.writes ≤ store.old.spare }
+    requires hosted { is_among store.old.hosted a.now.part ≡ true }
+    requires other { CanInsert (map (pre_version_of a.now ts.0) a.now.writes) store.old.versions }
+    ensures versions { store.new.versions ≡ insert_all (map (pre_version_of a.now ts.0) a.now.writes) store.old.versions }
+    ensures here { StaysHere store.old store.new }
+    ensures spare { store.old.spare ≤ store.new.spare + length a.now.writes }
+{
+    for write in a.writes.as_slice() {
+        store.insert(pre_version(a, ts, *write));
+    }
+}
+
+/// Raises each of these marks.
+fn raise_all(marks: &mut Marks, given: &KeyMarks)
+    requires { AreMarked given.now marks.old }
+    ensures marks { marks.new ≡ raised_all given.now marks.old }
+    ensures len { length marks.new ≡ length marks.old }
+{
+    for mark in given.as_slice() {
+        marks.raise(mark.key, mark.mark);
+    }
+}
+
+/// Takes a commit: false exactly where the pair was decided, and then nothing changes. Else the pair counts as decided, the marks
+/// rise to the given ones, and the versions of the transaction in the partition become Final at `fc`. Then the list of what was
+/// decided has room.
+pub fn commit_at(
+    store: &mut ReplicaStore,
+    marks: &mut Marks,
+    done: &mut DoneList,
+    tx: TxId,
+    part: PartId,
+    fc: Ts,
+    given: &KeyMarks,
+) -> bool
+    requires room { was_done tx part done.old ≡ false → 0 < done.old.spare }
+    requires keys { AreMarked given.now marks.old }
+    ensures answer { result ≡ not (was_done tx part done.old) }
+    ensures same_store { result ≡ false → store.new ≡ store.old }
+    ensures same_marks { result ≡ false → marks.new ≡ marks.old }
+    ensures same_done { result ≡ false → done.new ≡ done.old }
+    ensures versions { result ≡ true → Becomes store.old store.new (finalise (of_pair tx part) fc.0 store.old.versions) }
+    ensures spare { store.old.spare ≤ store.new.spare }
+    ensures marks { result ≡ true → marks.new ≡ raised_all given.now marks.old }
+    ensures len { length marks.new ≡ length marks.old }
+    ensures done { result ≡ true → IsAdded tx part done.old done.new }
+    ensures left { done.old.spare ≤ done.new.spare + 1 }
+{
+    if done.has(tx, part) {
+        return false;
+    }
+    done.add(tx, part);
+    raise_all(marks, given);
+    store.finalise(tx, part, fc);
+    true
+}
+
+/// Takes an abort: false exactly where the pair was decided, and then nothing changes. Else the pair counts as decided, the
+/// versions of the transaction in the partition are taken out, and so is the first parked Prepare of the pair, where there is one.
+/// Then the list of what was decided has room.
+pub fn abort_at(
+    store: &mut ReplicaStore,
+    done: &mut DoneList,
+    parked: &mut Parked,
+    tx: TxId,
+    part: PartId,
+) -> bool
+    requires room { was_done tx part done.old ≡ false → 0 < done.old.spare }
+    ensures answer { result ≡ not (was_done tx part done.old) }
+    ensures same_store { result ≡ false → store.new ≡ store.old }
+    ensures same_done { result ≡ false → done.new ≡ done.old }
+    ensures same_parked { result ≡ false → parked.new ≡ parked.old }
+    ensures versions { result ≡ true → Becomes store.old store.new (without (of_pair tx part) store.old.versions) }
+    ensures spare { store.old.spare ≤ store.new.spare }
+    ensures done { result ≡ true → IsAdded tx part done.old done.new }
+    ensures left { done.old.spare ≤ done.new.spare + 1 }
+    ensures waiters { result ≡ true → parked.new.waiters ≡ drop_held tx part parked.old.waiters }
+    ensures kept { parked.old.spare ≤ parked.new.spare }
+{
+    if done.has(tx, part) {
+        return false;
+    }
+    done.add(tx, part);
+    store.remove(tx, part);
+    parked.drop_one(tx, part);
+    true
+}
