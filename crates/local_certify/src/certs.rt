@@ -1,5 +1,5 @@
 //! Certification of an own transaction.
-ghost use Rattle.std.specs.Prelude.{◌≡◌, ◌↔◌, ◌<◌, ◌≤◌, Some, length, max, slice_get, ℕ};
+ghost use Rattle.std.specs.Prelude.{◌≡◌, ◌↔◌, ◌<◌, ◌≤◌, ◌∷◌, IfOk, Some, [], false, length, max, slice_get, ℕ};
 ghost use Rattle.dependency_set.specs.Snapshots.{Snap as Value};
 ghost use Rattle.local_certify.specs.Causes.{AllBelow, CertWaits, FirstConflict, IsAbove, time_end};
 ghost use Rattle.local_certify.specs.Judging.{held, passed_by};
@@ -10,7 +10,7 @@ ghost use Rattle.str_base.specs.declared.names.KeyId.{KeyId as Key};
 ghost use Rattle.str_base.specs.declared.names.Ts.{Ts as Time};
 ghost use Rattle.str_base.specs.declared.names.TxId.{TxId as Name};
 ghost use Rattle.str_base.specs.declared.names.Write.{Write as AWrite};
-ghost use Rattle.str_base.specs.Versions.{newest};
+ghost use Rattle.str_base.specs.Versions.{is_local, mark_of, newest};
 ghost use Rattle.str_model.specs.Turns.{cert_turn};
 ghost use Rattle.str_model.specs.Views.{View};
 ghost use Rattle.str_scene.specs.Scenes.{Here};
@@ -136,4 +136,158 @@ fn sendable<T: Send + Sync>(_: &T) {}
 
 fn all_sendable(turn: &CertTurn) {
     sendable(turn);
+}
+
+#[cfg(test)]
+mod tests {
+    use super::*;
+    use dependency_set::Deps;
+    use partition_map::PartRow;
+    use std::alloc::{AllocError, Global};
+    use std::test::Fail;
+    use str_base::{Kind, PartId, ShortList, Value};
+
+    // What a certification comes to, without its snapshot.
+    #[derive(Clone, Copy, Debug, PartialEq, Eq)]
+    enum Seen {
+        Certified(Ts, usize),
+        Conflict(TxId, KeyId),
+        WaitGate(TxId),
+    }
+
+    fn tx(node: u8, seq: u32) -> TxId
+        ensures { result ≡ record { node = record { 0 = node }; seq = seq } }
+    {
+        TxId {
+            node: NodeId(node),
+            seq,
+        }
+    }
+
+    fn row(node: u8) -> PartRow
+        ensures { result ≡ record { 0 = node } ∷ [] }
+    {
+        let mut row = PartRow::new();
+        row.push(NodeId(node));
+        row
+    }
+
+    // Key 0 is of partition 1 at node 1, and key 1 is of partition 2 at node 2.
+    fn map(alloc: Global) -> Result<PartitionMap, AllocError>
+        ensures { IfOk result (λ m. m ≡ record { rows = (record { 0 = 1 } ∷ []) ∷ (record { 0 = 2 } ∷ []) ∷ []; keys = record { 0 = 1 } ∷ record { 0 = 2 } ∷ [] }) }
+    {
+        let rows = Vec::from_array(alloc, [row(1), row(2)])?;
+        let keys = Vec::from_array(alloc, [PartId(1), PartId(2)])?;
+        PartitionMap::new(alloc, &rows, &keys)
+    }
+
+    fn hosted() -> ShortList<PartId, 32>
+        ensures { result ≡ record { 0 = 1 } ∷ [] }
+    {
+        let mut hosted = ShortList::new();
+        hosted.push(PartId(1));
+        hosted
+    }
+
+    // A Final version of key 0 at 5.
+    fn store(alloc: Global) -> Result<ReplicaStore, AllocError>
+        ensures { IfOk result (λ s. (s.node ≡ record { 0 = 1 }) × (s.hosted ≡ record { 0 = 1 } ∷ []) × Each (λ v. (is_local v.kind ≡ false) × (v.ts.0 < time_end)) s.versions) }
+    {
+        let mut store = ReplicaStore::new(alloc, NodeId(1), hosted());
+        store.reserve(1)?;
+        store.insert(Version {
+            key: KeyId(0),
+            part: PartId(1),
+            tx: tx(2, 1),
+            ts: Ts(5),
+            value: Value::Num(7),
+            kind: Kind::Final,
+        });
+        Ok(store)
+    }
+
+    // A Local version of key 1 at 6 by transaction 1.
+    fn cache(alloc: Global) -> Result<CachePartition, AllocError>
+        ensures { IfOk result (λ s. (s.node ≡ record { 0 = 1 }) × (s.hosted ≡ record { 0 = 1 } ∷ []) × Each (λ v. (v.tx.seq ≡ 1) × (v.ts.0 < time_end)) s.versions) }
+    {
+        let mut cache = CachePartition::new(alloc, NodeId(1), hosted());
+        cache.reserve(1)?;
+        cache.insert(Version {
+            key: KeyId(1),
+            part: PartId(2),
+            tx: tx(1, 1),
+            ts: Ts(6),
+            value: Value::Num(8),
+            kind: Kind::Local,
+        });
+        Ok(cache)
+    }
+
+    fn write(key: u32) -> Write
+        ensures { result.key.0 ≡ key }
+    {
+        let key = KeyId(key);
+        let value = Value::Num(9);
+        Write { key, value }
+    }
+
+    fn both(first: Write, second: Write) -> Writes
+        ensures { result ≡ first ∷ second ∷ [] }
+    {
+        let mut writes = Writes::new();
+        writes.push(first);
+        writes.push(second);
+        writes
+    }
+
+    // Transaction 1 began at 4. Keys 0 and 1 are written.
+    fn cert(
+        store: &ReplicaStore,
+        cache: &CachePartition,
+        marks: &Marks,
+        map: &PartitionMap,
+        rs: u64,
+        ffc: u64,
+    ) -> Seen
+        requires keys { length map.now.keys ≡ 2 }
+        requires marked { length marks.now ≡ 2 }
+        requires here { StandAt (record { 0 = 1 }) map.now store.now cache.now }
+        requires stored { Each (λ v. (is_local v.kind ≡ false) × (v.ts.0 < time_end)) store.now.versions }
+        requires cached { Each (λ v. (v.tx.seq ≡ 1) × (v.ts.0 < time_end)) cache.now.versions }
+        requires times { (k : Key) → k.0 < length marks.now → mark_of marks.now k < time_end }
+        requires rs { rs < 100 }
+    {
+        let own = [OwnSnap {
+            seq: 1,
+            snap: Snap::new(Ts(4), Ts(0), Deps::new()),
+        }];
+        let snap = Snap::new(Ts(rs), Ts(ffc), Deps::new());
+        let writes = both(write(0), write(1));
+        let own = own.as_slice();
+        match certify(NodeId(1), &snap, &writes, own, store, cache, marks, map) {
+            CertTurn::Certified { lc, snap } => Seen::Certified(lc, snap.deps().len()),
+            CertTurn::Conflict { by, key } => Seen::Conflict(by, key),
+            CertTurn::WaitGate { by } => Seen::WaitGate(by),
+        }
+    }
+
+    #[test]
+    fn certifies(rt: HostRuntime) -> Result<(), Fail> {
+        let map = map(rt.alloc())?;
+        let store = store(rt.alloc())?;
+        let cache = cache(rt.alloc())?;
+        let mut marks = Marks::new(rt.alloc(), 2)?;
+        let early = cert(&store, &cache, &marks, &map, 4, 0);
+        assert_eq!(rt; early, Seen::Conflict(tx(2, 1), KeyId(0)));
+        let later = cert(&store, &cache, &marks, &map, 5, 0);
+        assert_eq!(rt; later, Seen::Conflict(tx(1, 1), KeyId(1)));
+        let shut = cert(&store, &cache, &marks, &map, 8, 5);
+        assert_eq!(rt; shut, Seen::WaitGate(tx(1, 1)));
+        let open = cert(&store, &cache, &marks, &map, 8, 4);
+        assert_eq!(rt; open, Seen::Certified(Ts(9), 1));
+        marks.raise(KeyId(1), Ts(20));
+        let marked = cert(&store, &cache, &marks, &map, 8, 4);
+        assert_eq!(rt; marked, Seen::Certified(Ts(21), 1));
+        Ok(())
+    }
 }
