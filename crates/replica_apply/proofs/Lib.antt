@@ -2,3 +2,4 @@ pub mod Holding
 pub mod Least
 pub mod Evicting
 pub mod Keeping
+pub mod Agreeing
