@@ -3,3 +3,4 @@ pub mod Least
 pub mod Evicting
 pub mod Keeping
 pub mod Agreeing
+pub mod Shown

@@ -1,12 +1,13 @@
 //! Versions are placed, committed and taken out.
 ghost use Rattle.std.specs.Prelude.{◌≡◌, ◌<◌, ◌≤◌, ◌+◌, ◌∷◌, [], ℕ, List, false, length, map, not, true};
-ghost use Rattle.replica_apply.specs.Changes.{AreMarked, Becomes, CanInsert, IsAdded, was_done};
+ghost use Rattle.replica_apply.specs.Changes.{AreMarked, Becomes, CanInsert, IsAdded, Rests, was_done, with_parts};
 ghost use Rattle.replica_store.specs.StoreLists.{StaysHere};
 ghost use Rattle.str_base.specs.declared.names.Write.{Write as AWrite};
 ghost use Rattle.str_base.specs.Versions.{finalise, insert_all, of_pair, without};
-ghost use Rattle.str_model.specs.Acts.{pre_version as pre_version_of, raise_all as raised_all};
+ghost use Rattle.str_model.specs.Acts.{abort_came, commit_came, pre_version as pre_version_of, raise_all as raised_all};
 ghost use Rattle.str_model.specs.Steps.{drop_held};
-ghost use Rattle.version_chain.specs.ChainLists.{is_among};
+ghost use Rattle.str_model.specs.Views.{Doing};
+ghost use Rattle.version_chain.specs.ChainLists.{is_among, merged};
 
 use last_reader::Marks;
 use replica_store::{DoneList, Parked, ReplicaStore};
@@ -77,6 +78,7 @@ pub fn commit_at(
     ensures len { length marks.new ≡ length marks.old }
     ensures done { result ≡ true → IsAdded tx part done.old done.new }
     ensures left { done.old.spare ≤ done.new.spare + 1 }
+    ensures view { result ≡ true → (d : Doing) (r : Rests tx part d.view store.old.versions) → d.view.marks ≡ marks.old → d.view.done ≡ done.old.pairs → (commit_came tx part fc.0 given.now d).view ≡ with_parts d.view (merged r.cache store.new.versions) marks.new d.view.waiters done.new.pairs }
 {
     if done.has(tx, part) {
         return false;
@@ -108,6 +110,7 @@ pub fn abort_at(
     ensures left { done.old.spare ≤ done.new.spare + 1 }
     ensures waiters { result ≡ true → parked.new.waiters ≡ drop_held tx part parked.old.waiters }
     ensures kept { parked.old.spare ≤ parked.new.spare }
+    ensures view { result ≡ true → (d : Doing) (r : Rests tx part d.view store.old.versions) → d.view.done ≡ done.old.pairs → d.view.waiters ≡ parked.old.waiters → (abort_came tx part (drop_held tx part d.view.waiters) d).view ≡ with_parts d.view (merged r.cache store.new.versions) d.view.marks parked.new.waiters done.new.pairs }
 {
     if done.has(tx, part) {
         return false;
