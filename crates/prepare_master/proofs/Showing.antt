@@ -40,14 +40,14 @@ and_second true b e = e
 and_second false b e = refl
 
 -- the versions of a key
-chain_alone : (k : KeyId) (cache vs : List Version) → Each (λ v. same_key v.key k ≡ false) cache → chain k (merged cache vs) ≡ chain k vs
+pub chain_alone : (k : KeyId) (cache vs : List Version) → Each (λ v. same_key v.key k ≡ false) cache → chain k (merged cache vs) ≡ chain k vs
 chain_alone k cache vs e = merged_unseen (λ v. same_key v.key k) cache vs e
 
 module _ (w : Write) (ws : List Write) (cache : List Version) (e : Each (IsUnwritten (w ∷ ws)) cache) where
-  first_key : Each (λ v. same_key v.key w.key ≡ false) cache
+  pub first_key : Each (λ v. same_key v.key w.key ≡ false) cache
   first_key = each_so (IsUnwritten (w ∷ ws)) (λ v. same_key v.key w.key ≡ false) cache (λ v h. or_left (same_key v.key w.key) (list_any (λ u. same_key v.key u.key) ws) h) e
 
-  other_keys : Each (IsUnwritten ws) cache
+  pub other_keys : Each (IsUnwritten ws) cache
   other_keys = each_so (IsUnwritten (w ∷ ws)) (IsUnwritten ws) cache (λ v h. or_right (same_key v.key w.key) (list_any (λ u. same_key v.key u.key) ws) h) e
 
 -- the versions of the written keys
@@ -95,7 +95,7 @@ judged_by view a = by_refusal (find (refuses a) (met a.writes view.versions))
     by_refusal (Some v) = refl
 
 module _ (view : View) (a : Arrived) (vs : List Version) (marks : List ℕ) (s : Shows view a vs marks) where
-  unwritten : Each (IsUnwritten a.writes) s.cache
+  pub unwritten : Each (IsUnwritten a.writes) s.cache
   unwritten = each_so (IsBeside a) (IsUnwritten a.writes) s.cache (λ v h. h.1) s.beside
 
   shown_met : met a.writes view.versions ≡ met a.writes vs

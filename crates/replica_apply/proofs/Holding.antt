@@ -1,5 +1,5 @@
 -- Whether one of the versions passes a test, and which written key a transaction holds.
-use Rattle.std.proofs.Common.{Bool, List, None, Option, Some, [], ap, arith, drop, false, filter, find, get_or, if◌then◌else◌, is_some, length, refl, slice_get, sym, true, ℕ, ◌&&◌, ◌++◌, ◌+◌, ◌<◌, ◌∙◌, ◌∷◌, ◌≡◌, ◌||◌}
+use Rattle.std.proofs.Common.{Bool, List, None, Option, Some, [], ap, drop, false, get_or, if◌then◌else◌, is_some, length, refl, slice_get, sym, true, ℕ, ◌&&◌, ◌++◌, ◌+◌, ◌<◌, ◌∙◌, ◌∷◌, ◌≡◌, ◌||◌}
 use Rattle.std.specs.List.{list_any}
 use Rattle.prepare_master.proofs.Walking.{nothing_left, one_left}
 use Rattle.replica_apply.specs.Slaves.{is_local_of}

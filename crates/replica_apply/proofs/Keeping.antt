@@ -1,7 +1,7 @@
 -- The last version that is not evicted, and which Replicate is taken.
-use Rattle.std.proofs.Common.{Bool, List, None, Option, Some, [], ap, drop, false, filter, if◌then◌else◌, not, refl, slice_get, sym, true, ℕ, ◌&&◌, ◌+◌, ◌∙◌, ◌∷◌, ◌≡◌, ◌||◌}
+use Rattle.std.proofs.Common.{Bool, List, None, Option, Some, ap, drop, false, filter, if◌then◌else◌, not, refl, slice_get, sym, true, ℕ, ◌&&◌, ◌+◌, ◌∙◌, ◌∷◌, ◌≡◌}
 use Rattle.std.specs.List.{last_or, list_any}
-use Rattle.partition_map.specs.Maps.{PartitionMap, first_or, hosts, leads, replicas}
+use Rattle.partition_map.specs.Maps.{PartitionMap, first_or, hosts, replicas}
 use Rattle.prepare_master.proofs.Showing.{leads_first}
 use Rattle.prepare_master.proofs.Walking.{nothing_left, one_left}
 use Rattle.replica_apply.specs.Slaves.{is_taken}

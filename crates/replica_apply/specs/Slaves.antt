@@ -1,12 +1,11 @@
 -- What a slave decides of a Replicate by the versions and marks of the keys that it hosts.
-use Rattle.std.specs.List.{last_or, list_any}
-use Rattle.std.specs.Prelude.{Bool, List, None, Option, Some, [], filter, find, if◌then◌else◌, is_some, min, nat_lt, not, suc, zero, ℕ, ◌&&◌, ◌+◌, ◌++◌, ◌<◌, ◌==◌, ◌||◌, ◌∷◌, ◌≡◌, ◌≤◌}
+use Rattle.std.specs.List.{list_any}
+use Rattle.std.specs.Prelude.{Bool, List, None, Option, Some, [], if◌then◌else◌, is_some, min, nat_lt, not, suc, zero, ℕ, ◌&&◌, ◌+◌, ◌++◌, ◌<◌, ◌==◌, ◌||◌, ◌∷◌, ◌≡◌}
 use Rattle.partition_map.specs.Maps.{PartitionMap, hosts, leads, replicas}
 use Rattle.prepare_master.specs.MasterTurns.{below_limit, proposal}
 use Rattle.replica_apply.specs.declared.slaves.Evicted.{Evicted}
 use Rattle.replica_apply.specs.declared.slaves.SlaveTurn.{SlaveTurn}
 use Rattle.replica_apply.specs.declared.slaves.SlaveTurn.TheVariants.{Ignore, Take}
-use Rattle.str_base.specs.declared.names.KeyId.{KeyId}
 use Rattle.str_base.specs.declared.names.NodeId.{NodeId}
 use Rattle.str_base.specs.declared.names.PartId.{PartId}
 use Rattle.str_base.specs.declared.names.TxId.{TxId}
@@ -15,7 +14,9 @@ use Rattle.str_base.specs.declared.names.Write.{Write}
 use Rattle.str_base.specs.Versions.{is_local, of_pair, of_tx, same_node, without}
 use Rattle.str_model.specs.declared.messages.Arrived.{Arrived}
 use Rattle.str_model.specs.Arrivals.{held_key}
-use Rattle.str_model.specs.Proposals.{is_pair}
+use Rattle.str_model.specs.Proposals.{is_pair, proposed, takes}
+use Rattle.str_model.specs.Views.{View}
+use Rattle.str_scene.specs.Scenes.{Here}
 
 -- the Replicate is for this slave and comes for the first time
 abbrev pub is_taken : PartitionMap → NodeId → List Version → List (TxId × PartId) → Arrived → Bool
@@ -92,3 +93,9 @@ IsNext node vs ws after e = (after < e.seq) × (evicted_to node vs ws e.seq ≡ 
 pub record IsDecided (new : Bool) (node : NodeId) (vs : List Version) (marks : List ℕ) (a : Arrived) (es : List Evicted) (turn : SlaveTurn) : Type 0 where
   pub taken : taken_at turn ≡ (if new then after_evictions node vs marks a es else None)
   pub evicted : evicted_by turn ≡ (if is_some (taken_at turn) then es else [])
+
+-- what a view says of a Replicate: whether it is taken, which keys are held, and the timestamp after evictions; the same as the store
+pub record Agrees (new : Bool) (here : Here) (view : View) (node : NodeId) (vs : List Version) (marks : List ℕ) (a : Arrived) : Type 0 where
+  pub taken : takes here view a ≡ new
+  pub held : (tx : TxId) → held_key view.versions tx a.writes ≡ held_key vs tx a.writes
+  pub after : (es : List Evicted) → below_limit (proposed (record view { versions = without (is_evicted node es) view.versions }) a) ≡ after_evictions node vs marks a es

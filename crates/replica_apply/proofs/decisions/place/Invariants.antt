@@ -1,4 +1,4 @@
-use Rattle.std.proofs.Common.{drop, length, map, true, ◌+◌, ◌≡◌, ◌≤◌}
+use Rattle.std.proofs.Common.{drop, length, map, ◌+◌, ◌≡◌, ◌≤◌}
 use Rattle.replica_apply.specs.Changes.{CanInsert}
 use Rattle.replica_store.specs.StoreLists.{StaysHere}
 use Rattle.str_base.specs.Versions.{insert_all}
