@@ -42,6 +42,7 @@ pub mod Masters
 pub mod MasterOrder
 pub mod MasterLaw
 pub mod Scripting
+pub mod Evaluating
 pub mod Overlapping
 pub mod Deciding
 pub mod Delivering

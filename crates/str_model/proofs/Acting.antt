@@ -8,7 +8,7 @@ use Rattle.str_base.specs.declared.names.KeyId.{KeyId}
 use Rattle.str_model.specs.declared.names.KeyMark.{KeyMark}
 use Rattle.str_base.specs.declared.names.NodeId.{NodeId}
 use Rattle.str_scene.specs.declared.names.Op.{Op}
-use Rattle.str_scene.specs.declared.names.Op.TheVariants.{Add, Del, Get, Need, Put, Puts}
+use Rattle.str_scene.specs.declared.names.Op.TheVariants.{Abort as Stop, Add, Del, Get, Need, Put, Puts}
 use Rattle.dependency_set.specs.declared.names.Dep.{Dep}
 use Rattle.str_model.specs.Scripts.{finish, finish_next, known, noted, own_op}
 use Rattle.str_base.specs.declared.names.PartId.{PartId}
@@ -139,9 +139,14 @@ pub record Goes (here : Here) (input : Input) (d : Doing) (i : ℕ) (x y : Own) 
   pub goes : GoesOn d.view x y
   pub change : Change here input d i x y
 
+-- the script wishes to abort: its next operation is an abort, or it closes at a need that is not met and has no dependency left
+pub data Wishing (here : Here) (x : Own) : Type 0 where
+  at_abort : x.phase ≡ Active → own_op here x ≡ Some Stop → Wishing here x
+  at_need : x.phase ≡ Closing true → x.snap.deps ≡ [] → Wishing here x
+
 -- why a transaction aborts
 pub data Why (here : Here) (input : Input) (d : Doing) (i : ℕ) (x : Own) : Cause → Type 0 where
-  by_script : Why here input d i x Wish
+  by_script : Wishing here x → Why here input d i x Wish
   by_lost : (q : ℕ) → dep_turn d.view.own x.snap ≡ Lost q → Why here input d i x (IsLost (record { node = here.node; seq = q }))
   by_late : (q fc : ℕ) → dep_turn d.view.own x.snap ≡ Late q fc → Why here input d i x (IsLate (record { node = here.node; seq = q }) (stamp fc))
   by_certification : (u : TxId) (k : KeyId) → cert_turn here d.view x.snap x.writes ≡ Conflict u k → Why here input d i x (ByConflict u k here.node)

@@ -251,8 +251,14 @@ module _ (here : Here) (input : Input) (w : Where) where
     unfolding takes
     takes_at a d h below =
         let n = none_of_three (hosts here.scene here.node a.part) (is_master here.scene here.node a.part) (same_node a.tx.node here.node) (Proposals.is_known d.view a.tx a.part) h in
-        record { below = below; unknown = evict-unknown a (length d.view.own) d n.2; slave = n.0; foreign = n.1; none_held = all_evicted here a d;
-          hosted = and_left (hosts here.scene here.node a.part) (not (is_master here.scene here.node a.part) && (not (same_node a.tx.node here.node) && not (Proposals.is_known d.view a.tx a.part))) h }
+        record {
+          below = below;
+          unknown = evict-unknown a (length d.view.own) d n.2;
+          slave = n.0;
+          foreign = n.1;
+          none_held = all_evicted here a d;
+          hosted = and_left (hosts here.scene here.node a.part) (not (is_master here.scene here.node a.part) && (not (same_node a.tx.node here.node) && not (Proposals.is_known d.view a.tx a.part))) h;
+        }
 
     -- ---- answers of participants
 
