@@ -50,6 +50,8 @@ pub mod Deciders
 pub mod PresenceLaw
 pub mod Marking
 pub mod HomeMarks
+pub mod ReadLetters
+pub mod Replying
 pub mod Fates
 pub mod Gating
 pub mod GateFirst
