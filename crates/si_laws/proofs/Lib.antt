@@ -43,6 +43,7 @@ pub mod MasterOrder
 pub mod MasterLaw
 pub mod Scripting
 pub mod Evaluating
+pub mod InTime
 pub mod Overlapping
 pub mod Deciding
 pub mod Delivering
