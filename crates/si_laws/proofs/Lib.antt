@@ -44,6 +44,7 @@ pub mod MasterLaw
 pub mod Scripting
 pub mod Evaluating
 pub mod InTime
+pub mod Clearing
 pub mod Overlapping
 pub mod Deciding
 pub mod Delivering
