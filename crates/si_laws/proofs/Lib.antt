@@ -45,6 +45,7 @@ pub mod Scripting
 pub mod Evaluating
 pub mod InTime
 pub mod Clearing
+pub mod Origins
 pub mod Overlapping
 pub mod Deciding
 pub mod Delivering
