@@ -46,6 +46,7 @@ pub mod Evaluating
 pub mod InTime
 pub mod Clearing
 pub mod Origins
+pub mod Settling
 pub mod Overlapping
 pub mod Deciding
 pub mod Delivering
