@@ -47,6 +47,7 @@ pub mod InTime
 pub mod Clearing
 pub mod Origins
 pub mod Settling
+pub mod Seeing
 pub mod Overlapping
 pub mod Deciding
 pub mod Delivering
