@@ -1,7 +1,7 @@
 -- Where a version comes from in a single change, with all that the change knows; and that each version is a write of its transaction.
 use Rattle.dependency_set.specs.Snapshots.{Snap}
 use Rattle.si_laws.proofs.Around.{Stand}
-use Rattle.si_laws.proofs.Carrying.{hosted_name}
+use Rattle.si_laws.proofs.Carrying.{hosted_name, pair-is}
 use Rattle.si_laws.proofs.Clearing.{accept_above, proposed_above}
 use Rattle.si_laws.proofs.Linked.{AreWrites, IsCertified, Linked}
 use Rattle.si_laws.proofs.Masters.{Masters, writes_of}
@@ -10,6 +10,7 @@ use Rattle.si_laws.proofs.Linked
 use Rattle.std.proofs.Common.{Bool, List, Some, [], ap, false, filter, inl, inr, map, not, refl, replicate, slice_get, slice_set, subst, sym, true, ℕ, ◌+◌, ◌<◌, ◌∙◌, ◌∷◌, ◌≡◌, ◌≤◌, ◌⊎◌}
 use Rattle.str_base.specs.Versions.{insert_all, mark_of, of_pair, of_tx, settled, without}
 use Rattle.str_base.specs.declared.names.KeyId.{KeyId}
+use Rattle.str_base.specs.declared.names.Kind.TheVariants.{Final, Local as LocalKind, Pre}
 use Rattle.str_base.specs.declared.names.NodeId.{NodeId}
 use Rattle.str_base.specs.declared.names.PartId.{PartId}
 use Rattle.str_base.specs.declared.names.Ts.{Ts}
@@ -19,6 +20,7 @@ use Rattle.str_base.specs.declared.names.Version.{Version}
 use Rattle.str_base.specs.declared.names.Write.{Write}
 use Rattle.str_model.proofs.Acting.{Act, Comes, Where, act_abort, act_abort_came, act_accept, act_ack, act_ask, act_begin, act_certify, act_close, act_commit, act_commit_came, act_mark, act_put, act_refuse, act_reply, act_request, act_take, act_unwait, act_wait}
 use Rattle.str_model.proofs.Everywhere.{IsSeen, Stage, at_place, during, stage_of}
+use Rattle.str_model.proofs.Gaining.{and_left, and_right}
 use Rattle.str_model.proofs.Lists.{get_set, get_set_other, got_replicate, got_set}
 use Rattle.str_model.proofs.Members.{In, in_filter, in_insert_all, in_map, in_without}
 use Rattle.str_model.specs.Acts.{abort_came, aborted, accepted, acked, asked, begun, certified, closed, commit_came, committed, is_hosted_of, local_version, marked, pre_version, raise_all, refused, replied, requested, taken, waits}
@@ -32,7 +34,7 @@ use Rattle.str_model.specs.declared.messages.Arrived.{Arrived}
 use Rattle.str_model.specs.declared.messages.Body.TheVariants.{Commit}
 use Rattle.str_model.specs.declared.messages.Input.{Input}
 use Rattle.str_model.specs.declared.names.KeyMark.{KeyMark}
-use Rattle.str_scene.specs.Scenes.{Here, Scene, in_part, participants}
+use Rattle.str_scene.specs.Scenes.{Here, Scene, hosts, in_part, participants}
 
 -- the certified transaction as it stands then
 abbrev pub as_certified : Here → ℕ → Snap → Own → Own
@@ -45,7 +47,7 @@ pub data Origin (here : Here) (input : Input) (d e : Doing) (q : Version) : Type
       → In w x.writes → q ≡ local_version here i lc w → Origin here input d e q
   og_pre : (a : Arrived) (ts : ℕ) (w : Write) → Placed here input d a → mark_of d.view.marks w.key < ts → In w a.writes → q ≡ pre_version a ts w → Origin here input d e q
   og_commit : (i lc fc : ℕ) (x : Own) (p : Version) → Owns d.view i x → is_decided x.phase ≡ false → lc_of x.phase ≡ Some lc → x.snap.deps ≡ [] → lc ≤ fc → In p d.view.versions
-      → p.tx ≡ name_of here i → q ≡ settled fc p → Origin here input d e q
+      → p.tx ≡ name_of here i → hosts here.scene here.node p.part ≡ true → q ≡ settled fc p → Origin here input d e q
   og_came : (from : NodeId) (t : TxId) (r : PartId) (fc : Ts) (ms : List KeyMark) (p : Version) → Comes here input from (Commit t r fc ms) → decides here t r d.view ≡ true
       → e.view.marks ≡ raise_all ms d.view.marks → In p d.view.versions → of_pair t r p ≡ true → q ≡ settled fc.0 p → Origin here input d e q
 
@@ -72,7 +74,7 @@ origin here input w d e (act_commit n lc fc x d' o l none le f g) q h =
     elim (in_insert_all (map (settled fc) (filter (is_hosted_of here (name_of here n)) d'.view.versions)) (without (of_tx (name_of here n)) d'.view.versions) q h) [
       | inl j ↦ (let r = in_map (settled fc) (filter (is_hosted_of here (name_of here n)) d'.view.versions) q j in
           let m = in_filter (is_hosted_of here (name_of here n)) d'.view.versions r.0 r.1 in
-          og_commit n lc fc x r.0 o.0 f l none le m.0 (hosted_name here (name_of here n) r.0 m.1) (sym r.2))
+          og_commit n lc fc x r.0 o.0 f l none le m.0 (hosted_name here (name_of here n) r.0 m.1) (and_right (of_tx (name_of here n) r.0) (hosts here.scene here.node r.0.part) m.1) (sym r.2))
       | inr j ↦ og_old (in_without (of_tx (name_of here n)) d'.view.versions q j)
     ]
 origin here input w d e (act_commit_came from t p fc ms d' c g) q h =
@@ -127,7 +129,7 @@ module _ (scene : Scene) (s : Stage) (i : ℕ) (v : View) (input : Input) (w : W
       let ws : AreWrites scene (during s i d) a.tx a.part a.rs.0 a.lc.0 a.writes = writes_of scene s i v input w d e is seen act l st m a p in
       subst (λ (z : Version). HasWritten scene (during s i e) z.tx z.key z.value) (sym same)
       (has_written_stays a.tx y.key y.value (record { rs = a.rs.0; lc = a.lc.0; ws = ws.0; certified = ws.1; write = (in_filter (in_part scene a.part) ws.0 y (subst (In y) ws.2 j)).0 }))
-  written_by q l st m h (og_commit n lc fc x p own o t none le j name same) =
+  written_by q l st m h (og_commit n lc fc x p own o t none le j name hosted same) =
       subst (λ (z : Version). HasWritten scene (during s i e) z.tx z.key z.value) (sym same) (has_written_stays p.tx p.key p.value (h i d.view p (get_set s.nodes i v d.view is) j))
   written_by q l st m h (og_came from t r fc ms p c g f j o same) =
       subst (λ (z : Version). HasWritten scene (during s i e) z.tx z.key z.value) (sym same) (has_written_stays p.tx p.key p.value (h i d.view p (get_set s.nodes i v d.view is) j))
@@ -140,3 +142,21 @@ module _ (scene : Scene) (s : Stage) (i : ℕ) (v : View) (input : Input) (w : W
 
 pub all_written_opening : (scene : Scene) → AllWritten scene (stage_of (opening scene))
 all_written_opening scene n v q g j = absurd (subst (λ (z : View). In q z.versions) (got_replicate scene.nodes n (opening_view scene) v g) j)
+
+-- ---- Final versions are of partitions that the node has
+
+-- each Final version of the view
+abbrev pub FinalsHosted : Here → View → Type 0
+FinalsHosted here v = (q : Version) → In q v.versions → q.kind ≡ Final → hosts here.scene here.node q.part ≡ true
+
+pub finals_hosted-act : (here : Here) (input : Input) (w : Where) (d e : Doing) → Act here input w d e → FinalsHosted here d.view → FinalsHosted here e.view
+finals_hosted-act here input w d e act h q j k = by_origin (origin here input w d e act q j)
+  where
+    by_origin : Origin here input d e q → hosts here.scene here.node q.part ≡ true
+    by_origin (og_old m) = h q m k
+    by_origin (og_local n lc snap x y own c own' m same) = absurd (cc (ap (λ (z : Version). z.kind) same, k))
+    by_origin (og_pre a ts y p less m same) = absurd (cc (ap (λ (z : Version). z.kind) same, k))
+    by_origin (og_commit n lc fc x p own o t none le m name hosted same) = subst (λ (z : Version). hosts here.scene here.node z.part ≡ true) (sym same) hosted
+    by_origin (og_came from t r fc ms p c dec f m o same) =
+        subst (λ (z : Version). hosts here.scene here.node z.part ≡ true) (sym same)
+        (subst (λ (z : PartId). hosts here.scene here.node z ≡ true) (sym (pair-is t r p o).1) (and_left (hosts here.scene here.node r) _ dec))

@@ -140,7 +140,7 @@ module _ (scene : Scene) (s : Stage) (i : ℕ) (v : View) (input : Input) (w : W
       let l = Clearing.certified_above (at_place scene i) d.view x.snap snap x.writes lc y c j in
       m_new (omega (arith, l, ap (λ (z : Version). z.ts.0) same, ap (λ (z : Version). mark_of d.view.marks z.key) same))
   by_origin q (og_pre a ts y p less j same) = m_new (omega (arith, less, ap (λ (z : Version). z.ts.0) same, ap (λ (z : Version). mark_of d.view.marks z.key) same))
-  by_origin q (og_commit n lc fc x p own o t none le j name same) =
+  by_origin q (og_commit n lc fc x p own o t none le j name hosted same) =
       let l = own_local n lc x p own o t j name in
       m_local p j (ap (λ (z : Version). z.key) (sym same)) (ap (λ (z : Version). z.tx) (sym same)) l.0 (omega (arith, l.1, le, ap (λ (z : Version). z.ts.0) same)) (ap (λ (z : Version). z.kind) same)
   by_origin q (og_came from t r fc ms p c dec f j o same) =

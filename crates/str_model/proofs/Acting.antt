@@ -32,7 +32,7 @@ use Rattle.str_model.specs.Clients.{last_index, of_session, reading_limit}
 use Rattle.str_model.specs.Gates.{Ask, CommitAt, gate_of}
 use Rattle.str_model.specs.Proposals.{Accept, Refuse, is_known, is_parked, master_turn, proposed, ts_limit}
 use Rattle.str_model.specs.Returns.{own_named, with_ack}
-use Rattle.str_scene.specs.Scenes.{Here, Session, hosts, is_master, nth}
+use Rattle.str_scene.specs.Scenes.{Here, Session, hosts, hosts_key, is_master, nth}
 use Rattle.dependency_set.specs.Snapshots.{Snap}
 use Rattle.str_model.specs.Steps.{decides, drop_held}
 use Rattle.str_model.specs.Strange.{is_valid}
@@ -99,10 +99,10 @@ pub data Reads (here : Here) (x : Own) (k : KeyId) : Type 0 where
 abbrev pub JustMarked : View → KeyId → ℕ → Type 0
 JustMarked v k t = (ms : List ℕ) × (v.marks ≡ raised ms k t)
 
--- a read of another node has come, and has left its mark
+-- a read of another node has come for a key that this node has, and has left its mark
 abbrev pub ComesToRead : Here → Input → Doing → NodeId → TxId → KeyId → Ts → Type 0
 ComesToRead here input d from tx k rs =
-    (m : Message) × (input ≡ Deliver m) × (m.sender ≡ from) × (m.body ≡ ReadReq tx k rs) × (is_valid here m ≡ true) × JustMarked d.view k rs.0
+    (m : Message) × (input ≡ Deliver m) × (m.sender ≡ from) × (m.body ≡ ReadReq tx k rs) × (is_valid here m ≡ true) × JustMarked d.view k rs.0 × (hosts_key here k ≡ true)
 
 -- what was read, and the snapshot then
 pub data ReadsTo (here : Here) (v : View) (snap : Snap) (k : KeyId) (a : Value) (by : Option TxId) (new : Snap) : Type 0 where
