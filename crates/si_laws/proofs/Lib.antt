@@ -48,6 +48,7 @@ pub mod Clearing
 pub mod Origins
 pub mod Settling
 pub mod Seeing
+pub mod Grounds
 pub mod Overlapping
 pub mod Deciding
 pub mod Delivering

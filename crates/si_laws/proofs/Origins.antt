@@ -8,7 +8,7 @@ use Rattle.si_laws.proofs.Masters.{Masters, writes_of}
 use Rattle.si_laws.proofs.Parts.{Placed, by_master, by_slave}
 use Rattle.si_laws.proofs.Linked
 use Rattle.std.proofs.Common.{Bool, List, Some, [], ap, false, filter, inl, inr, map, not, refl, replicate, slice_get, slice_set, subst, sym, true, ℕ, ◌+◌, ◌<◌, ◌∙◌, ◌∷◌, ◌≡◌, ◌≤◌, ◌⊎◌}
-use Rattle.str_base.specs.Versions.{insert_all, mark_of, of_pair, of_tx, settled, without}
+use Rattle.str_base.specs.Versions.{finalise, insert_all, mark_of, of_pair, of_tx, settled, without}
 use Rattle.str_base.specs.declared.names.KeyId.{KeyId}
 use Rattle.str_base.specs.declared.names.Kind.TheVariants.{Final, Local as LocalKind, Pre}
 use Rattle.str_base.specs.declared.names.NodeId.{NodeId}
@@ -49,7 +49,8 @@ pub data Origin (here : Here) (input : Input) (d e : Doing) (q : Version) : Type
   og_commit : (i lc fc : ℕ) (x : Own) (p : Version) → Owns d.view i x → is_decided x.phase ≡ false → lc_of x.phase ≡ Some lc → x.snap.deps ≡ [] → lc ≤ fc → In p d.view.versions
       → p.tx ≡ name_of here i → hosts here.scene here.node p.part ≡ true → q ≡ settled fc p → Origin here input d e q
   og_came : (from : NodeId) (t : TxId) (r : PartId) (fc : Ts) (ms : List KeyMark) (p : Version) → Comes here input from (Commit t r fc ms) → decides here t r d.view ≡ true
-      → e.view.marks ≡ raise_all ms d.view.marks → In p d.view.versions → of_pair t r p ≡ true → q ≡ settled fc.0 p → Origin here input d e q
+      → e.view.marks ≡ raise_all ms d.view.marks → ((z : Version) → In z e.view.versions → In z d.view.versions ⊎ (z.tx ≡ t)) → In p d.view.versions → of_pair t r p ≡ true → q ≡ settled fc.0 p
+      → Origin here input d e q
 
 pub origin : (here : Here) (input : Input) (w : Where) (d e : Doing) → Act here input w d e → (q : Version) → In q e.view.versions → Origin here input d e q
 unfolding begun marked aborted committed closed certified asked acked requested accepted taken refused waits replied commit_came abort_came
@@ -80,8 +81,15 @@ origin here input w d e (act_commit n lc fc x d' o l none le f g) q h =
 origin here input w d e (act_commit_came from t p fc ms d' c g) q h =
     elim (in_insert_all (map (settled fc.0) (filter (of_pair t p) d'.view.versions)) (without (of_pair t p) d'.view.versions) q h) [
       | inl j ↦ (let r = in_map (settled fc.0) (filter (of_pair t p) d'.view.versions) q j in
-          let m = in_filter (of_pair t p) d'.view.versions r.0 r.1 in og_came from t p fc ms r.0 c g refl m.0 m.1 (sym r.2))
+          let m = in_filter (of_pair t p) d'.view.versions r.0 r.1 in og_came from t p fc ms r.0 c g refl only m.0 m.1 (sym r.2))
       | inr j ↦ og_old (in_without (of_pair t p) d'.view.versions q j)
+    ]
+  where
+    only : (z : Version) → In z (finalise (of_pair t p) fc.0 d'.view.versions) → In z d'.view.versions ⊎ (z.tx ≡ t)
+    only z m = elim (in_insert_all (map (settled fc.0) (filter (of_pair t p) d'.view.versions)) (without (of_pair t p) d'.view.versions) z m) [
+      | inl j ↦ (let r = in_map (settled fc.0) (filter (of_pair t p) d'.view.versions) z j in
+          let n = in_filter (of_pair t p) d'.view.versions r.0 r.1 in inr (ap (λ (y : Version). y.tx) (sym r.2) ∙ (pair-is t p r.0 n.1).0))
+      | inr j ↦ inl (in_without (of_pair t p) d'.view.versions z j)
     ]
 origin here input w d e (act_begin place rs d' r g) q h = og_old h
 origin here input w d e (act_mark l t d' rd) q h = og_old h
@@ -131,7 +139,7 @@ module _ (scene : Scene) (s : Stage) (i : ℕ) (v : View) (input : Input) (w : W
       (has_written_stays a.tx y.key y.value (record { rs = a.rs.0; lc = a.lc.0; ws = ws.0; certified = ws.1; write = (in_filter (in_part scene a.part) ws.0 y (subst (In y) ws.2 j)).0 }))
   written_by q l st m h (og_commit n lc fc x p own o t none le j name hosted same) =
       subst (λ (z : Version). HasWritten scene (during s i e) z.tx z.key z.value) (sym same) (has_written_stays p.tx p.key p.value (h i d.view p (get_set s.nodes i v d.view is) j))
-  written_by q l st m h (og_came from t r fc ms p c g f j o same) =
+  written_by q l st m h (og_came from t r fc ms p c g f only j o same) =
       subst (λ (z : Version). HasWritten scene (during s i e) z.tx z.key z.value) (sym same) (has_written_stays p.tx p.key p.value (h i d.view p (get_set s.nodes i v d.view is) j))
 
   pub all_written_step : Linked scene (during s i d) → Stand (at_place scene i) d.view → Masters scene (during s i d) → AllWritten scene (during s i d) → AllWritten scene (during s i e)
@@ -157,6 +165,6 @@ finals_hosted-act here input w d e act h q j k = by_origin (origin here input w 
     by_origin (og_local n lc snap x y own c own' m same) = absurd (cc (ap (λ (z : Version). z.kind) same, k))
     by_origin (og_pre a ts y p less m same) = absurd (cc (ap (λ (z : Version). z.kind) same, k))
     by_origin (og_commit n lc fc x p own o t none le m name hosted same) = subst (λ (z : Version). hosts here.scene here.node z.part ≡ true) (sym same) hosted
-    by_origin (og_came from t r fc ms p c dec f m o same) =
+    by_origin (og_came from t r fc ms p c dec f only m o same) =
         subst (λ (z : Version). hosts here.scene here.node z.part ≡ true) (sym same)
         (subst (λ (z : PartId). hosts here.scene here.node z ≡ true) (sym (pair-is t r p o).1) (and_left (hosts here.scene here.node r) _ dec))

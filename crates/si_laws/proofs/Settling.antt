@@ -143,7 +143,7 @@ module _ (scene : Scene) (s : Stage) (i : ℕ) (v : View) (input : Input) (w : W
   by_origin q (og_commit n lc fc x p own o t none le j name hosted same) =
       let l = own_local n lc x p own o t j name in
       m_local p j (ap (λ (z : Version). z.key) (sym same)) (ap (λ (z : Version). z.tx) (sym same)) l.0 (omega (arith, l.1, le, ap (λ (z : Version). z.ts.0) same)) (ap (λ (z : Version). z.kind) same)
-  by_origin q (og_came from t r fc ms p c dec f j o same) =
+  by_origin q (og_came from t r fc ms p c dec f only j o same) =
       let l = came_above from t r fc ms p c dec j o in
       m_pre p j (ap (λ (z : Version). z.key) (sym same)) (ap (λ (z : Version). z.tx) (sym same)) l.0 (omega (arith, l.1, ap (λ (z : Version). z.ts.0) same)) (ap (λ (z : Version). z.kind) same)
 
