@@ -49,6 +49,7 @@ pub mod Origins
 pub mod Settling
 pub mod Seeing
 pub mod Grounds
+pub mod Guards
 pub mod Overlapping
 pub mod Deciding
 pub mod Delivering
