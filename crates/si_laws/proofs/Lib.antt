@@ -50,6 +50,7 @@ pub mod Settling
 pub mod Seeing
 pub mod Grounds
 pub mod Guards
+pub mod GuardOpen
 pub mod Overlapping
 pub mod Deciding
 pub mod Delivering
