@@ -51,6 +51,7 @@ pub mod Seeing
 pub mod Grounds
 pub mod Guards
 pub mod GuardOpen
+pub mod GuardSent
 pub mod Overlapping
 pub mod Deciding
 pub mod Delivering
