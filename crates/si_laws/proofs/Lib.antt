@@ -52,6 +52,8 @@ pub mod Grounds
 pub mod Guards
 pub mod GuardOpen
 pub mod GuardSent
+pub mod ReadOrigins
+pub mod GuardReads
 pub mod Overlapping
 pub mod Deciding
 pub mod Delivering
