@@ -50,7 +50,7 @@ raise_all_reaches (k ∷ ks) ms c (inl q) l =
 raise_all_reaches (k ∷ ks) ms c (inr m) l =
     raise_all_reaches ks (raised ms k.key k.mark.0) c m (omega (arith, l, length-set ms k.key.0 (max (mark_of ms k.key) k.mark.0)))
 
-same_or_other : (t u : TxId) → (t ≡ u) ⊎ (t ≢ u)
+pub same_or_other : (t u : TxId) → (t ≡ u) ⊎ (t ≢ u)
 same_or_other t u = by_test (same_tx t u) refl
   where
     same_names : t ≡ u → same_tx t u ≡ true

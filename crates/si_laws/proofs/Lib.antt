@@ -54,6 +54,7 @@ pub mod GuardOpen
 pub mod GuardSent
 pub mod ReadOrigins
 pub mod GuardReads
+pub mod Newest
 pub mod Overlapping
 pub mod Deciding
 pub mod Delivering
