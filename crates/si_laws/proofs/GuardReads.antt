@@ -252,7 +252,7 @@ module _ (scene : Scene) (ok : IsScene scene) where
   guarded_keeps s i v input w d e is seen hs act g =
       guarded_step scene ok s i v input w d e is seen act g (grounds_step scene ok s i v input w d e is seen hs.grounds_ act g.grounds_)
 
-  guarded_opening : Guarded scene (stage_of (opening scene))
+  pub guarded_opening : Guarded scene (stage_of (opening scene))
   guarded_opening = record {
     grounds_ = grounds_opening scene ok;
     replies = λ m j tx k a by fc body. absurd j;

@@ -55,6 +55,8 @@ pub mod GuardSent
 pub mod ReadOrigins
 pub mod GuardReads
 pub mod Newest
+pub mod WishOrigins
+pub mod Answering
 pub mod Overlapping
 pub mod Deciding
 pub mod Delivering
