@@ -240,9 +240,12 @@ module _ (scene : Scene) (ok : IsScene scene) (s : Stage) (i : ℕ) (v : View) (
       let f = kept_reads scene (during s i e) ge wished_e i e.view j x r u (get_set s.nodes i v e.view is) own k m by in
       let c : Committer scene (during s i e) u f.0 = committer scene (during s i e) u f.0 f.1 in
       let b : Answer = told (at_place scene c.at_.n) c.at_.i c.x in
-      let name : b.tx ≡ u = sym c.at_.name in
-      (b, by_place f c name (in_append s.answers (release (told (at_place scene i) j x) d.released) b
-      (subst (λ xs. In b (s.answers ++ xs)) rel (told_e c.at_.n c.at_.view c.at_.i c.x c.at_.there c.at_.own (ap is_decided c.is.1)))), name)
+      let name : b.tx ≡ u = sym c.at_.name in (
+        b,
+        by_place f c name (in_append s.answers (release (told (at_place scene i) j x) d.released) b
+            (subst (λ xs. In b (s.answers ++ xs)) rel (told_e c.at_.n c.at_.view c.at_.i c.x c.at_.there c.at_.own (ap is_decided c.is.1)))),
+        name,
+      )
     where
       a : Answer
       a = told (at_place scene i) j x

@@ -1,7 +1,7 @@
 -- What a transaction has read gives what it has got and written: the script, on each look that agrees with its reads, comes to where it stands.
 use Rattle.dependency_set.specs.Snapshots.{Snap, accept_final, holds, oldest}
 use Rattle.si_laws.proofs.Marking.{same_key-is}
-use Rattle.std.proofs.Common.{Bool, List, None, Option, Some, [], add-one, ap, drop, false, find, if◌then◌else◌, inl, inr, refl, slice_get, slice_set, subst, suc, sym, true, zero, ℕ, ◌++◌, ◌+◌, ◌∙◌, ◌∷◌, ◌≡◌, ◌⊎◌}
+use Rattle.std.proofs.Common.{Bool, List, None, Option, Some, [], add-one, ap, drop, false, find, if◌then◌else◌, inl, inr, refl, slice_get, slice_set, subst, suc, sym, true, zero, ℕ, ◌++◌, ◌+◌, ◌∙◌, ◌∷◌, ◌≡◌, ◌≢◌, ◌⊎◌}
 use Rattle.str_base.specs.Values.{is_below, set_write}
 use Rattle.str_base.specs.Versions.{same_key}
 use Rattle.str_base.specs.declared.names.Cause.TheVariants.{Conflict, Late, Lost, Wish}
@@ -62,18 +62,19 @@ abbrev pub CauseGives : Here → Own → Cause → Type 0
 CauseGives here x Wish = StopsBy here x Unmet ⊎ (own_op here x ≡ Some Give)
 CauseGives here x _ = Unit {0}
 
--- what the phase says of the next operation
+-- what the phase says of the next operation and the buffer
 abbrev pub PhaseGives : Here → Own → Phase → Type 0
 PhaseGives here x Active = Unit {0}
 PhaseGives here x (ReadWait k) = Wants here x k
 PhaseGives here x (Remote k) = Wants here x k
 PhaseGives here x (Reply k v by fc) = Wants here x k
-PhaseGives here x CertWait = own_op here x ≡ None
+PhaseGives here x CertWait = (own_op here x ≡ None) × (x.writes ≢ [])
 PhaseGives here x (Closing true) = StopsBy here x Unmet
-PhaseGives here x (Closing false) = own_op here x ≡ None
-PhaseGives here x (Local lc) = own_op here x ≡ None
-PhaseGives here x (Global lc) = own_op here x ≡ None
-PhaseGives here x (Committed lc fc) = own_op here x ≡ None
+PhaseGives here x (Closing false) = (own_op here x ≡ None) × (x.writes ≡ [])
+PhaseGives here x (Local lc) = (own_op here x ≡ None) × (x.writes ≢ [])
+PhaseGives here x (Global lc) = (own_op here x ≡ None) × (x.writes ≢ [])
+PhaseGives here x (Committed lc None) = (own_op here x ≡ None) × (x.writes ≡ [])
+PhaseGives here x (Committed lc (Some fc)) = (own_op here x ≡ None) × (x.writes ≢ [])
 PhaseGives here x (Aborted lc cause) = CauseGives here x cause
 
 -- both
@@ -207,8 +208,8 @@ module _ (here : Here) where
   reads-wants x k (reads_new op a e n u) h = record { op = op; is = e; needs = n; unknown = u }
   reads-wants x k (reads_again q) h = subst (PhaseGives here x) q h.phase
 
-  asks-ends : (x : Own) → AsksCommit here x → Evaluates here x → own_op here x ≡ None
-  asks-ends x (asks_new a e) h = e
+  asks-ends : (x : Own) → AsksCommit here x → Evaluates here x → (own_op here x ≡ None) × (x.writes ≢ [])
+  asks-ends x (asks_new a e ne) h = (e, ne)
   asks-ends x (asks_again q) h = subst (PhaseGives here x) q h.phase
 
   pub reply_same : (snap : Snap) (a b : Value) (by of : Option TxId) (fc gc : ℕ) (new : Snap) → reply_turn here snap a by fc ≡ Plain b of gc new → a ≡ b
@@ -234,7 +235,8 @@ module _ (here : Here) where
       same_phase (Closing false) q = q
       same_phase (Local lc) q = q
       same_phase (Global lc) q = q
-      same_phase (Committed lc fc) q = q
+      same_phase (Committed lc None) q = q
+      same_phase (Committed lc (Some fc)) q = q
       same_phase (Aborted lc Wish) q = q
       same_phase (Aborted lc (Conflict u k n)) q = tt
       same_phase (Aborted lc (Lost u)) q = tt
@@ -270,7 +272,7 @@ module _ (here : Here) where
       record { gave = h.gave; phase = record { op = w.op; is = w.is; needs = w.needs; unknown = w.unknown } }
   change-gives input d i x y (ch_take k a b by of fc gc snap e q) h =
       let w : Wants here x k = subst (PhaseGives here x) e h.phase in noted-gives x k b of snap w.op w.is w.needs w.unknown h.gave
-  change-gives input d i x y (ch_close a e q) h = record { gave = h.gave; phase = e }
+  change-gives input d i x y (ch_close a e q) h = record { gave = h.gave; phase = (e, q) }
   change-gives input d i x y (ch_gate a) h = record { gave = h.gave; phase = asks-ends x a h }
 
   -- ---- at a node
@@ -286,7 +288,7 @@ module _ (here : Here) where
   gives_set own i x y o f h j z k = elim (got_set own i j y z k) [ inl p ↦ subst (Evaluates here) (sym p.1) (f (h i x o)) | inr p ↦ h j z p.1 ]
 
   -- a certified transaction has done its script
-  certified_ends : (x : Own) (p : Phase) (lc : ℕ) → lc_of p ≡ Some lc → Rattle.str_model.specs.Views.is_decided p ≡ false → PhaseGives here x p → own_op here x ≡ None
+  certified_ends : (x : Own) (p : Phase) (lc : ℕ) → lc_of p ≡ Some lc → Rattle.str_model.specs.Views.is_decided p ≡ false → PhaseGives here x p → (own_op here x ≡ None) × (x.writes ≢ [])
   certified_ends x (Local m) lc e f h = h
   certified_ends x (Global m) lc e f h = h
   certified_ends x Active lc e f h = absurd (cc e)

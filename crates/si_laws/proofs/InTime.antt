@@ -41,10 +41,13 @@ before_not_after : (u v : Version) → is_before u v ≡ true → NotAfter u v
 before_not_after u v e = elim (or_split (nat_lt u.key.0 v.key.0) _ e) [
   | inl p ↦ inl (ltb-true u.key.0 v.key.0 p)
   | inr p ↦ (let k = eqb-true u.key.0 v.key.0 (and_left (same_key u.key v.key) _ p) in
-      inr (k, elim (or_split (nat_lt u.ts.0 v.ts.0) _ (and_right (same_key u.key v.key) _ p)) [
-        | inl q ↦ (let l = ltb-true u.ts.0 v.ts.0 q in omega (arith, l))
-        | inr q ↦ (let l = eqb-true u.ts.0 v.ts.0 (and_left (u.ts.0 == v.ts.0) (tx_before u.tx v.tx) q) in omega (arith, l))
-      ]))
+      inr (
+        k,
+        elim (or_split (nat_lt u.ts.0 v.ts.0) _ (and_right (same_key u.key v.key) _ p)) [
+          | inl q ↦ (let l = ltb-true u.ts.0 v.ts.0 q in omega (arith, l))
+          | inr q ↦ (let l = eqb-true u.ts.0 v.ts.0 (and_left (u.ts.0 == v.ts.0) (tx_before u.tx v.tx) q) in omega (arith, l))
+        ],
+      ))
 ]
 
 not_before_after : (u v : Version) → is_before u v ≡ false → NotAfter v u
@@ -74,10 +77,13 @@ insert_in_time v [] h = ((λ u m. absurd m), tt)
 insert_in_time v (w ∷ ws) h = by_test (is_before v w) refl (insert_in_time v ws h.1)
   where
     by_test : (b : Bool) → is_before v w ≡ b → InTime (insert_version v ws) → InTime (if b then v ∷ w ∷ ws else w ∷ insert_version v ws)
-    by_test true e rec = ((λ u m. elim m as (λ z. NotAfter v u) [
-      | inl q ↦ subst (NotAfter v) q (before_not_after v w e)
-      | inr j ↦ after_trans v w u (before_not_after v w e) (h.0 u j)
-    ]), h)
+    by_test true e rec = (
+      (λ u m. elim m as (λ z. NotAfter v u) [
+        | inl q ↦ subst (NotAfter v) q (before_not_after v w e)
+        | inr j ↦ after_trans v w u (before_not_after v w e) (h.0 u j)
+      ]),
+      h,
+    )
     by_test false e rec = ((λ u m. elim (in_insert v ws u m) [ inl q ↦ subst (NotAfter w) q (not_before_after v w e) | inr j ↦ h.0 u j ]), rec)
 
 pub insert_all_in_time : (us vs : List Version) → InTime vs → InTime (insert_all us vs)

@@ -114,15 +114,18 @@ unfolding serve_turn
 serve-sees vs k rs a by fc t e = by_undecided (last_undecided vs k rs) refl e
   where
     seen_one : (p : Version) → last_undecided vs k rs ≡ None → visible vs k rs ≡ Some p → Sees vs k rs p × (p.kind ≡ Final)
-    seen_one p n v = (record {
-      is_in = h.is_in;
-      key = h.key;
-      below = h.below;
-      others = λ q m key. elim (none_undecided vs k rs n q m key) [
-        | inl l ↦ inl l
-        | inr f ↦ (elim (h.greatest q m key) [ inl l ↦ inl l | inr l ↦ inr (decided_not_pre q.kind f, l) ])
-      ];
-    }, kind_of)
+    seen_one p n v = (
+      record {
+        is_in = h.is_in;
+        key = h.key;
+        below = h.below;
+        others = λ q m key. elim (none_undecided vs k rs n q m key) [
+          | inl l ↦ inl l
+          | inr f ↦ (elim (h.greatest q m key) [ inl l ↦ inl l | inr l ↦ inr (decided_not_pre q.kind f, l) ])
+        ];
+      },
+      kind_of,
+    )
       where
         h : IsVisible vs k rs p
         h = visible_one vs k rs p t v

@@ -1,6 +1,6 @@
 -- A step as a chain of single changes, each under the facts at which it is made. A law over runs looks at each
 -- change once, and never at the order in which a step makes them.
-use Rattle.std.proofs.Common.{List, None, Option, Some, [], false, nat_lt, refl, slice_get, subst, sym, true, ℕ, ◌++◌, ◌+◌, ◌-◌, ◌∷◌, ◌≡◌, ◌≤◌, max}
+use Rattle.std.proofs.Common.{List, None, Option, Some, [], false, nat_lt, refl, slice_get, subst, sym, true, ℕ, ◌++◌, ◌+◌, ◌-◌, ◌∷◌, ◌≡◌, ◌≢◌, ◌≤◌, max}
 use Rattle.partition_map.specs.declared.rows.Asked.{Asked}
 use Rattle.str_base.specs.declared.names.Cause.{Cause}
 use Rattle.str_base.specs.declared.names.Cause.TheVariants.{Conflict as ByConflict, Late as IsLate, Lost as IsLost, Wish}
@@ -109,9 +109,9 @@ pub data ReadsTo (here : Here) (v : View) (snap : Snap) (k : KeyId) (a : Value) 
   to_final : (fc : ℕ) → read_turn here v snap k ≡ Plain a by fc new → ReadsTo here v snap k a by new
   to_local : (u : TxId) → by ≡ Some u → read_turn here v snap k ≡ Speculative a u new → ReadsTo here v snap k a by new
 
--- it asks to commit: for the first time, or again
+-- it has writes and asks to commit: for the first time, or again
 pub data AsksCommit (here : Here) (x : Own) : Type 0 where
-  asks_new : x.phase ≡ Active → own_op here x ≡ None → AsksCommit here x
+  asks_new : x.phase ≡ Active → own_op here x ≡ None → x.writes ≢ [] → AsksCommit here x
   asks_again : x.phase ≡ CertWait → AsksCommit here x
 
 -- an own transaction that asks to commit

@@ -232,7 +232,7 @@ module _ (here : Here) (input : Input) (w : Where) where
 
   pub ask_commit-path : (i : ℕ) (x : Own) (ws : List Write) (d : Doing) → IsFree w d i x → x.phase ≡ Active → own_op here x ≡ None → x.writes ≡ ws → Path here input w d (ask_commit here i x ws d)
   ask_commit-path i x [] d f a e q = one (act_put i x _ d f.own (record { goes = phase-goes w d i x (Closing false) f refl refl; change = ch_close a e q }))
-  ask_commit-path i x (w ∷ ws) d f a e q = certify_now-path i x d f (asks_new a e)
+  ask_commit-path i x (w ∷ ws) d f a e q = certify_now-path i x d f (asks_new a e (λ z. cc (sym q ∙ z)))
 
   pub op_or_commit-path : (i : ℕ) (x : Own) (o : Option Op) (d : Doing) → IsFree w d i x → x.phase ≡ Active → own_op here x ≡ o → Path here input w d (op_or_commit here i x o d)
   op_or_commit-path i x (Some op) d f a e = do_op-path i x op d f a e
