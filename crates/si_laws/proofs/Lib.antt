@@ -57,6 +57,7 @@ pub mod GuardReads
 pub mod Newest
 pub mod WishOrigins
 pub mod Answering
+pub mod Behind
 pub mod Overlapping
 pub mod Deciding
 pub mod Delivering

@@ -43,7 +43,7 @@ gone_fate x f g e = let q : phase_fate x.phase ≡ Turns.Gone = ap phase_fate g.
 
 module _ (scene : Scene) (s : Stage) (h : Grounds scene s) where
   -- a commit of the key has a version at each replica
-  commit_at : (t : TxId) (g : ℕ) (k : KeyId) (b : Value) → CommittedIn s t g → HasWritten scene s t k b → (n : ℕ) (v : View) → slice_get s.nodes n ≡ Some v → hosts scene (record { 0 = n + 1 }) (part_of scene k) ≡ true
+  pub commit_at : (t : TxId) (g : ℕ) (k : KeyId) (b : Value) → CommittedIn s t g → HasWritten scene s t k b → (n : ℕ) (v : View) → slice_get s.nodes n ≡ Some v → hosts scene (record { 0 = n + 1 }) (part_of scene k) ≡ true
       → (q : Version) × In q v.versions × IsOf scene t k q × ArrivedAs v g q
   commit_at t g k b c wr n v there hosted =
       let z = committer scene s t g c in
