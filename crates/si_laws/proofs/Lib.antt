@@ -58,6 +58,7 @@ pub mod Newest
 pub mod WishOrigins
 pub mod Answering
 pub mod Behind
+pub mod Isolating
 pub mod Overlapping
 pub mod Deciding
 pub mod Delivering
