@@ -59,6 +59,7 @@ pub mod WishOrigins
 pub mod Answering
 pub mod Behind
 pub mod Isolating
+pub mod IsolationLaw
 pub mod Overlapping
 pub mod Deciding
 pub mod Delivering
