@@ -60,6 +60,7 @@ pub mod Answering
 pub mod Behind
 pub mod Isolating
 pub mod IsolationLaw
+pub mod PrefixLaw
 pub mod Overlapping
 pub mod Deciding
 pub mod Delivering
