@@ -145,14 +145,16 @@ module _ (scene : Scene) (ok : IsScene scene) (es : List Event) where
       let a = any_has (λ (z : Write). same_key z.key k) B.x.writes w in
       let kk : a.0.key.0 ≡ k.0 = eqb-true a.0.key.0 k.0 a.2 in
       let key : a.0.key ≡ k = λ i. record { 0 = kk i } in
-      let t = times_of b B h c in
-      (a.0.value, record {
-        rs = B.x.snap.rs;
-        lc = t.0;
-        ws = B.x.writes;
-        certified = record { n = B.n; i = B.i; view = B.v; x = B.x; there = B.there; own = B.owns; name = ap (λ (z : Answer). z.tx) B.same; lc_is = t.1; writes = refl; rs_is = refl };
-        write = subst (λ (z : KeyId). In (record { key = z; value = a.0.value }) B.x.writes) key a.1;
-      })
+      let t = times_of b B h c in (
+        a.0.value,
+        record {
+          rs = B.x.snap.rs;
+          lc = t.0;
+          ws = B.x.writes;
+          certified = record { n = B.n; i = B.i; view = B.v; x = B.x; there = B.there; own = B.owns; name = ap (λ (z : Answer). z.tx) B.same; lc_is = t.1; writes = refl; rs_is = refl };
+          write = subst (λ (z : KeyId). In (record { key = z; value = a.0.value }) B.x.writes) key a.1;
+        },
+      )
 
   -- the writer of a read, which was answered before
   pub record WriterOf (m : ℕ) (rs : ℕ) (r : ReadDone) (u : TxId) : Type 0 where

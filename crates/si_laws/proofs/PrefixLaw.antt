@@ -68,13 +68,16 @@ module _ (scene : Scene) (ok : IsScene scene) (es : List Event) where
           there = b.there;
           fate = ap own_fate b.own ∙ ap phase_fate c.3.1;
         },
-        (c.4.0, record {
-          rs = c.1.snap.rs;
-          lc = f.0;
-          ws = c.1.writes;
-          certified = record { n = b.n; i = b.i; view = b.view; x = c.1; there = b.there; own = b.own; name = b.name; lc_is = lc; writes = refl; rs_is = refl };
-          write = in_at c.1.writes c.4.1.0 (record { key = k; value = c.4.0 }) c.4.1.1;
-        }),
+        (
+          c.4.0,
+          record {
+            rs = c.1.snap.rs;
+            lc = f.0;
+            ws = c.1.writes;
+            certified = record { n = b.n; i = b.i; view = b.view; x = c.1; there = b.there; own = b.own; name = b.name; lc_is = lc; writes = refl; rs_is = refl };
+            write = in_at c.1.writes c.4.1.0 (record { key = k; value = c.4.0 }) c.4.1.1;
+          },
+        ),
       )
 
   -- a read of an undecided transaction of the n-th node
