@@ -1,5 +1,6 @@
 -- The own transaction behind an answer of a run, its reads and their writers.
-use Rattle.si_laws.proofs.Answering.{Answering, IsKept, Precedes, answering, kept_reads}
+use Rattle.si_laws.proofs.Answering.{Answering, IsKept, answering, kept_reads}
+use Rattle.si_laws.proofs.Preceding.{Precedes}
 use Rattle.si_laws.proofs.Causes.{found_in}
 use Rattle.si_laws.proofs.Grounds.{Committer, Grounds, committer}
 use Rattle.si_laws.proofs.Linked.{one_certified, one_of}

@@ -106,7 +106,7 @@ find_is p (y ∷ ys) x e = by_test (p y) refl e (find_is p ys x)
 -- ---- what is known
 
 -- what it knows of a key is the value of the key
-known_value : (look : KeyId → Value) (x : Own) (k : KeyId) (u : Value) → Agrees look x.reads → known x k ≡ Some u → value_at look x.writes k ≡ u
+pub known_value : (look : KeyId → Value) (x : Own) (k : KeyId) (u : Value) → Agrees look x.reads → known x k ≡ Some u → value_at look x.writes k ≡ u
 known_value look x k u agrees e = by_write (find (λ (w : Write). same_key w.key k) x.writes) e
   where
     by_read : (o : Option ReadDone) → find (λ (r : ReadDone). same_key r.key k) x.reads ≡ o → found_read o ≡ Some u → look k ≡ u
@@ -144,7 +144,7 @@ module _ (here : Here) where
   next_gives x op look ws gs e step g =
       ap (λ m. eval_from look (drop m (text x)) ws gs) (add-one x.next) ∙ (step ∙ (ap (λ os. eval_from look os x.writes x.gets) (sym (drop_got (text x) x.next op e)) ∙ g))
 
-  finish-gives : (x : Own) (op : Op) (v : Value) → own_op here x ≡ Some op → ((k : KeyId) × Needs op k) ⊎ NeedsNone op → IsValue x op v → Gave here x → Evaluates here (finish op v x)
+  pub finish-gives : (x : Own) (op : Op) (v : Value) → own_op here x ≡ Some op → ((k : KeyId) × Needs op k) ⊎ NeedsNone op → IsValue x op v → Gave here x → Evaluates here (finish op v x)
   finish-gives x (Get k) v e n val g = record {
     gave = λ look ag. next_gives x (Get k) look x.writes (x.gets ++ record { key = k; value = v } ∷ []) e
         (ap (λ (z : Value). eval_from look (drop (suc x.next) (text x)) x.writes (x.gets ++ record { key = k; value = z } ∷ [])) (sym (val look ag k refl))) (g look ag);
@@ -179,7 +179,7 @@ module _ (here : Here) where
   finish-gives x Give v e (inr n) val g = absurd n
 
   -- a read that was wanted
-  noted-gives : (x : Own) (k : KeyId) (v : Value) (by : Option TxId) (snap : Snap) (op : Op) → own_op here x ≡ Some op → Needs op k → known x k ≡ None → Gave here x
+  pub noted-gives : (x : Own) (k : KeyId) (v : Value) (by : Option TxId) (snap : Snap) (op : Op) → own_op here x ≡ Some op → Needs op k → known x k ≡ None → Gave here x
       → Evaluates here (finish_next (own_op here x) v (noted k v by snap x))
   noted-gives x k v by snap op e n u g =
       subst (λ (o : Option Op). Evaluates here (finish_next o v (noted k v by snap x))) (sym e)
@@ -204,11 +204,11 @@ module _ (here : Here) where
   ends-at x e g look ag = sym (g look ag) ∙ ap (λ os. eval_from look os x.writes x.gets) (drop_none (text x) x.next e)
 
   -- what a read of a key wants
-  reads-wants : (x : Own) (k : KeyId) → Reads here x k → Evaluates here x → Wants here x k
+  pub reads-wants : (x : Own) (k : KeyId) → Reads here x k → Evaluates here x → Wants here x k
   reads-wants x k (reads_new op a e n u) h = record { op = op; is = e; needs = n; unknown = u }
   reads-wants x k (reads_again q) h = subst (PhaseGives here x) q h.phase
 
-  asks-ends : (x : Own) → AsksCommit here x → Evaluates here x → (own_op here x ≡ None) × (x.writes ≢ [])
+  pub asks-ends : (x : Own) → AsksCommit here x → Evaluates here x → (own_op here x ≡ None) × (x.writes ≢ [])
   asks-ends x (asks_new a e ne) h = (e, ne)
   asks-ends x (asks_again q) h = subst (PhaseGives here x) q h.phase
 
@@ -219,141 +219,6 @@ module _ (here : Here) where
       by_gate : (t : Bool) → (if t then Plain a by fc (accept_final snap fc) else Turns.Wait (Turns.waits_for here (oldest (accept_final snap fc).deps))) ≡ Plain b of gc new → a ≡ b
       by_gate true q = cc q
       by_gate false q = absurd (cc q)
-
-  -- ---- each change
-
-  pub change-gives : (input : Input) (d : Doing) (i : ℕ) (x y : Own) → Change here input d i x y → Evaluates here x → Evaluates here y
-  change-gives input d i x y (ch_resolve ffc ds e) h = record { gave = h.gave; phase = same_phase x.phase h.phase }
-    where
-      same_phase : (p : Phase) → PhaseGives here x p → PhaseGives here (record x { snap = record (x.snap) { ffc = ffc; deps = ds } }) p
-      same_phase Active q = tt
-      same_phase (ReadWait k) q = record { op = q.op; is = q.is; needs = q.needs; unknown = q.unknown }
-      same_phase (Remote k) q = record { op = q.op; is = q.is; needs = q.needs; unknown = q.unknown }
-      same_phase (Reply k v by fc) q = record { op = q.op; is = q.is; needs = q.needs; unknown = q.unknown }
-      same_phase CertWait q = q
-      same_phase (Closing true) q = q
-      same_phase (Closing false) q = q
-      same_phase (Local lc) q = q
-      same_phase (Global lc) q = q
-      same_phase (Committed lc None) q = q
-      same_phase (Committed lc (Some fc)) q = q
-      same_phase (Aborted lc Wish) q = q
-      same_phase (Aborted lc (Conflict u k n)) q = tt
-      same_phase (Aborted lc (Lost u)) q = tt
-      same_phase (Aborted lc (Late u t)) q = tt
-  change-gives input d i x y (ch_known op k a p e n q) h =
-      finish-gives x op a e (inl (k, n)) (λ look ag l m. ap (λ (z : KeyId). value_at look x.writes z) (one_key op l n m) ∙ known_value look x k a ag q) h.gave
-    where
-      one_key : (o : Op) (l : KeyId) → Needs o k → Needs o l → l ≡ k
-      one_key (Get j) l p q = sym q ∙ p
-      one_key (Add j m) l p q = sym q ∙ p
-      one_key (Need j m) l p q = sym q ∙ p
-      one_key (Put j m) l p q = absurd p
-      one_key (Puts j t) l p q = absurd p
-      one_key (Del j) l p q = absurd p
-      one_key Give l p q = absurd p
-  change-gives input d i x y (ch_blind op a p e n) h = finish-gives x op a e (inr n) (λ look ag l m. absurd (no_key op l n m)) h.gave
-    where
-      no_key : (o : Op) (l : KeyId) → NeedsNone o → Needs o l → ⊥
-      no_key (Get j) l p q = p
-      no_key (Add j m) l p q = p
-      no_key (Need j m) l p q = p
-      no_key (Put j m) l p q = q
-      no_key (Puts j t) l p q = q
-      no_key (Del j) l p q = q
-      no_key Give l p q = q
-  change-gives input d i x y (ch_read k a by snap r m t) h = let w = reads-wants x k r h in noted-gives x k a by snap w.op w.is w.needs w.unknown h.gave
-  change-gives input d i x y (ch_wait k by r m t) h =
-      let w = reads-wants x k r h in record { gave = h.gave; phase = record { op = w.op; is = w.is; needs = w.needs; unknown = w.unknown } }
-  change-gives input d i x y (ch_away k n r m t) h =
-      let w = reads-wants x k r h in record { gave = h.gave; phase = record { op = w.op; is = w.is; needs = w.needs; unknown = w.unknown } }
-  change-gives input d i x y (ch_reply from tx l k a by fc c n q e s) h =
-      let w : Wants here x k = subst (Wants here x) (same_key-is l k s) (subst (PhaseGives here x) e h.phase) in
-      record { gave = h.gave; phase = record { op = w.op; is = w.is; needs = w.needs; unknown = w.unknown } }
-  change-gives input d i x y (ch_take k a b by of fc gc snap e q) h =
-      let w : Wants here x k = subst (PhaseGives here x) e h.phase in noted-gives x k b of snap w.op w.is w.needs w.unknown h.gave
-  change-gives input d i x y (ch_close a e q) h = record { gave = h.gave; phase = (e, q) }
-  change-gives input d i x y (ch_gate a) h = record { gave = h.gave; phase = asks-ends x a h }
-
-  -- ---- at a node
-
-  abbrev pub AllEvaluate : View → Type 0
-  AllEvaluate v = (i : ℕ) (x : Own) → Owns v i x → Evaluates here x
-
-  fresh_gives : (place : TxPlace) (rs : ℕ) → Evaluates here (fresh place rs)
-  fresh_gives place rs = record { gave = λ look ag. refl; phase = tt }
-
-  gives_set : (own : List Own) (i : ℕ) (x y : Own) → slice_get own i ≡ Some x → (Evaluates here x → Evaluates here y) → ((j : ℕ) (z : Own) → slice_get own j ≡ Some z → Evaluates here z)
-      → (j : ℕ) (z : Own) → slice_get (slice_set own i y) j ≡ Some z → Evaluates here z
-  gives_set own i x y o f h j z k = elim (got_set own i j y z k) [ inl p ↦ subst (Evaluates here) (sym p.1) (f (h i x o)) | inr p ↦ h j z p.1 ]
-
-  -- a certified transaction has done its script
-  certified_ends : (x : Own) (p : Phase) (lc : ℕ) → lc_of p ≡ Some lc → Rattle.str_model.specs.Views.is_decided p ≡ false → PhaseGives here x p → (own_op here x ≡ None) × (x.writes ≢ [])
-  certified_ends x (Local m) lc e f h = h
-  certified_ends x (Global m) lc e f h = h
-  certified_ends x Active lc e f h = absurd (cc e)
-  certified_ends x (ReadWait k) lc e f h = absurd (cc e)
-  certified_ends x (Remote k) lc e f h = absurd (cc e)
-  certified_ends x (Reply k v by fc) lc e f h = absurd (cc e)
-  certified_ends x CertWait lc e f h = absurd (cc e)
-  certified_ends x (Closing b) lc e f h = absurd (cc e)
-  certified_ends x (Committed m fc) lc e f h = absurd (cc f)
-  certified_ends x (Aborted m c) lc e f h = absurd (cc f)
-
-  cause-gives : (input : Input) (d : Doing) (i : ℕ) (x : Own) (cause : Cause) → Why here input d i x cause → Evaluates here x → CauseGives here x cause
-  cause-gives input d i x cause (by_script (at_abort a e)) h = inr e
-  cause-gives input d i x cause (by_script (at_need e n)) h = inl (subst (PhaseGives here x) e h.phase)
-  cause-gives input d i x cause (by_lost q e) h = tt
-  cause-gives input d i x cause (by_late q fc e) h = tt
-  cause-gives input d i x cause (by_certification u k e) h = tt
-  cause-gives input d i x cause (by_eviction from a w c) h = tt
-  cause-gives input d i x cause (by_refusal from t p u k c) h = tt
-
-  -- the same of it with its cause
-  caused : (x : Own) (lc : Option ℕ) (cause : Cause) → CauseGives here x cause → CauseGives here (in_phase (Aborted lc cause) x) cause
-  caused x lc Wish h = h
-  caused x lc (Conflict u k n) h = tt
-  caused x lc (Lost u) h = tt
-  caused x lc (Late u t) h = tt
-
-  pub gives-act : (input : Input) (w : Where) (d e : Doing) → Act here input w d e → AllEvaluate d.view → AllEvaluate e.view
-  unfolding begun marked aborted committed closed certified asked acked requested accepted taken refused waits replied commit_came abort_came
-  gives-act input w d e (act_begin place rs d' r g) h = λ j z k. elim (got_push d'.view.own j (fresh place rs) z k) [ inl p ↦ subst (Evaluates here) (sym p.1) (fresh_gives place rs) | inr p ↦ h j z p ]
-  gives-act input w d e (act_mark k t d' rd) h = h
-  gives-act input w d e (act_put i x y d' own g) h = gives_set d'.view.own i x y own.0 (change-gives input d' i x y g.change) h
-  gives-act input w d e (act_request i k m x d' own g) h = gives_set d'.view.own i x (in_phase (Remote k) x) own.0 (change-gives input d' i x (in_phase (Remote k) x) g.change) h
-  gives-act input w d e (act_certify i lc snap x d' own f n c) h =
-      gives_set d'.view.own i x (record x { snap = snap; parts = participants here.scene here.node x.writes; phase = Local lc }) own.0
-      (λ g. record { gave = g.gave; phase = asks-ends x own.2 g }) h
-  gives-act input w d e (act_ask i lc p x d' own f l g) h =
-      gives_set d'.view.own i x (record x { parts = with_asked p x.parts; phase = Global lc }) own.0
-      (λ s. record { gave = s.gave; phase = certified_ends x x.phase lc l f s.phase }) h
-  gives-act input w d e (act_ack i lc from tx p ts parts x d' own c q g) h =
-      gives_set d'.view.own i x (record x { parts = parts }) own.0
-      (λ s. record { gave = s.gave; phase = subst (PhaseGives here (record x { parts = parts })) (sym q) (subst (PhaseGives here x) q s.phase) }) h
-  gives-act input w d e (act_abort i cause x d' own f y) h =
-      gives_set d'.view.own i x (in_phase (Aborted (lc_of x.phase) cause) x) own.0
-      (λ s. record { gave = s.gave; phase = caused x (lc_of x.phase) cause (cause-gives input d' i x cause y s) }) h
-  gives-act input w d e (act_commit i lc fc x d' own l n le f g) h =
-      gives_set d'.view.own i x (in_phase (Committed (Some lc) (Some fc)) x) own.0
-      (λ s. record { gave = s.gave; phase = certified_ends x x.phase lc l f s.phase }) h
-  gives-act input w d e (act_close i x d' own p n) h =
-      gives_set d'.view.own i x (in_phase (Committed None None) x) own.0
-      (λ s. record { gave = s.gave; phase = subst (PhaseGives here x) p s.phase }) h
-  gives-act input w d e (act_accept a ts d' g m) h = h
-  gives-act input w d e (act_refuse a u k d' g m) h = h
-  gives-act input w d e (act_take from a d' c l) h = h
-  gives-act input w d e (act_wait r d' g) h = h
-  gives-act input w d e (act_unwait kept rest r d' g) h = h
-  gives-act input w d e (act_reply tx k rs v u fc d' g) h = h
-  gives-act input w d e (act_commit_came from tx p fc ms d' c g) h = h
-  gives-act input w d e (act_abort_came from tx p d' c g) h = h
-
--- at each node after each event
-pub evaluates_after : (scene : Scene) → IsScene scene → (events : List Event) (n : ℕ) (v : View) → slice_get (run scene events).nodes n ≡ Some v → AllEvaluate (at_place scene n) v
-evaluates_after scene ok events n v is =
-    at_each_event scene ok (λ here v. AllEvaluate here v) (λ here i x own. absurd (cc own))
-    (λ here good input u e p h. step-keeps here input (λ d. AllEvaluate here d.view) (λ w d f a s. gives-act here input w d f a s) (starts u) e p h) events n v is
 
 -- ---- an abort that stands in the script
 

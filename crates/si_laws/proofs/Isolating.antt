@@ -2,7 +2,8 @@
 use Rattle.si_laws.proofs.Behind.{Behind, WriterOf, behind, commit_phase, committed_in, find_write, get_take, ground, has_written, known, phase_at, take_get, times_of, writer_of}
 use Rattle.si_laws.proofs.Answering.{IsKept}
 use Rattle.si_laws.proofs.CommitOrder.{Named, named}
-use Rattle.si_laws.proofs.Evaluating.{AllEvaluate, Evaluates, PhaseGives, StopsBy, abort-wishes, ends-at, evaluates_after}
+use Rattle.si_laws.proofs.Evaluating.{Evaluates, PhaseGives, ends-at}
+use Rattle.si_laws.proofs.EvaluatingActs.{evaluates_after}
 use Rattle.si_laws.proofs.Newest.{newest_none}
 use Rattle.si_laws.proofs.NextAnswer.{Covered, Keeps}
 use Rattle.si_laws.proofs.Origins.{HasWritten}

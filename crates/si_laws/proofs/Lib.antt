@@ -43,6 +43,7 @@ pub mod MasterOrder
 pub mod MasterLaw
 pub mod Scripting
 pub mod Evaluating
+pub mod EvaluatingActs
 pub mod InTime
 pub mod Clearing
 pub mod Origins
@@ -56,6 +57,7 @@ pub mod ReadOrigins
 pub mod GuardReads
 pub mod Newest
 pub mod WishOrigins
+pub mod Preceding
 pub mod Answering
 pub mod Behind
 pub mod Isolating
