@@ -1,5 +1,6 @@
 //! The versions of the partitions that a node hosts.
-ghost use Rattle.std.specs.Prelude.{◌≡◌, ◌<◌, ◌≤◌, ◌+◌, ◌^◌, [], OnErr, OnOk, length, slice_get};
+ghost use Rattle.std.specs.Prelude.{◌≡◌, ◌<◌, ◌≤◌, ◌+◌, ◌^◌, [], OnErr, OnOk, length, slice_get, IfSome};
+ghost use Rattle.std.specs.List.{list_any};
 ghost use Rattle.str_base.specs.Versions.{chain, finalise, insert_version, newest, of_pair, visible, without};
 ghost use Rattle.version_chain.specs.ChainLists.{Apart, Each, is_among, last_held};
 ghost use Rattle.replica_store.specs.StoreLists.{IsStore, LiesIn, StaysHere};
@@ -110,6 +111,14 @@ impl ReplicaStore {
         self.chains.remove(tx, part);
     }
 
+    /// Whether there is a version of a transaction in a partition.
+    pub fn has(&self, tx: TxId, part: PartId) -> bool
+        ensures value { result ≡ list_any (of_pair tx part) self.now.versions }
+        ensures kept { IsStore self.now }
+    {
+        self.chains.has(tx, part)
+    }
+
     /// The greatest timestamp of a key's versions, 0 where there is none.
     pub fn newest(&self, key: KeyId) -> Ts
         ensures value { result.0 ≡ newest self.now.versions key }
@@ -138,6 +147,7 @@ impl ReplicaStore {
     pub fn at(&self, key: KeyId, i: usize) -> Option<Version>
         ensures value { result ≡ slice_get (chain key self.now.versions) i }
         ensures limit { length (chain key self.now.versions) < 2 ^ 63 }
+        ensures place { IfSome result (λ v. i < 2 ^ 63) }
         ensures kept { IsStore self.now }
     {
         self.chains.at(key, i)
@@ -177,6 +187,7 @@ mod tests {
             kind: Kind::Pre,
         };
         store.insert(version);
+        assert!(rt; store.has(tx, PartId(3)) && !store.has(tx, PartId(2)));
         assert!(rt; store.undecided(KeyId(7), Ts(11), false).is_some());
         store.finalise(tx, PartId(3), Ts(13));
         assert!(rt; store.undecided(KeyId(7), Ts(20), true).is_none());

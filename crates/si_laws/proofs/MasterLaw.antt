@@ -38,7 +38,7 @@ pub record Governed (scene : Scene) (s : Stage) : Type 0 where
   pub stand : (n : ℕ) (v : View) → slice_get s.nodes n ≡ Some v → Stand (at_place scene n) v
   pub masters : Masters scene s
 
-governed-keeps : (scene : Scene) (s : Stage) (i : ℕ) (v : View) (input : Input) (w : Where) (d e : Doing) → slice_get s.nodes i ≡ Some v → IsSeen s input → Governed scene s
+pub governed-keeps : (scene : Scene) (s : Stage) (i : ℕ) (v : View) (input : Input) (w : Where) (d e : Doing) → slice_get s.nodes i ≡ Some v → IsSeen s input → Governed scene s
     → Act (at_place scene i) input w d e → Governed scene (during s i d) → Governed scene (during s i e)
 governed-keeps scene s i v input w d e is seen hs a h =
     let st : Stand (at_place scene i) d.view = h.stand i d.view (get_set s.nodes i v d.view is) in
@@ -51,7 +51,7 @@ governed-keeps scene s i v input w d e is seen hs a h =
       masters = masters_step scene s i v input w d e is seen a h.linked_ st h.masters;
     }
 
-governed_opening : (scene : Scene) → Governed scene (stage_of (opening scene))
+pub governed_opening : (scene : Scene) → Governed scene (stage_of (opening scene))
 governed_opening scene = record {
   linked_ = linked scene [];
   stand = λ n v g. subst (Stand (at_place scene n)) (sym (empty n v g)) (stand_opening (at_place scene n) scene);

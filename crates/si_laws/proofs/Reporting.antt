@@ -105,7 +105,7 @@ module _ (scene : Scene) (s : Stage) (i : ℕ) (v : View) (input : Input) (is : 
   step : OwnStep d.view e.view
   step = own_step (at_place scene i) input w d e act
 
-  lift_c : (u : TxId) (fc : ℕ) → CommittedIn (during s i d) u fc → CommittedIn (during s i e) u fc
+  pub lift_c : (u : TxId) (fc : ℕ) → CommittedIn (during s i d) u fc → CommittedIn (during s i e) u fc
   unfolding here_e step
   lift_c u fc c =
       elim (got_set s.nodes i c.node d.view c.view c.there) [

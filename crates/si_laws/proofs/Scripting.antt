@@ -228,7 +228,7 @@ module _ (here : Here) where
   reads_free x k (reads_again e) = (ap lc_of e, λ z. cc (sym e ∙ z))
 
   pub asks_end : (x : Own) → AsksCommit here x → ScriptGood here x → own_op here x ≡ None
-  asks_end x (asks_new a e) g = e
+  asks_end x (asks_new a e ne) g = e
   asks_end x (asks_again e) g = g.waits_ e
 
   pub change-good : (input : Input) (d : Doing) (i : ℕ) (x y : Own) → Change here input d i x y → ScriptGood here x → ScriptGood here y

@@ -9,5 +9,6 @@ pub mod Presence
 pub mod Marks
 pub mod Apart
 pub mod Prefix
+pub mod Isolation
 pub mod Reasons
 pub mod Cut

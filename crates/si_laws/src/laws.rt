@@ -9,6 +9,8 @@ ghost use Rattle.si_laws.specs.Laws.Stages.{AcksKnown, StagesForward};
 ghost use Rattle.si_laws.specs.Laws.Presence.{PresenceHolds, PresenceStands};
 ghost use Rattle.si_laws.specs.Laws.Marks.{HomeMarksHold, MarksHold};
 ghost use Rattle.si_laws.specs.Laws.Apart.{ApartHolds, OrderHolds};
+ghost use Rattle.si_laws.specs.Laws.Isolation.{IsolationHolds};
+ghost use Rattle.si_laws.specs.Laws.Prefix.{PrefixHolds};
 
 /// Times at a node, over every list of events.
 pub fn times_hold()
@@ -103,4 +105,14 @@ pub fn reasons_hold()
 /// undecided then and has committed since, at each participant of that one for the key's partition, or in a Commit under way to it.
 pub fn marks_hold()
     ensures { MarksHold }
+{}
+
+/// Snapshot isolation: the answers of every run are a run of the snapshot isolation machine, after each answer.
+pub fn snapshot_isolation_holds()
+    ensures { IsolationHolds }
+{}
+
+/// Committed answers and wishes see their snapshots, and each read of committed data by an undecided transaction is the newest at its snapshot.
+pub fn prefix_holds()
+    ensures { PrefixHolds }
 {}

@@ -36,14 +36,6 @@ gated_waits here snap turn by n e = by_test (holds snap) refl e
 pub waits_gated : (here : Here) (snap : Snap) (turn : ReadTurn) (by : TxId) → GateWaits here.node snap by → gated here snap turn ≡ Wait by
 waits_gated here snap turn by g = rw (g.shut, g.least, g.named) refl
 
--- where a gate waits for nobody it lets the turn through
-pub gated_open : (here : Here) (snap : Snap) (turn : ReadTurn) → holds snap ≡ true → turn ≡ gated here snap turn
-gated_open here snap turn h = rw h refl
-
--- whom a gate names is one
-pub names_one : (node : NodeId) (snap : Snap) (a b : TxId) → GateWaits node snap a → GateWaits node snap b → a ≡ b
-names_one node snap a b g h = let d : g.dep ≡ h.dep = cc (g.least, h.least) in rw (g.named, h.named, d) refl
-
 -- the same of an equal snapshot
 pub same_waits : (node : NodeId) (s t : Snap) (by : TxId) → s ≡ t → GateWaits node s by → GateWaits node t by
 same_waits node s t by e g = rw (← e) g

@@ -1,5 +1,5 @@
 //! Reads of a key.
-ghost use Rattle.std.specs.Prelude.{◌≡◌, ◌↔◌, ◌≤◌, List, length, true};
+ghost use Rattle.std.specs.Prelude.{◌≡◌, ◌↔◌, ◌≤◌, ◌∷◌, IfOk, List, [], false, length, true};
 ghost use Rattle.dependency_set.specs.Snapshots.{accept_final};
 ghost use Rattle.partition_map.specs.Maps.{HasKey};
 ghost use Rattle.snapshot_read.specs.Causes.{GateWaits, IsAway, ReadWaits, ServeWaits};
@@ -12,6 +12,7 @@ ghost use Rattle.str_model.specs.Turns;
 ghost use Rattle.str_model.specs.Turns.{gated, read_kind, read_turn, reply_turn, serve_turn};
 ghost use Rattle.str_model.specs.Views.{Own, View};
 ghost use Rattle.str_scene.specs.Scenes.{Here};
+ghost use Rattle.version_chain.specs.ChainLists.{Each};
 
 use crate::taking::{gate_waits, take_over};
 use cache_partition::CachePartition;
@@ -222,14 +223,152 @@ fn all_sendable(read: &ReadTurn, served: &ServeTurn) {
 mod tests {
     use super::*;
     use dependency_set::{Dep, Deps};
+    use partition_map::PartRow;
+    use std::alloc::{AllocError, Global};
     use std::test::Fail;
     use str_base::{PartId, ShortList};
 
-    fn tx(node: u8, seq: u32) -> TxId {
+    fn tx(node: u8, seq: u32) -> TxId
+        ensures { result ≡ record { node = record { 0 = node }; seq = seq } }
+    {
         TxId {
             node: NodeId(node),
             seq,
         }
+    }
+
+    // What a read comes to, without its snapshot.
+    #[derive(Clone, Copy, Debug, PartialEq, Eq)]
+    enum Seen {
+        Plain(Value, Option<TxId>, Ts),
+        Speculative(Value, TxId),
+        Wait(TxId),
+        Remote(NodeId),
+    }
+
+    fn row(node: u8) -> PartRow
+        ensures { result ≡ record { 0 = node } ∷ [] }
+    {
+        let mut row = PartRow::new();
+        row.push(NodeId(node));
+        row
+    }
+
+    // Key 0 is of partition 1 at node 1, and key 1 is of partition 2 at node 2.
+    fn map(alloc: Global) -> Result<PartitionMap, AllocError>
+        ensures { IfOk result (λ m. m ≡ record { rows = (record { 0 = 1 } ∷ []) ∷ (record { 0 = 2 } ∷ []) ∷ []; keys = record { 0 = 1 } ∷ record { 0 = 2 } ∷ [] }) }
+    {
+        let rows = Vec::from_array(alloc, [row(1), row(2)])?;
+        let keys = Vec::from_array(alloc, [PartId(1), PartId(2)])?;
+        PartitionMap::new(alloc, &rows, &keys)
+    }
+
+    fn hosted() -> ShortList<PartId, 32>
+        ensures { result ≡ record { 0 = 1 } ∷ [] }
+    {
+        let mut hosted = ShortList::new();
+        hosted.push(PartId(1));
+        hosted
+    }
+
+    // A Final version of key 0 at 5, and a Pre version at 9.
+    fn store(alloc: Global) -> Result<ReplicaStore, AllocError>
+        ensures { IfOk result (λ s. (s.node ≡ record { 0 = 1 }) × (s.hosted ≡ record { 0 = 1 } ∷ []) × Each (λ v. is_local v.kind ≡ false) s.versions) }
+    {
+        let mut store = ReplicaStore::new(alloc, NodeId(1), hosted());
+        store.reserve(2)?;
+        let final_ = Version {
+            key: KeyId(0),
+            part: PartId(1),
+            tx: tx(2, 1),
+            ts: Ts(5),
+            value: Value::Num(7),
+            kind: Kind::Final,
+        };
+        store.insert(final_);
+        store.insert(Version {
+            tx: tx(2, 2),
+            ts: Ts(9),
+            kind: Kind::Pre,
+            ..final_
+        });
+        Ok(store)
+    }
+
+    // A Local version of key 1 at 6 by transaction 1.
+    fn cache(alloc: Global) -> Result<CachePartition, AllocError>
+        ensures { IfOk result (λ s. (s.node ≡ record { 0 = 1 }) × (s.hosted ≡ record { 0 = 1 } ∷ []) × Each (λ v. v.tx.seq ≡ 1) s.versions) }
+    {
+        let mut cache = CachePartition::new(alloc, NodeId(1), hosted());
+        cache.reserve(1)?;
+        cache.insert(Version {
+            key: KeyId(1),
+            part: PartId(2),
+            tx: tx(1, 1),
+            ts: Ts(6),
+            value: Value::Num(8),
+            kind: Kind::Local,
+        });
+        Ok(cache)
+    }
+
+    // Transaction 1 began at 4.
+    fn read(
+        store: &ReplicaStore,
+        cache: &CachePartition,
+        map: &PartitionMap,
+        key: u32,
+        rs: u64,
+        ffc: u64,
+    ) -> Seen
+        requires key { HasKey map.now (record { 0 = key }) }
+        requires here { StandAt (record { 0 = 1 }) map.now store.now cache.now }
+        requires stored { Each (λ v. is_local v.kind ≡ false) store.now.versions }
+        requires cached { Each (λ v. v.tx.seq ≡ 1) cache.now.versions }
+    {
+        let own = [OwnSnap {
+            seq: 1,
+            snap: Snap::new(Ts(4), Ts(0), Deps::new()),
+        }];
+        let snap = Snap::new(Ts(rs), Ts(ffc), Deps::new());
+        match try_read(
+            NodeId(1),
+            &snap,
+            own.as_slice(),
+            store,
+            cache,
+            map,
+            KeyId(key),
+        ) {
+            ReadTurn::Plain { value, by, fc, .. } => Seen::Plain(value, by, fc),
+            ReadTurn::Speculative { value, by, .. } => Seen::Speculative(value, by),
+            ReadTurn::Wait { by } => Seen::Wait(by),
+            ReadTurn::Remote { master } => Seen::Remote(master),
+        }
+    }
+
+    #[test]
+    fn reads_versions(rt: HostRuntime) -> Result<(), Fail> {
+        let map = map(rt.alloc())?;
+        let store = store(rt.alloc())?;
+        let cache = cache(rt.alloc())?;
+        let table = [
+            (4, Seen::Plain(Value::Absent, None, Ts(0))),
+            (5, Seen::Plain(Value::Num(7), Some(tx(2, 1)), Ts(5))),
+            (9, Seen::Wait(tx(2, 2))),
+        ];
+        for (rs, want) in table {
+            assert_eq!(rt; read(&store, &cache, &map, 0, rs, 0), want);
+        }
+        let table = [
+            (5, 0, Seen::Remote(NodeId(2))),
+            (6, 4, Seen::Speculative(Value::Num(8), tx(1, 1))),
+            (6, 5, Seen::Wait(tx(1, 1))),
+        ];
+        for (rs, ffc, want) in table {
+            assert_eq!(rt; read(&store, &cache, &map, 1, rs, ffc), want);
+        }
+        Ok(())
     }
 
     // The snapshot at 20 depends on transaction 3, which began at 10.

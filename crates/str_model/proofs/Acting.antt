@@ -1,6 +1,6 @@
 -- A step as a chain of single changes, each under the facts at which it is made. A law over runs looks at each
 -- change once, and never at the order in which a step makes them.
-use Rattle.std.proofs.Common.{List, None, Option, Some, [], false, nat_lt, refl, slice_get, subst, sym, true, ℕ, ◌++◌, ◌+◌, ◌-◌, ◌∷◌, ◌≡◌, ◌≤◌, max}
+use Rattle.std.proofs.Common.{List, None, Option, Some, [], false, nat_lt, refl, slice_get, subst, sym, true, ℕ, ◌++◌, ◌+◌, ◌-◌, ◌∷◌, ◌≡◌, ◌≢◌, ◌≤◌, max}
 use Rattle.partition_map.specs.declared.rows.Asked.{Asked}
 use Rattle.str_base.specs.declared.names.Cause.{Cause}
 use Rattle.str_base.specs.declared.names.Cause.TheVariants.{Conflict as ByConflict, Late as IsLate, Lost as IsLost, Wish}
@@ -8,7 +8,7 @@ use Rattle.str_base.specs.declared.names.KeyId.{KeyId}
 use Rattle.str_model.specs.declared.names.KeyMark.{KeyMark}
 use Rattle.str_base.specs.declared.names.NodeId.{NodeId}
 use Rattle.str_scene.specs.declared.names.Op.{Op}
-use Rattle.str_scene.specs.declared.names.Op.TheVariants.{Add, Del, Get, Need, Put, Puts}
+use Rattle.str_scene.specs.declared.names.Op.TheVariants.{Abort as Stop, Add, Del, Get, Need, Put, Puts}
 use Rattle.dependency_set.specs.declared.names.Dep.{Dep}
 use Rattle.str_model.specs.Scripts.{finish, finish_next, known, noted, own_op}
 use Rattle.str_base.specs.declared.names.PartId.{PartId}
@@ -32,7 +32,7 @@ use Rattle.str_model.specs.Clients.{last_index, of_session, reading_limit}
 use Rattle.str_model.specs.Gates.{Ask, CommitAt, gate_of}
 use Rattle.str_model.specs.Proposals.{Accept, Refuse, is_known, is_parked, master_turn, proposed, ts_limit}
 use Rattle.str_model.specs.Returns.{own_named, with_ack}
-use Rattle.str_scene.specs.Scenes.{Here, Session, hosts, is_master, nth}
+use Rattle.str_scene.specs.Scenes.{Here, Session, hosts, hosts_key, is_master, nth}
 use Rattle.dependency_set.specs.Snapshots.{Snap}
 use Rattle.str_model.specs.Steps.{decides, drop_held}
 use Rattle.str_model.specs.Strange.{is_valid}
@@ -99,19 +99,19 @@ pub data Reads (here : Here) (x : Own) (k : KeyId) : Type 0 where
 abbrev pub JustMarked : View → KeyId → ℕ → Type 0
 JustMarked v k t = (ms : List ℕ) × (v.marks ≡ raised ms k t)
 
--- a read of another node has come, and has left its mark
+-- a read of another node has come for a key that this node has, and has left its mark
 abbrev pub ComesToRead : Here → Input → Doing → NodeId → TxId → KeyId → Ts → Type 0
 ComesToRead here input d from tx k rs =
-    (m : Message) × (input ≡ Deliver m) × (m.sender ≡ from) × (m.body ≡ ReadReq tx k rs) × (is_valid here m ≡ true) × JustMarked d.view k rs.0
+    (m : Message) × (input ≡ Deliver m) × (m.sender ≡ from) × (m.body ≡ ReadReq tx k rs) × (is_valid here m ≡ true) × JustMarked d.view k rs.0 × (hosts_key here k ≡ true)
 
 -- what was read, and the snapshot then
 pub data ReadsTo (here : Here) (v : View) (snap : Snap) (k : KeyId) (a : Value) (by : Option TxId) (new : Snap) : Type 0 where
   to_final : (fc : ℕ) → read_turn here v snap k ≡ Plain a by fc new → ReadsTo here v snap k a by new
   to_local : (u : TxId) → by ≡ Some u → read_turn here v snap k ≡ Speculative a u new → ReadsTo here v snap k a by new
 
--- it asks to commit: for the first time, or again
+-- it has writes and asks to commit: for the first time, or again
 pub data AsksCommit (here : Here) (x : Own) : Type 0 where
-  asks_new : x.phase ≡ Active → own_op here x ≡ None → AsksCommit here x
+  asks_new : x.phase ≡ Active → own_op here x ≡ None → x.writes ≢ [] → AsksCommit here x
   asks_again : x.phase ≡ CertWait → AsksCommit here x
 
 -- an own transaction that asks to commit
@@ -139,9 +139,14 @@ pub record Goes (here : Here) (input : Input) (d : Doing) (i : ℕ) (x y : Own) 
   pub goes : GoesOn d.view x y
   pub change : Change here input d i x y
 
+-- the script wishes to abort: its next operation is an abort, or it closes at a need that is not met and has no dependency left
+pub data Wishing (here : Here) (x : Own) : Type 0 where
+  at_abort : x.phase ≡ Active → own_op here x ≡ Some Stop → Wishing here x
+  at_need : x.phase ≡ Closing true → x.snap.deps ≡ [] → Wishing here x
+
 -- why a transaction aborts
 pub data Why (here : Here) (input : Input) (d : Doing) (i : ℕ) (x : Own) : Cause → Type 0 where
-  by_script : Why here input d i x Wish
+  by_script : Wishing here x → Why here input d i x Wish
   by_lost : (q : ℕ) → dep_turn d.view.own x.snap ≡ Lost q → Why here input d i x (IsLost (record { node = here.node; seq = q }))
   by_late : (q fc : ℕ) → dep_turn d.view.own x.snap ≡ Late q fc → Why here input d i x (IsLate (record { node = here.node; seq = q }) (stamp fc))
   by_certification : (u : TxId) (k : KeyId) → cert_turn here d.view x.snap x.writes ≡ Conflict u k → Why here input d i x (ByConflict u k here.node)

@@ -18,7 +18,7 @@ use Rattle.str_model.specs.Steps
 use Rattle.str_model.specs.Turns.{DepTurn, Give, Keep, Late, Lost, Plain, ReadTurn, ServeTurn, ServeWait, dep_turn, reply_turn, serve_turn}
 use Rattle.str_model.specs.Views.{CertWait, Closing, Doing, Global, Local, Own, Phase, ReadWait, Reply, View, is_decided, lc_of, starts}
 use Rattle.str_model.specs.Waiters
-use Rattle.str_model.proofs.Acting.{Act, InRule, InTurn, InWait, IsOwn, Path, PathTo, Touches, Where, act_abort, act_accept, act_ask, act_close, act_commit, act_put, act_refuse, act_reply, act_unwait, along, and_then, asks_again, by_late, by_lost, by_script, ch_resolve, ch_take, it_waits, one, reads_again, s_read, stay, IsTurn, asked_before, touches_turn}
+use Rattle.str_model.proofs.Acting.{Act, InRule, InTurn, InWait, IsOwn, Path, PathTo, Touches, Where, act_abort, act_accept, act_ask, act_close, act_commit, act_put, act_refuse, act_reply, act_unwait, along, and_then, asks_again, at_need, by_late, by_lost, by_script, ch_resolve, ch_take, it_waits, one, reads_again, s_read, stay, IsTurn, asked_before, touches_turn}
 use Rattle.str_model.proofs.Gaining.{TurnGood, if_elim, reply_turn-good}
 use Rattle.str_model.proofs.Members.{In, in_right}
 use Rattle.str_model.proofs.Operating.{IsFree, at_own-path, certify_now-path, free_at, gate_commits, read_now-path, resolved-extends, with_value-path}
@@ -51,7 +51,7 @@ module _ (here : Here) (input : Input) (w : Where) where
   empty-is (x ∷ xs) e = absurd cc
 
   close_free-path : (i : ℕ) (wish : Bool) (x : Own) (d : Doing) → IsTurn w d i x → x.phase ≡ Closing wish → x.snap.deps ≡ [] → Path here input w d (Pass.close_free here i wish x d)
-  close_free-path i true x d own e n = one (act_abort i _ x d (own.0, touches_turn w i own.1) (ap is_decided e) by_script)
+  close_free-path i true x d own e n = one (act_abort i _ x d (own.0, touches_turn w i own.1) (ap is_decided e) (by_script (at_need e n)))
   close_free-path i false x d own e n = one (act_close i x d own e n)
 
   -- ---- the gate

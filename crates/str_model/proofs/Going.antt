@@ -37,7 +37,7 @@ module _ (here : Here) (input : Input) (d : Doing) (i : ℕ) (x : Own) where
   reads-phase k (reads_again e) = ap lc_of e
 
   asks-phase : AsksCommit here x → lc_of x.phase ≡ None
-  asks-phase (asks_new a e) = ap lc_of a
+  asks-phase (asks_new a e ne) = ap lc_of a
   asks-phase (asks_again e) = ap lc_of e
 
   never : lc_of x.phase ≡ None → (lc : ℕ) → lc_of x.phase ≡ Some lc → ⊥

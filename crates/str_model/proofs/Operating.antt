@@ -23,7 +23,7 @@ use Rattle.dependency_set.specs.Snapshots.{Snap}
 use Rattle.str_model.specs.Turns.{Away, CertTurn, Certified, Conflict, DepTurn, Keep, Late, Lost, Plain, ReadTurn, Speculative, Wait, WaitGate, cert_turn, dep_turn, greatest, read_turn}
 use Rattle.str_model.specs.Turns
 use Rattle.str_model.specs.Views.{Active, CertWait, Closing, Doing, Own, Phase, ReadWait, Remote, View, is_decided, lc_of, put}
-use Rattle.str_model.proofs.Acting.{AsksCommit, Change, GoesOn, IsMasters, IsOwn, JustMarked, Needs, Path, Reads, Touches, Where, act_abort, act_certify, act_mark, act_put, act_request, and_then, asks_new, by_certification, by_script, ch_away, ch_blind, ch_close, ch_gate, ch_known, ch_read, ch_wait, one, own_reading, reads_new, stay, to_final, to_local}
+use Rattle.str_model.proofs.Acting.{AsksCommit, Change, GoesOn, IsMasters, IsOwn, JustMarked, Needs, Path, Reads, Touches, Where, act_abort, act_certify, act_mark, act_put, act_request, and_then, asks_new, at_abort, by_certification, by_script, ch_away, ch_blind, ch_close, ch_gate, ch_known, ch_read, ch_wait, one, own_reading, reads_new, stay, to_final, to_local}
 use Rattle.str_model.proofs.Gaining.{Extends, Gains, Names, Settles, TurnGood, extends_self, gains_it, gains_of, if_elim, read_turn-good}
 use Rattle.str_model.proofs.Members.{In}
 
@@ -228,11 +228,11 @@ module _ (here : Here) (input : Input) (w : Where) where
   do_op-path i x (Add k n) d f a e = need_value-path i (Add k n) k x (known x k) d f a e refl refl
   do_op-path i x (Del k) d f a e = finish-path i (Del k) Absent x d f (ch_blind (Del k) Absent a e tt)
   do_op-path i x (Need k n) d f a e = need_value-path i (Need k n) k x (known x k) d f a e refl refl
-  do_op-path i x Stop d f a e = one (act_abort i _ x d f.own f.open_ by_script)
+  do_op-path i x Stop d f a e = one (act_abort i _ x d f.own f.open_ (by_script (at_abort a e)))
 
   pub ask_commit-path : (i : ℕ) (x : Own) (ws : List Write) (d : Doing) → IsFree w d i x → x.phase ≡ Active → own_op here x ≡ None → x.writes ≡ ws → Path here input w d (ask_commit here i x ws d)
   ask_commit-path i x [] d f a e q = one (act_put i x _ d f.own (record { goes = phase-goes w d i x (Closing false) f refl refl; change = ch_close a e q }))
-  ask_commit-path i x (w ∷ ws) d f a e q = certify_now-path i x d f (asks_new a e)
+  ask_commit-path i x (w ∷ ws) d f a e q = certify_now-path i x d f (asks_new a e (λ z. cc (sym q ∙ z)))
 
   pub op_or_commit-path : (i : ℕ) (x : Own) (o : Option Op) (d : Doing) → IsFree w d i x → x.phase ≡ Active → own_op here x ≡ o → Path here input w d (op_or_commit here i x o d)
   op_or_commit-path i x (Some op) d f a e = do_op-path i x op d f a e

@@ -126,10 +126,10 @@ module _ (here : Here) (input : Input) (w : Where) where
 
     -- ---- a message
 
-    serve_done-path : (from : NodeId) (tx : TxId) (k : KeyId) (rs : ℕ) (turn : ServeTurn) (d : Doing) → Comes here input from (ReadReq tx k (stamp rs)) → JustMarked d.view k rs
+    serve_done-path : (from : NodeId) (tx : TxId) (k : KeyId) (rs : ℕ) (turn : ServeTurn) (d : Doing) → Comes here input from (ReadReq tx k (stamp rs)) → JustMarked d.view k rs → hosts_key here k ≡ true
         → serve_turn d.view.versions k rs ≡ turn → Path here input w d (Arrivals.serve_done here tx k rs turn d)
-    serve_done-path from tx k rs (Give v by fc) d c j e = one (act_reply tx k rs v by fc d (record { gives = e; was_asked = asked_now from (stamp rs) refl (c.0, c.1, c.2, c.3, c.4, j) }))
-    serve_done-path from tx k rs (ServeWait by) d c j e = one (act_wait _ d (a_read from tx k (stamp rs) (c.0, c.1, c.2, c.3, c.4, j)))
+    serve_done-path from tx k rs (Give v by fc) d c j z e = one (act_reply tx k rs v by fc d (record { gives = e; was_asked = asked_now from (stamp rs) refl (c.0, c.1, c.2, c.3, c.4, j, z) }))
+    serve_done-path from tx k rs (ServeWait by) d c j z e = one (act_wait _ d (a_read from tx k (stamp rs) (c.0, c.1, c.2, c.3, c.4, j, z)))
 
     read_req-path : (from : NodeId) (tx : TxId) (k : KeyId) (rs : ℕ) (d : Doing) → Comes here input from (ReadReq tx k (stamp rs)) → PathTo here input w d (Arrivals.read_req here tx k rs d)
     unfolding Arrivals.read_req marked
@@ -137,7 +137,7 @@ module _ (here : Here) (input : Input) (w : Where) where
         if_elim (PathTo here input w d)
         (hosts_key here k && (not (same_node tx.node here.node) && not (list_any (Arrivals.waits_read tx k) d.view.waiters)))
         (Some (Arrivals.serve_done here tx k rs (serve_turn d.view.versions k rs) (marked k rs d))) None
-        (λ e. and_then d (marked k rs d) _ (one (act_mark k rs d (far_reading from tx (stamp rs) refl c))) (serve_done-path from tx k rs (serve_turn d.view.versions k rs) (marked k rs d) c (just_marked k rs d) refl)) (λ e. tt)
+        (λ e. and_then d (marked k rs d) _ (one (act_mark k rs d (far_reading from tx (stamp rs) refl c))) (serve_done-path from tx k rs (serve_turn d.view.versions k rs) (marked k rs d) c (just_marked k rs d) (and_left (hosts_key here k) _ e) refl)) (λ e. tt)
 
     nth-get : {X : Type 0} (xs : List X) (n : ℕ) (x : X) → nth xs n ≡ Some x → slice_get xs (n - 1) ≡ Some x
     nth-get xs zero x e = absurd cc

@@ -1,12 +1,11 @@
--- The answers of a first scene's run.
+-- The answers of the one actual run of a scene.
+use Rattle.si_laws.proofs.IsolationLaw.{isolated_run}
 use Rattle.si_laws.specs.SnapshotIsolation.{SIRun}
 use Rattle.str_model.specs.Drains.{cluster_events, cluster_run}
-use Rattle.str_scene.specs.FirstScenes.{IsFirst}
 use Rattle.str_scene.specs.SceneLimits.{IsScene}
 use Rattle.str_scene.specs.Scenes.{Scene}
-use Rattle.strun.proofs.OneNode.{one_node}
 
--- they are a run of the snapshot isolation machine
-pub first_isolated : (scene : Scene) → IsScene scene → IsFirst scene → SIRun scene (cluster_run scene).answers
+-- they are a run of the snapshot isolation machine, as those of every run are
+pub run_isolated : (scene : Scene) → IsScene scene → SIRun scene (cluster_run scene).answers
 unfolding cluster_run
-first_isolated scene is first = one_node scene is first (cluster_events scene)
+run_isolated scene is = isolated_run scene is (cluster_events scene)

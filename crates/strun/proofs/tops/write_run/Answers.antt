@@ -1,5 +1,5 @@
 use Rattle.std.proofs.Common.{refl, ◌∙◌}
-use Rattle.strun.proofs.Isolated.{first_isolated}
+use Rattle.strun.proofs.Isolated.{run_isolated}
 use Rattle.top_status.proofs.Failing.{on_err}
 use Rattle.strun.proofs.Partial.{answers_partly, answers_whole, line_partly}
 use Rattle.strun.proofs.Refusing.{later_cause}
@@ -13,16 +13,16 @@ returns-clause-written g c =
     c.in_ok-write_answers.ensures.written c.write_piece.ensures.written
 
 pub returns-in_err-cluster-clause-isolated : goal.returns-in_err-cluster-clause-isolated
-returns-in_err-cluster-clause-isolated g c = first_isolated c.args.scene.now c.requires.limits c.requires.first
+returns-in_err-cluster-clause-isolated g c = run_isolated c.args.scene.now c.requires.limits
 
 pub returns-in_err-write_answers-clause-isolated : goal.returns-in_err-write_answers-clause-isolated
-returns-in_err-write_answers-clause-isolated g c = first_isolated c.args.scene.now c.requires.limits c.requires.first
+returns-in_err-write_answers-clause-isolated g c = run_isolated c.args.scene.now c.requires.limits
 
 pub returns-in_err-push_end-clause-isolated : goal.returns-in_err-push_end-clause-isolated
-returns-in_err-push_end-clause-isolated g c = first_isolated c.args.scene.now c.requires.limits c.requires.first
+returns-in_err-push_end-clause-isolated g c = run_isolated c.args.scene.now c.requires.limits
 
 pub returns-clause-isolated : goal.returns-clause-isolated
-returns-clause-isolated g c = first_isolated c.args.scene.now c.requires.limits c.requires.first
+returns-clause-isolated g c = run_isolated c.args.scene.now c.requires.limits
 
 pub returns-in_err-write_answers-clause-partial :
     goal.returns-in_err-write_answers-clause-partial

@@ -1,0 +1,111 @@
+//! How a transaction meets the versions of the keys that it wrote.
+ghost use Rattle.std.specs.Prelude.{◌≡◌, ◌<◌, ◌≤◌, ◌^◌, IfOk, Some, length, slice_get, true, ℕ};
+ghost use Rattle.local_certify.specs.Judging.{held, join_one, judged, judged_all};
+ghost use Rattle.partition_map.specs.Maps.{HasKey};
+ghost use Rattle.snapshot_read.specs.Shown.{AreNamed, AreTold, OthersNamed, of_key};
+ghost use Rattle.str_base.specs.declared.names.Write.{Write as AWrite};
+ghost use Rattle.str_base.specs.Versions.{chain, is_local};
+ghost use Rattle.str_model.specs.Turns.{conflicts};
+
+use cache_partition::CachePartition;
+use dependency_set::{OwnSnap, Snap};
+use partition_map::PartitionMap;
+use replica_store::ReplicaStore;
+use snapshot_read::take_over;
+use str_base::{KeyId, Kind, NodeId, Ts, Version, Write};
+
+/// Whether a version is a conflict at this snapshot: it is Pre or above it.
+fn conflicts(version: &Version, rs: Ts) -> bool
+    ensures { result ≡ conflicts rs.0 version.now }
+{
+    version.kind == Kind::Pre || rs < version.ts
+}
+
+/// The `i`-th version of a key, in the store that holds it.
+fn version_at(
+    store: &ReplicaStore,
+    cache: &CachePartition,
+    is_hosted: bool,
+    key: KeyId,
+    i: usize,
+) -> Option<Version>
+    ensures value { result ≡ slice_get (chain key (of_key is_hosted store.now.versions cache.now.versions)) i }
+    ensures limit { length (chain key (of_key is_hosted store.now.versions cache.now.versions)) < 2 ^ 63 }
+{
+    if is_hosted {
+        store.at(key, i)
+    } else {
+        cache.at(key, i)
+    }
+}
+
+/// The snapshot with what it takes over from a version: a Local one is taken over.
+fn join_one(own: &[OwnSnap], version: &Version, snap: &Snap) -> Snap
+    requires few { length own.now ≤ 15 }
+    requires deps { AreNamed own.now snap.now.deps }
+    requires others { is_local version.now.kind ≡ true → OthersNamed own.now version.now.tx.seq }
+    ensures value { result ≡ join_one own.now version.now version.now.kind snap.now }
+    ensures kept { AreNamed own.now result.deps }
+{
+    match version.kind {
+        Kind::Local => take_over(own, version.tx.seq, snap),
+        _ => snap.copy(),
+    }
+}
+
+/// The snapshot with what it takes over from all versions of a key, or the first conflict among them.
+fn judge_key(
+    rs: Ts,
+    snap: &Snap,
+    own: &[OwnSnap],
+    store: &ReplicaStore,
+    cache: &CachePartition,
+    is_hosted: bool,
+    key: KeyId,
+) -> Result<Snap, Version>
+    requires few { length own.now ≤ 15 }
+    requires deps { AreNamed own.now snap.now.deps }
+    requires told { AreTold own.now rs.0 store.now.versions cache.now.versions }
+    ensures value { result ≡ judged own.now rs.0 (chain key (of_key is_hosted store.now.versions cache.now.versions)) snap.now }
+    ensures kept { IfOk result (λ s. AreNamed own.now s.deps) }
+{
+    let mut joined = snap.copy();
+    let mut i = 0;
+    while let Some(version) = version_at(store, cache, is_hosted, key, i) {
+        if conflicts(&version, rs) {
+            return Err(version);
+        }
+        joined = join_one(own, &version, &joined);
+        i += 1;
+    }
+    Ok(joined)
+}
+
+/// The snapshot with what it takes over from all versions of the written keys, or the first conflict among them in order of
+/// first write.
+pub fn judge_all(
+    node: NodeId,
+    snap: &Snap,
+    writes: &[Write],
+    own: &[OwnSnap],
+    store: &ReplicaStore,
+    cache: &CachePartition,
+    map: &PartitionMap,
+) -> Result<Snap, Version>
+    requires keys { (i : ℕ) (w : AWrite) → slice_get writes.now i ≡ Some w → HasKey map.now w.key }
+    requires few { length own.now ≤ 15 }
+    requires deps { AreNamed own.now snap.now.deps }
+    requires told { AreTold own.now snap.now.rs store.now.versions cache.now.versions }
+    ensures { result ≡ judged_all own.now snap.now.rs (held map.now node store.now.versions cache.now.versions) writes.now snap.now }
+{
+    let rs = snap.rs();
+    let mut joined = snap.copy();
+    for write in writes {
+        let is_hosted = map.hosts(node, map.part_of(write.key));
+        match judge_key(rs, &joined, own, store, cache, is_hosted, write.key) {
+            Ok(next) => joined = next,
+            Err(version) => return Err(version),
+        }
+    }
+    Ok(joined)
+}

@@ -1,0 +1,6 @@
+pub mod Holding
+pub mod Least
+pub mod Evicting
+pub mod Keeping
+pub mod Agreeing
+pub mod Shown

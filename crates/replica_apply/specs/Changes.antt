@@ -1,0 +1,46 @@
+-- What changes at a replica, and what it needs.
+use Rattle.std.specs.List.{list_any}
+use Rattle.std.specs.Prelude.{Bool, false, List, [], ℕ, ◌++◌, ◌<◌, ◌∷◌, ◌≡◌, length, slice_get, Some}
+use Rattle.replica_store.specs.StoreLists.{DonePairs, StaysHere, StoreList}
+use Rattle.str_base.specs.declared.names.PartId.{PartId}
+use Rattle.str_base.specs.declared.names.TxId.{TxId}
+use Rattle.str_base.specs.declared.names.Version.{Version}
+use Rattle.str_base.specs.Versions.{insert_version, of_pair}
+use Rattle.str_model.specs.declared.names.KeyMark.{KeyMark}
+use Rattle.str_model.specs.declared.messages.Waiter.{Waiter}
+use Rattle.str_model.specs.Proposals.{is_pair}
+use Rattle.str_model.specs.Views.{View}
+use Rattle.version_chain.specs.ChainLists.{Apart, Each, IsOrdered, merged}
+
+-- each can be inserted after those before it: no version of its key by its transaction stands there
+abbrev pub CanInsert : List Version → List Version → Type 0
+CanInsert [] vs = Unit {0}
+CanInsert (w ∷ ws) vs = Each (Apart w) vs × CanInsert ws (insert_version w vs)
+
+-- each key has a mark
+abbrev pub AreMarked : List KeyMark → List ℕ → Type 0
+AreMarked ms marks = (i : ℕ) (m : KeyMark) → slice_get ms i ≡ Some m → m.key.0 < length marks
+
+-- the pair is in the list
+abbrev pub was_done : TxId → PartId → DonePairs → Bool
+was_done tx part done = list_any (is_pair tx part) done.pairs
+
+-- the pair was added to the list
+abbrev pub IsAdded : TxId → PartId → DonePairs → DonePairs → Type 0
+IsAdded tx part old new = new.pairs ≡ old.pairs ++ (tx, part) ∷ []
+
+-- these are the versions now, and the node and its partitions stay
+abbrev pub Becomes : StoreList → StoreList → List Version → Type 0
+Becomes old new vs = (new.versions ≡ vs) × StaysHere old new
+
+-- a view of which these versions are a part: the others are in order, apart from these, and none of this pair
+pub record Rests (tx : TxId) (part : PartId) (view : View) (vs : List Version) : Type 0 where
+  pub cache : List Version
+  pub versions : view.versions ≡ merged cache vs
+  pub ordered : IsOrdered cache
+  pub apart : Each (λ w. Each (Apart w) vs) cache
+  pub other : Each (λ v. of_pair tx part v ≡ false) cache
+
+-- the view with these versions beside the others, these marks, waiters and pairs
+abbrev pub with_parts : View → List Version → List ℕ → List Waiter → List (TxId × PartId) → View
+with_parts view vs marks ws done = record view { versions = vs; marks = marks; waiters = ws; done = done }
