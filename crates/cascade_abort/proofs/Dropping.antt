@@ -5,6 +5,7 @@ use Rattle.std.specs.Prelude.{slice_index_or}
 use Rattle.cache_partition.specs.CacheLists.{IsCached}
 use Rattle.cascade_abort.specs.Removal.{AllWritten}
 use Rattle.partition_map.specs.Maps.{PartitionMap, is_written, part_of}
+use Rattle.replica_store.proofs.MergedChanges.{none_out}
 use Rattle.replica_store.specs.StoreLists.{LiesIn}
 use Rattle.str_base.specs.declared.names.NodeId.{NodeId}
 use Rattle.str_base.specs.declared.names.PartId.{PartId}
@@ -16,11 +17,6 @@ use Rattle.version_chain.specs.ChainLists.{Each, is_among}
 use Rattle.version_chain.proofs.Each.{each_so}
 
 -- ---- none of a partition
-
--- a list of which none passes a test
-pub none_out : (test : Version → Bool) (vs : List Version) → Each (λ v. test v ≡ false) vs → without test vs ≡ vs
-none_out test [] e = refl
-none_out test (v ∷ vs) e = rw e.0 (ap (λ ws. v ∷ ws) (none_out test vs e.1))
 
 -- a version that is among partitions otherwise than this one is not in it
 other_part : (hosted : List PartId) (tx : TxId) (part : PartId) (b : Bool) (v : Version) → is_among hosted part ≡ not b → is_among hosted v.part ≡ b → of_pair tx part v ≡ false

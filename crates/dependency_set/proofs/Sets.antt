@@ -44,7 +44,7 @@ both-fit d ds es h = omega (arith, insert-length d (union ds es))
 -- ---- rising
 
 -- what holds of all and of one more
-all-insert : (P : Dep → Type 0) (d : Dep) (xs : List Dep) → P d → AllByRecursion P xs → AllByRecursion P (insert_dep d xs)
+pub all-insert : (P : Dep → Type 0) (d : Dep) (xs : List Dep) → P d → AllByRecursion P xs → AllByRecursion P (insert_dep d xs)
 all-insert P d [] p h = (p, tt)
 all-insert P d (x ∷ xs) p h = by_tests (all-insert P d xs p h.1) (nat_lt d.seq x.seq) (d.seq == x.seq)
   where
@@ -54,7 +54,7 @@ all-insert P d (x ∷ xs) p h = by_tests (all-insert P d xs p h.1) (nat_lt d.seq
     by_tests rec false false = (h.0, rec)
 
 -- what is above one number is above a lesser one
-all-above : (a b : ℕ) (xs : List Dep) → a < b → AllByRecursion (λ e. b < e.seq) xs → AllByRecursion (λ e. a < e.seq) xs
+pub all-above : (a b : ℕ) (xs : List Dep) → a < b → AllByRecursion (λ e. b < e.seq) xs → AllByRecursion (λ e. a < e.seq) xs
 all-above a b [] l h = tt
 all-above a b (x ∷ xs) l h = (omega (arith, h.0), all-above a b xs l h.1)
 
@@ -63,7 +63,7 @@ above : (m n : ℕ) → nat_lt m n ≡ false → (m == n) ≡ false → n < m
 above m n e f = search (rules, tests)
 
 -- with one more the list rises
-rising-insert : (d : Dep) (xs : List Dep) → IsRising xs → IsRising (insert_dep d xs)
+pub rising-insert : (d : Dep) (xs : List Dep) → IsRising xs → IsRising (insert_dep d xs)
 rising-insert d [] h = (tt, tt)
 rising-insert d (x ∷ xs) h = by_tests (rising-insert d xs h.1) (nat_lt d.seq x.seq) (d.seq == x.seq) refl refl
   where
@@ -74,7 +74,7 @@ rising-insert d (x ∷ xs) h = by_tests (rising-insert d xs h.1) (nat_lt d.seq x
     by_tests rec false false e f = (all-insert (λ k. x.seq < k.seq) d xs (above d.seq x.seq e f) h.0, rec)
 
 -- both in one rise
-rising-union : (ds es : List Dep) → IsRising es → IsRising (union ds es)
+pub rising-union : (ds es : List Dep) → IsRising es → IsRising (union ds es)
 rising-union [] es h = h
 rising-union (d ∷ ds) es h = rising-insert d (union ds es) (rising-union ds es h)
 

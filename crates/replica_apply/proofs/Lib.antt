@@ -4,3 +4,5 @@ pub mod Evicting
 pub mod Keeping
 pub mod Agreeing
 pub mod Shown
+pub mod Ruling
+pub mod Placing

@@ -1,7 +1,7 @@
 -- What a view that shows the store becomes by a commit and by an abort.
-use Rattle.std.proofs.Common.{Bool, List, [], ap, false, refl, sym, ℕ, ◌++◌, ◌∙◌, ◌∷◌, ◌≡◌}
+use Rattle.std.proofs.Common.{List, [], ap, sym, ℕ, ◌++◌, ◌∙◌, ◌∷◌, ◌≡◌}
 use Rattle.replica_apply.specs.Changes.{Rests, with_parts}
-use Rattle.replica_store.proofs.MergedChanges.{finalise_in_store, without_merged}
+use Rattle.replica_store.proofs.MergedChanges.{finalise_in_store, none_out, without_merged}
 use Rattle.str_base.specs.declared.names.PartId.{PartId}
 use Rattle.str_base.specs.declared.names.TxId.{TxId}
 use Rattle.str_base.specs.declared.names.Version.{Version}
@@ -11,12 +11,7 @@ use Rattle.str_model.specs.declared.names.KeyMark.{KeyMark}
 use Rattle.str_model.specs.Acts.{abort_came, commit_came, raise_all}
 use Rattle.str_model.specs.Steps.{drop_held}
 use Rattle.str_model.specs.Views.{Doing}
-use Rattle.version_chain.specs.ChainLists.{Each, IsOrdered, merged}
-
--- a list of which none passes a test
-none_out : (test : Version → Bool) (vs : List Version) → Each (λ v. test v ≡ false) vs → without test vs ≡ vs
-none_out test [] e = refl
-none_out test (v ∷ vs) e = rw e.0 (ap (λ ws. v ∷ ws) (none_out test vs e.1))
+use Rattle.version_chain.specs.ChainLists.{IsOrdered, merged}
 
 module _ (tx : TxId) (part : PartId) (d : Doing) (vs : List Version) (r : Rests tx part d.view vs) (o : IsOrdered vs) (done new_done : List (TxId × PartId))
     (e : d.view.done ≡ done) (n : new_done ≡ done ++ (tx, part) ∷ []) where

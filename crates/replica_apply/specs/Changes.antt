@@ -44,3 +44,7 @@ pub record Rests (tx : TxId) (part : PartId) (view : View) (vs : List Version) :
 -- the view with these versions beside the others, these marks, waiters and pairs
 abbrev pub with_parts : View → List Version → List ℕ → List Waiter → List (TxId × PartId) → View
 with_parts view vs marks ws done = record view { versions = vs; marks = marks; waiters = ws; done = done }
+
+-- the view with these versions
+abbrev pub with_versions : View → List Version → View
+with_versions view vs = record view { versions = vs }

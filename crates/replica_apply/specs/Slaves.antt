@@ -1,11 +1,12 @@
 -- What a slave decides of a Replicate by the versions and marks of the keys that it hosts.
 use Rattle.std.specs.List.{list_any}
-use Rattle.std.specs.Prelude.{Bool, List, None, Option, Some, [], if◌then◌else◌, is_some, min, nat_lt, not, suc, zero, ℕ, ◌&&◌, ◌+◌, ◌++◌, ◌<◌, ◌==◌, ◌||◌, ◌∷◌, ◌≡◌}
+use Rattle.std.specs.Prelude.{Bool, List, None, Option, Some, [], false, if◌then◌else◌, is_some, min, nat_lt, not, slice_get, suc, zero, ℕ, ◌&&◌, ◌+◌, ◌++◌, ◌-◌, ◌<◌, ◌==◌, ◌||◌, ◌∷◌, ◌≡◌}
 use Rattle.partition_map.specs.Maps.{PartitionMap, hosts, leads, replicas}
 use Rattle.prepare_master.specs.MasterTurns.{below_limit, proposal}
 use Rattle.replica_apply.specs.declared.slaves.Evicted.{Evicted}
 use Rattle.replica_apply.specs.declared.slaves.SlaveTurn.{SlaveTurn}
 use Rattle.replica_apply.specs.declared.slaves.SlaveTurn.TheVariants.{Ignore, Take}
+use Rattle.str_base.specs.declared.names.Cause.TheVariants.{Conflict as ByConflict}
 use Rattle.str_base.specs.declared.names.NodeId.{NodeId}
 use Rattle.str_base.specs.declared.names.PartId.{PartId}
 use Rattle.str_base.specs.declared.names.TxId.{TxId}
@@ -13,9 +14,11 @@ use Rattle.str_base.specs.declared.names.Version.{Version}
 use Rattle.str_base.specs.declared.names.Write.{Write}
 use Rattle.str_base.specs.Versions.{is_local, of_pair, of_tx, same_node, without}
 use Rattle.str_model.specs.declared.messages.Arrived.{Arrived}
+use Rattle.str_model.specs.Acts.{aborted, taken}
 use Rattle.str_model.specs.Arrivals.{held_key}
-use Rattle.str_model.specs.Proposals.{is_pair, proposed, takes}
-use Rattle.str_model.specs.Views.{View}
+use Rattle.str_model.specs.Proposals.{is_pair}
+use Rattle.str_model.specs.Scripts.{at_own}
+use Rattle.str_model.specs.Views.{Doing, Own, View, is_decided}
 use Rattle.str_scene.specs.Scenes.{Here}
 
 -- the Replicate is for this slave and comes for the first time
@@ -94,8 +97,24 @@ pub record IsDecided (new : Bool) (node : NodeId) (vs : List Version) (marks : L
   pub taken : taken_at turn ≡ (if new then after_evictions node vs marks a es else None)
   pub evicted : evicted_by turn ≡ (if is_some (taken_at turn) then es else [])
 
--- what a view says of a Replicate: whether it is taken, which keys are held, and the timestamp after evictions; the same as the store
-pub record Agrees (new : Bool) (here : Here) (view : View) (node : NodeId) (vs : List Version) (marks : List ℕ) (a : Arrived) : Type 0 where
-  pub taken : takes here view a ≡ new
-  pub held : (tx : TxId) → held_key view.versions tx a.writes ≡ held_key vs tx a.writes
-  pub after : (es : List Evicted) → below_limit (proposed (record view { versions = without (is_evicted node es) view.versions }) a) ≡ after_evictions node vs marks a es
+-- ---- the rule of a Replicate
+
+-- each transaction of the node with a Local version of one of the keys is an undecided own one
+abbrev pub HeldByOpen : Here → View → List Write → Type 0
+HeldByOpen here view ws =
+    (q : ℕ) (w : Write) → held_key view.versions (named here.node q) ws ≡ Some w
+    → (i : ℕ) × (x : Own) × (q ≡ i + 1) × (slice_get view.own i ≡ Some x) × (is_decided x.phase ≡ false)
+
+-- an own transaction is evicted: it conflicts with what arrived at this key
+abbrev pub evict_one : Here → Arrived → Evicted → Doing → Doing
+evict_one here a e d = at_own (e.seq - 1) (λ x. aborted here (e.seq - 1) (ByConflict a.tx e.key here.node) x) d
+
+-- own transactions are evicted, in this order
+abbrev pub evict_all : Here → Arrived → List Evicted → Doing → Doing
+evict_all here a [] d = d
+evict_all here a (e ∷ es) d = evict_all here a es (evict_one here a e d)
+
+-- what a Replicate comes to is done: the evictions, and then it is taken
+abbrev pub slave_done : Here → Arrived → SlaveTurn → Doing → Option Doing
+slave_done here a Ignore d = None
+slave_done here a (Take ts evict) d = Some (taken here a ts.0 (evict_all here a evict d))

@@ -101,7 +101,7 @@ pub decided_merged : (here : Here) (tx : TxId) (fc : ℕ) (cache store : List Ve
 decided_merged here tx fc cache store o p a f = settle_merged (is_hosted_of here tx) (of_tx tx) fc cache store o p a f
 
 -- a list of which none passes a test
-none_out : (test : Version → Bool) (vs : List Version) → Each (λ v. test v ≡ false) vs → without test vs ≡ vs
+pub none_out : (test : Version → Bool) (vs : List Version) → Each (λ v. test v ≡ false) vs → without test vs ≡ vs
 none_out test [] e = refl
 none_out test (v ∷ vs) e = rw e.0 (ap (λ ws. v ∷ ws) (none_out test vs e.1))
 

@@ -4,49 +4,15 @@ use Rattle.std.specs.List.{AllByRecursion}
 use Rattle.dependency_set.specs.declared.names.Dep.{Dep}
 use Rattle.dependency_set.specs.declared.snaps.OwnSnap.{OwnSnap}
 use Rattle.dependency_set.specs.Snapshots.{IsRising, IsSet, Snap, accept_local, insert_dep, union}
+use Rattle.dependency_set.proofs.Sets.{all-insert, rising-insert, rising-union}
 use Rattle.snapshot_read.specs.Shown.{AreNamed, IsNamed, OthersNamed, told}
 
--- ---- what holds of all, and the order
-
--- of one more
-all_insert : (P : Dep → Type 0) (d : Dep) (xs : List Dep) → P d → AllByRecursion P xs → AllByRecursion P (insert_dep d xs)
-all_insert P d [] p h = (p, tt)
-all_insert P d (x ∷ xs) p h = by_tests (all_insert P d xs p h.1) (nat_lt d.seq x.seq) (d.seq == x.seq)
-  where
-    by_tests : AllByRecursion P (insert_dep d xs) → (a b : Bool) → AllByRecursion P (if a then d ∷ x ∷ xs else (if b then x ∷ xs else x ∷ insert_dep d xs))
-    by_tests rec true b = (p, h)
-    by_tests rec false true = h
-    by_tests rec false false = (h.0, rec)
+-- ---- what holds of all
 
 -- of two lists
 all_union : (P : Dep → Type 0) (ds es : List Dep) → AllByRecursion P ds → AllByRecursion P es → AllByRecursion P (union ds es)
 all_union P [] es h k = k
-all_union P (d ∷ ds) es h k = all_insert P d (union ds es) h.0 (all_union P ds es h.1 k)
-
--- what is above one number is above a lesser one
-all_above : (a b : ℕ) (xs : List Dep) → a < b → AllByRecursion (λ e. b < e.seq) xs → AllByRecursion (λ e. a < e.seq) xs
-all_above a b [] l h = tt
-all_above a b (x ∷ xs) l h = (omega (arith, h.0), all_above a b xs l h.1)
-
--- neither below nor equal is above
-above : (m n : ℕ) → nat_lt m n ≡ false → (m == n) ≡ false → n < m
-above m n e f = search (rules, tests)
-
--- with one more the list rises
-rising_insert : (d : Dep) (xs : List Dep) → IsRising xs → IsRising (insert_dep d xs)
-rising_insert d [] h = (tt, tt)
-rising_insert d (x ∷ xs) h = by_tests (rising_insert d xs h.1) (nat_lt d.seq x.seq) (d.seq == x.seq) refl refl
-  where
-    by_tests : IsRising (insert_dep d xs) → (a b : Bool) → nat_lt d.seq x.seq ≡ a → (d.seq == x.seq) ≡ b
-        → IsRising (if a then d ∷ x ∷ xs else (if b then x ∷ xs else x ∷ insert_dep d xs))
-    by_tests rec true b e f = let l = ltb-true d.seq x.seq e in ((l, all_above d.seq x.seq xs l h.0), h)
-    by_tests rec false true e f = h
-    by_tests rec false false e f = (all_insert (λ k. x.seq < k.seq) d xs (above d.seq x.seq e f) h.0, rec)
-
--- both in one rise
-rising_union : (ds es : List Dep) → IsRising es → IsRising (union ds es)
-rising_union [] es h = h
-rising_union (d ∷ ds) es h = rising_insert d (union ds es) (rising_union ds es h)
+all_union P (d ∷ ds) es h k = all-insert P d (union ds es) h.0 (all_union P ds es h.1 k)
 
 -- ---- no more than are told of
 
@@ -112,11 +78,11 @@ no_more (x ∷ xs) ds r h = omega (arith, but_length x.seq ds, no_more xs (but x
 -- it is told of
 pub taken_named : (own : List OwnSnap) (q : ℕ) (snap of : Snap) → AreNamed own snap.deps → told own q ≡ Some of → OthersNamed own q → AreNamed own (accept_local snap q of).deps
 taken_named own q snap of d t o =
-    all_insert (λ e. IsNamed own e.seq) _ (union of.deps snap.deps) (rw t refl) (all_union (λ e. IsNamed own e.seq) of.deps snap.deps (o of t) d)
+    all-insert (λ e. IsNamed own e.seq) _ (union of.deps snap.deps) (rw t refl) (all_union (λ e. IsNamed own e.seq) of.deps snap.deps (o of t) d)
 
 -- so it fits
 pub taken_fits : (own : List OwnSnap) (q : ℕ) (snap of : Snap) → length own ≤ 15 → IsSet snap.deps → AreNamed own snap.deps → told own q ≡ Some of → OthersNamed own q
     → length (accept_local snap q of).deps ≤ 15
 taken_fits own q snap of f s d t o =
     let all = (accept_local snap q of).deps in
-    omega (arith, f, no_more own all (rising_insert _ (union of.deps snap.deps) (rising_union of.deps snap.deps s.rising)) (taken_named own q snap of d t o))
+    omega (arith, f, no_more own all (rising-insert _ (union of.deps snap.deps) (rising-union of.deps snap.deps s.rising)) (taken_named own q snap of d t o))
