@@ -1,11 +1,11 @@
 -- The first dependency that decides, and the look of the model at the dependencies.
-use Rattle.std.proofs.Common.{Bool, List, None, Option, Some, [], append-nil, ap, arith, cond, drop, false, filter, find, if◌then◌else◌, length, map, max, nat_lt, not, refl, slice_get, suc, sym, take, true, zero, ℕ, ◌+◌, ◌∙◌, ◌∷◌, ◌≡◌}
+use Rattle.std.proofs.Common.{Bool, List, None, Option, Some, [], ap, arith, cond, drop, false, filter, find, if◌then◌else◌, map, max, nat_lt, not, refl, slice_get, suc, sym, take, true, zero, ℕ, ◌++◌, ◌+◌, ◌∙◌, ◌∷◌, ◌≡◌}
 use Rattle.std.proofs.lemmas.List.Folds.{find_at}
 use Rattle.std.specs.List.{position_or_len}
 use Rattle.cascade_abort.specs.declared.fates.DepTurn.{DepTurn}
 use Rattle.cascade_abort.specs.declared.fates.DepTurn.TheVariants.{Keep, Late, Lost}
 use Rattle.cascade_abort.specs.declared.fates.Fate.{Fate}
-use Rattle.cascade_abort.specs.Fates.{Names, NoDecider, decides, decides_at, fate_of, fc_at, fc_or_zero, left, stays, stays_at, told, told_by, turn_of}
+use Rattle.cascade_abort.specs.Fates.{Names, decides, decides_at, fate_of, fc_at, fc_or_zero, left, stays, stays_at, told, told_by, turn_of}
 use Rattle.dependency_set.specs.declared.names.Dep.{Dep}
 use Rattle.dependency_set.specs.Snapshots.{Snap}
 use Rattle.str_base.specs.declared.names.Ts.{Ts}
@@ -84,14 +84,34 @@ module _ (fates : List Fate) (rs : ℕ) (ds : List Dep) (r : DepTurn) where
 
 -- ---- the look of the model
 
--- a snapshot with all that committed gone from it
-abbrev whole : List Fate → ℕ → List Dep → ℕ → Snap
-whole fates rs ds ffc = record { rs = rs; ffc = max ffc (greatest (map (fc_at fates) ds)); deps = filter (stays_at fates) ds }
+-- the snapshot that is left where the first n dependencies were looked at
+abbrev left_at : List Fate → ℕ → ℕ → List Dep → ℕ → Snap
+left_at fates rs n ds ffc =
+    record { rs = rs; ffc = max ffc (greatest (map (fc_at fates) (take n ds))); deps = filter (stays_at fates) (take n ds) ++ drop n ds }
+
+-- the same, where the first of them had this fate
+abbrev left_more : List Fate → ℕ → ℕ → Dep → List Dep → ℕ → Turns.Fate → Snap
+left_more fates rs n d ds ffc f =
+    record {
+      rs = rs;
+      ffc = max ffc (max (fc_or_zero f) (greatest (map (fc_at fates) (take n ds))));
+      deps = (if stays f then d ∷ filter (stays_at fates) (take n ds) else filter (stays_at fates) (take n ds)) ++ drop n ds;
+    }
+
+more_left : (fates : List Fate) (rs n : ℕ) (d : Dep) (ds : List Dep) (ffc : ℕ) (f : Turns.Fate) → fate_of fates d.seq ≡ f
+    → left_at fates rs (1 + n) (d ∷ ds) ffc ≡ left_more fates rs n d ds ffc f
+more_left fates rs n d ds ffc f q = ap (λ m. left_at fates rs m (d ∷ ds) ffc) (one_more n) ∙ ap (left_more fates rs n d ds ffc) q
+  where
+    one_more : (n : ℕ) → 1 + n ≡ suc n
+    one_more n = omega arith
 
 kept_also : (d : Dep) (t : DepTurn) (s : Snap) → keep_also d (turn_of t s) ≡ turn_of t (record s { deps = d ∷ s.deps })
 kept_also d Keep s = refl
 kept_also d (Lost q) s = refl
 kept_also d (Late q fc) s = refl
+
+max_nothing : (n : ℕ) → n ≡ max n 0
+max_nothing n = grind arith
 
 max_zero : (m n : ℕ) → max m n ≡ max m (max 0 n)
 max_zero m n = grind arith
@@ -101,81 +121,34 @@ max_max a b c = grind arith
 
 -- the model looks at them one by one
 resolved : (own : List Own) (fates : List Fate) (rs : ℕ) (ds : List Dep) (ffc : ℕ) → Names own ds fates
-    → resolve_all own rs ds ffc ≡ turn_of (told fates (find (decides_at fates rs) ds)) (whole fates rs ds ffc)
-resolved own fates rs [] ffc h = ap (λ n. Turns.Keep n []) (sym (max_nothing ffc))
-  where
-    max_nothing : (n : ℕ) → max n 0 ≡ n
-    max_nothing n = grind arith
+    → resolve_all own rs ds ffc ≡ turn_of (told fates (find (decides_at fates rs) ds)) (left_at fates rs (position_or_len (decides_at fates rs) ds) ds ffc)
+resolved own fates rs [] ffc h = ap (λ n. Turns.Keep n []) (max_nothing ffc)
 resolved own fates rs (d ∷ ds) ffc h =
-    ap (by_fate rs d ffc (λ f. resolve_all own rs ds f)) (sym (h 0 d refl)) ∙ by_first (fate_of fates d.seq) refl (λ f. resolved own fates rs ds f (λ i e g. h (suc i) e g))
+    ap (by_fate rs d ds ffc (λ f. resolve_all own rs ds f)) (sym (h 0 d refl))
+    ∙ by_first (find (decides_at fates rs) ds) (position_or_len (decides_at fates rs) ds) (fate_of fates d.seq) refl (λ f. resolved own fates rs ds f (λ i e g. h (suc i) e g))
   where
-    by_first : (f : Turns.Fate) → fate_of fates d.seq ≡ f → ((n : ℕ) → resolve_all own rs ds n ≡ turn_of (told fates (find (decides_at fates rs) ds)) (whole fates rs ds n))
-        → by_fate rs d ffc (λ n. resolve_all own rs ds n) f
-        ≡ turn_of (told fates (cond (decides rs f) (Some d) (find (decides_at fates rs) ds)))
-        (record {
-          rs = rs;
-          ffc = max ffc (max (fc_or_zero f) (greatest (map (fc_at fates) ds)));
-          deps = if stays f then d ∷ filter (stays_at fates) ds else filter (stays_at fates) ds;
-        })
-    by_first Open q rec =
-        ap (keep_also d) (rec ffc) ∙ kept_also d (told fates (find (decides_at fates rs) ds)) (whole fates rs ds ffc)
-        ∙ ap (λ n. turn_of (told fates (find (decides_at fates rs) ds)) (record { rs = rs; ffc = n; deps = d ∷ filter (stays_at fates) ds }))
-        (max_zero ffc (greatest (map (fc_at fates) ds)))
-    by_first Gone q rec =
-        ap
-        (λ f. turn_of (told_by d.seq f)
-        (record { rs = rs; ffc = max ffc (max 0 (greatest (map (fc_at fates) ds))); deps = d ∷ filter (stays_at fates) ds })) (sym q)
-    by_first (CommittedAt fc) q rec = by_test (nat_lt rs fc)
+    by_first : (o : Option Dep) (n : ℕ) (f : Turns.Fate) → fate_of fates d.seq ≡ f → ((g : ℕ) → resolve_all own rs ds g ≡ turn_of (told fates o) (left_at fates rs n ds g))
+        → by_fate rs d ds ffc (λ g. resolve_all own rs ds g) f
+        ≡ turn_of (told fates (cond (decides rs f) (Some d) o)) (left_at fates rs (cond (not (decides rs f)) (1 + n) 0) (d ∷ ds) ffc)
+    by_first o n Open q rec =
+        ap (keep_also d) (rec ffc) ∙ (kept_also d (told fates o) (left_at fates rs n ds ffc)
+        ∙ (ap (λ g. turn_of (told fates o) (record (left_at fates rs n ds ffc) { ffc = g; deps = d ∷ (left_at fates rs n ds ffc).deps })) (max_zero ffc (greatest (map (fc_at fates) (take n ds))))
+        ∙ ap (turn_of (told fates o)) (sym (more_left fates rs n d ds ffc Open q))))
+    by_first o n Gone q rec =
+        ap (λ g. Turns.Lost d.seq g (d ∷ ds)) (max_nothing ffc) ∙ ap (λ f. turn_of (told_by d.seq f) (left_at fates rs 0 (d ∷ ds) ffc)) (sym q)
+    by_first o n (CommittedAt fc) q rec = by_test (nat_lt rs fc)
       where
-        by_test : (b : Bool) → (if b then Turns.Late d.seq fc else resolve_all own rs ds (max ffc fc))
-            ≡ turn_of (told fates (cond b (Some d) (find (decides_at fates rs) ds)))
-            (record { rs = rs; ffc = max ffc (max fc (greatest (map (fc_at fates) ds))); deps = filter (stays_at fates) ds })
+        by_test : (b : Bool) → (if b then Turns.Late d.seq fc ffc (d ∷ ds) else resolve_all own rs ds (max ffc fc))
+            ≡ turn_of (told fates (cond b (Some d) o)) (left_at fates rs (cond (not b) (1 + n) 0) (d ∷ ds) ffc)
         by_test true =
-            ap
-            (λ f. turn_of (told_by d.seq f)
-            (record { rs = rs; ffc = max ffc (max fc (greatest (map (fc_at fates) ds))); deps = filter (stays_at fates) ds })) (sym q)
+            ap (λ g. Turns.Late d.seq fc g (d ∷ ds)) (max_nothing ffc) ∙ ap (λ f. turn_of (told_by d.seq f) (left_at fates rs 0 (d ∷ ds) ffc)) (sym q)
         by_test false =
             rec (max ffc fc)
-            ∙ ap (λ n. turn_of (told fates (find (decides_at fates rs) ds)) (record { rs = rs; ffc = n; deps = filter (stays_at fates) ds }))
-            (max_max ffc fc (greatest (map (fc_at fates) ds)))
-
-place_of_none : (p : Dep → Bool) (ds : List Dep) → find p ds ≡ None → position_or_len p ds ≡ length ds
-place_of_none p [] e = refl
-place_of_none p (d ∷ ds) e = by_test (p d) e (λ k. place_of_none p ds k)
-  where
-    by_test : (b : Bool) → cond b (Some d) (find p ds) ≡ None → (find p ds ≡ None → position_or_len p ds ≡ length ds) → cond (not b) (1 + position_or_len p ds) 0 ≡ length (d ∷ ds)
-    by_test true q rec = absurd (cc q)
-    by_test false q rec = omega (arith, rec q)
-
-all_of : (ds : List Dep) → take (length ds) ds ≡ ds
-all_of [] = refl
-all_of (d ∷ ds) = ap (λ es. d ∷ es) (all_of ds)
-
-none_of : (ds : List Dep) → drop (length ds) ds ≡ []
-none_of [] = refl
-none_of (d ∷ ds) = none_of ds
-
--- where none decides all were looked at
-left_whole : (fates : List Fate) (snap : Snap) → NoDecider fates snap → whole fates snap.rs snap.deps snap.ffc ≡ left fates snap
-left_whole fates snap e =
-    let n : position_or_len (decides_at fates snap.rs) snap.deps ≡ length snap.deps = place_of_none (decides_at fates snap.rs) snap.deps e in
-    rw (n, all_of snap.deps, none_of snap.deps, append-nil (filter (stays_at fates) snap.deps)) refl
-
-turn_left : (fates : List Fate) (snap : Snap) → turn_of (told fates (find (decides_at fates snap.rs) snap.deps)) (whole fates snap.rs snap.deps snap.ffc)
-    ≡ turn_of (told fates (find (decides_at fates snap.rs) snap.deps)) (left fates snap)
-turn_left fates snap = by_found (find (decides_at fates snap.rs) snap.deps) refl
-  where
-    by_fate_of : (d : Dep) (f : Turns.Fate) → decides snap.rs f ≡ true → turn_of (told_by d.seq f) (whole fates snap.rs snap.deps snap.ffc) ≡ turn_of (told_by d.seq f) (left fates snap)
-    by_fate_of d Open t = absurd (cc t)
-    by_fate_of d Gone t = refl
-    by_fate_of d (CommittedAt fc) t = refl
-
-    by_found : (o : Option Dep) → find (decides_at fates snap.rs) snap.deps ≡ o → turn_of (told fates o) (whole fates snap.rs snap.deps snap.ffc) ≡ turn_of (told fates o) (left fates snap)
-    by_found None e = ap (turn_of Keep) (left_whole fates snap e)
-    by_found (Some d) e = by_fate_of d (fate_of fates d.seq) (passes (decides_at fates snap.rs) snap.deps d e)
+            ∙ (ap (λ g. turn_of (told fates o) (record (left_at fates rs n ds ffc) { ffc = g })) (max_max ffc fc (greatest (map (fc_at fates) (take n ds))))
+            ∙ ap (turn_of (told fates o)) (sym (more_left fates rs n d ds ffc (CommittedAt fc) q)))
 
 -- the turn and what is left are those of the model
 pub own_turn : (fates : List Fate) (snap new : Snap) (r : DepTurn) → r ≡ told fates (find (decides_at fates snap.rs) snap.deps) → new ≡ left fates snap
     → (own : List Own) → Names own snap.deps fates → turn_of r new ≡ dep_turn own snap
 unfolding dep_turn
-own_turn fates snap new r e f own h = rw (e, f) (sym (turn_left fates snap) ∙ sym (resolved own fates snap.rs snap.deps snap.ffc h))
+own_turn fates snap new r e f own h = rw (e, f) (sym (resolved own fates snap.rs snap.deps snap.ffc h))

@@ -107,5 +107,5 @@ told fates (Some d) = told_by d.seq (fate_of fates d.seq)
 -- a turn in the words of the model, with the snapshot that is left
 abbrev pub turn_of : DepTurn → Snap → Turns.DepTurn
 turn_of Keep snap = Turns.Keep snap.ffc snap.deps
-turn_of (Lost q) snap = Turns.Lost q
-turn_of (Late q fc) snap = Turns.Late q fc.0
+turn_of (Lost q) snap = Turns.Lost q snap.ffc snap.deps
+turn_of (Late q fc) snap = Turns.Late q fc.0 snap.ffc snap.deps

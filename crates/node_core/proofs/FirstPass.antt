@@ -6,7 +6,7 @@ use Rattle.str_model.specs.Gates.{dep_parts, gate_deps, gate_turn}
 use Rattle.str_model.specs.Pass.{again_own, close_free, close_own, close_phase, gate_done, gate_phase, gates, half_turn, is_empty, pass_to, resolve_own, resolved, turn}
 use Rattle.str_model.specs.Scripts.{at_own, of_own, unless_decided}
 use Rattle.str_model.specs.Steps.{after_rule}
-use Rattle.str_model.specs.Turns.{dep_turn, resolve_all}
+use Rattle.str_model.specs.Turns.{dep_turn, left_by, resolve_all}
 use Rattle.str_model.specs.Views.{Aborted, Active, CertWait, Closing, Committed, Doing, Global, Local, Own, Phase, ReadWait, Remote, Reply, is_decided, put}
 use Rattle.str_model.specs.Waiters.{wait_turns}
 use Rattle.str_scene.specs.Scenes.{Here}
@@ -39,7 +39,8 @@ put_same i x d e = ap (λ (xs : List Own). let r : Doing = record d { view = rec
 resolve_same : (here : Here) (i : ℕ) (x : Own) (d : Doing) → slice_get d.view.own i ≡ Some x → x.snap.deps ≡ [] → resolve_own here i x d ≡ d
 unfolding dep_turn
 resolve_same here i x d e n =
-    ap (λ ds. resolved here i x (resolve_all d.view.own x.snap.rs ds x.snap.ffc) d) n
+    ap
+    (λ ds. let t = resolve_all d.view.own x.snap.rs ds x.snap.ffc in let y : Own = record x { snap = left_by t x.snap } in resolved here i y t (put i y d)) n
     ∙ (ap (λ ds. put i (record x { snap = record (x.snap) { deps = ds } }) d) (sym n) ∙ put_same i x d e)
 
 -- nothing is done where f does nothing

@@ -33,11 +33,12 @@ use Rattle.str_model.specs.Views.{Aborted, Active, CertWait, Closing, Committed,
 use Rattle.str_model.proofs.Acting.{Comes}
 use Rattle.str_model.proofs.Gaining.{if_elim}
 use Rattle.str_model.proofs.Lists.{get_set}
+use Rattle.str_model.proofs.Looking.{after_look}
 
 -- why the p-th own transaction, which stood like x at a moment d, has aborted at the next one
 pub data AbortedBy (here : Here) (input : Input) (d : Doing) (p : ℕ) (x : Own) (cause : Cause) : Type 0 where
-  ab_lost : (q : ℕ) → dep_turn d.view.own x.snap ≡ Lost q → IsLost (record { node = here.node; seq = q }) ≡ cause → AbortedBy here input d p x cause
-  ab_late : (q fc : ℕ) → dep_turn d.view.own x.snap ≡ Late q fc → IsLate (record { node = here.node; seq = q }) (stamp fc) ≡ cause → AbortedBy here input d p x cause
+  ab_lost : (q f : ℕ) (es : List Dep) → dep_turn d.view.own x.snap ≡ Lost q f es → IsLost (record { node = here.node; seq = q }) ≡ cause → AbortedBy here input d p x cause
+  ab_late : (q fc f : ℕ) (es : List Dep) → dep_turn d.view.own x.snap ≡ Late q fc f es → IsLate (record { node = here.node; seq = q }) (stamp fc) ≡ cause → AbortedBy here input d p x cause
   ab_met : (snap : Snap) (u : TxId) (k : KeyId) → snap.rs ≡ x.snap.rs → (v : View) → v.versions ≡ d.view.versions → cert_turn here v snap x.writes ≡ Conflict u k → ByConflict u k here.node ≡ cause → AbortedBy here input d p x cause
   ab_evicted : (from : NodeId) (a : Arrived) (w : Write) → Comes here input from (Replicate a.tx a.part a.rs a.lc a.writes) → held_key d.view.versions (name_of here p) a.writes ≡ Some w
       → ByConflict a.tx w.key here.node ≡ cause → AbortedBy here input d p x cause
@@ -141,19 +142,23 @@ module _ (here : Here) (input : Input) (p : ℕ) where
   again_by (Committed l f) d e x z lc cause y own op rs ws vs own' a = absurd (open_not e z own op y lc cause own' a)
   again_by (Aborted l c) d e x z lc cause y own op rs ws vs own' a = absurd (open_not e z own op y lc cause own' a)
 
+  -- the cause of one that has aborted before it would be tried again
+  left_cause : (c cause : Cause) (lc : Option ℕ) (z y : Own) (d : Doing) → Owns d.view p z → Owns (Scripts.at_own p (λ u. Pass.again_own here p u.phase u) (aborted here p c z d)).view p y
+      → y.phase ≡ Aborted lc cause → c ≡ cause
+  left_cause c cause lc z y d own own' a =
+      let e : Doing = aborted here p c z d in
+      let gone : Own = in_phase (Aborted (lc_of z.phase) c) z in
+      aborted_cause c cause lc z y d own (subst (λ (u : Doing). Owns u.view p y) (at_own_decided (λ u. Pass.again_own here p u.phase u) e gone (aborted_owns c z d own) refl) own') a
+
   -- up to the closing of its turn
   resolved_by : (t : DepTurn) (d : Doing) (x : Own) (lc : Option ℕ) (cause : Cause) (y : Own) → Owns d.view p x → is_decided x.phase ≡ false → dep_turn d.view.own x.snap ≡ t
-      → Owns (Scripts.at_own p (λ z. Pass.again_own here p z.phase z) (Pass.resolved here p x t d)).view p y → y.phase ≡ Aborted lc cause → AbortedBy here input d p x cause
-  resolved_by (Lost q) d x lc cause y own op t own' a =
-      let c : Cause = IsLost (record { node = here.node; seq = q }) in
-      let e : Doing = aborted here p c x d in
-      let at : Owns e.view p (in_phase (Aborted (lc_of x.phase) c) x) = aborted_owns c x d own in
-      ab_lost q t (aborted_cause c cause lc x y d own (subst (λ (z : Doing). Owns z.view p y) (at_own_decided (λ z. Pass.again_own here p z.phase z) e (in_phase (Aborted (lc_of x.phase) c) x) at refl) own') a)
-  resolved_by (Late q fc) d x lc cause y own op t own' a =
-      let c : Cause = IsLate (record { node = here.node; seq = q }) (stamp fc) in
-      let e : Doing = aborted here p c x d in
-      let at : Owns e.view p (in_phase (Aborted (lc_of x.phase) c) x) = aborted_owns c x d own in
-      ab_late q fc t (aborted_cause c cause lc x y d own (subst (λ (z : Doing). Owns z.view p y) (at_own_decided (λ z. Pass.again_own here p z.phase z) e (in_phase (Aborted (lc_of x.phase) c) x) at refl) own') a)
+      → Owns (Scripts.at_own p (λ z. Pass.again_own here p z.phase z) (after_look here p x t d)).view p y → y.phase ≡ Aborted lc cause → AbortedBy here input d p x cause
+  resolved_by (Lost q ffc ds) d x lc cause y own op t own' a =
+      let z : Own = record x { snap = record (x.snap) { ffc = ffc; deps = ds } } in
+      ab_lost q ffc ds t (left_cause (IsLost (record { node = here.node; seq = q })) cause lc z y (put p z d) (get_set d.view.own p x z own) own' a)
+  resolved_by (Late q fc ffc ds) d x lc cause y own op t own' a =
+      let z : Own = record x { snap = record (x.snap) { ffc = ffc; deps = ds } } in
+      ab_late q fc ffc ds t (left_cause (IsLate (record { node = here.node; seq = q }) (stamp fc)) cause lc z y (put p z d) (get_set d.view.own p x z own) own' a)
   resolved_by (Keep ffc ds) d x lc cause y own op t own' a =
       let z : Own = record x { snap = record (x.snap) { ffc = ffc; deps = ds } } in
       let e : Doing = put p z d in

@@ -3,25 +3,22 @@ use Rattle.si_laws.proofs.Grounds.{Committer, Grounds, committer, grounds_step}
 use Rattle.si_laws.proofs.GuardReads.{Guarded, guarded_opening, guarded_step}
 use Rattle.si_laws.proofs.Guards.{committed_up}
 use Rattle.si_laws.proofs.Linked.{one_of}
-use Rattle.si_laws.proofs.Owners.{same_own}
 use Rattle.si_laws.proofs.Preceding.{Precedes, in_event, lower_first, new_released, precedes_across, precedes_event, precedes_right}
 use Rattle.si_laws.proofs.Reporting.{CommittedIn, ReadOk, ro_committed, ro_gone, ro_listed}
 use Rattle.si_laws.proofs.WishOrigins.{HasWished, WishOrigin, wish_origin, wo_now, wo_old, wo_stop}
-use Rattle.std.proofs.Common.{Bool, List, None, Option, Some, [], ap, append-nil, arith, false, if◌then◌else◌, inl, inr, nat_lt, refl, replicate, slice_get, slice_set, subst, subst₂, suc, sym, true, zero, ℕ, ◌++◌, ◌+◌, ◌<◌, ◌∙◌, ◌∷◌, ◌≡◌, ◌≢◌, ◌≤◌, ◌⊎◌, ltb-true, ltb-false}
-use Rattle.str_base.specs.declared.names.Cause.TheVariants.{Wish}
+use Rattle.std.proofs.Common.{List, Option, Some, ap, arith, false, inl, inr, replicate, slice_get, slice_set, subst, sym, true, ℕ, ◌++◌, ◌+◌, ◌<◌, ◌∙◌, ◌≡◌, ◌≢◌, ◌≤◌, ◌⊎◌}
 use Rattle.str_base.specs.declared.names.TxId.{TxId}
 use Rattle.str_model.proofs.Acting.{Act, Where}
 use Rattle.str_model.proofs.Along.{StepPath, step-keeps}
 use Rattle.str_model.proofs.Everywhere.{IsSeen, Stage, at_place, during, during_start, stage_of, steps_everywhere}
-use Rattle.str_model.proofs.Gaining.{Names}
 use Rattle.str_model.proofs.Lists.{get_set, get_set_other, got_push, got_replicate, got_set}
-use Rattle.str_model.proofs.Members.{In, in_append, in_left, in_right}
-use Rattle.str_model.proofs.Telling.{Rising, TellStep, in_release, r_more, r_none, release-rising, t_begins, t_decides, t_goes, t_rests, tell_step, told}
+use Rattle.str_model.proofs.Members.{In, in_append, in_right}
+use Rattle.str_model.proofs.Telling.{Rising, TellStep, in_release, r_none, release-rising, t_begins, t_decides, t_goes, t_rests, tell_step, told}
 use Rattle.str_model.specs.Acts.{fresh}
 use Rattle.str_model.specs.Owned.{Owns}
 use Rattle.str_model.specs.Runs.{opening, opening_view, run}
 use Rattle.str_model.specs.Scripts.{own_op}
-use Rattle.str_model.specs.Views.{Aborted, Committed, Doing, Own, View, is_decided, lc_of, name_of, release, starts}
+use Rattle.str_model.specs.Views.{Committed, Doing, Own, View, is_decided, lc_of, release, starts}
 use Rattle.str_model.specs.declared.messages.Answer.{Answer}
 use Rattle.str_model.specs.declared.messages.Input.{Input}
 use Rattle.str_model.specs.declared.names.ReadDone.{ReadDone}

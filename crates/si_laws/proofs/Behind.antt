@@ -5,15 +5,15 @@ use Rattle.si_laws.proofs.Causes.{found_in}
 use Rattle.si_laws.proofs.Grounds.{Committer, Grounds, committer}
 use Rattle.si_laws.proofs.Linked.{one_certified, one_of}
 use Rattle.si_laws.proofs.Mastering.{AreDistinct, one_write}
-use Rattle.si_laws.proofs.Newest.{NoneBetween, newest_none, newest_some}
+use Rattle.si_laws.proofs.Newest.{NoneBetween, newest_some}
 use Rattle.si_laws.proofs.Origins.{HasWritten}
 use Rattle.si_laws.proofs.Reporting.{CommittedIn}
 use Rattle.si_laws.proofs.SessionAnswers.{entry, session_holds}
 use Rattle.si_laws.proofs.SessionLaw.{good_everywhere}
-use Rattle.si_laws.proofs.Stages.{any_has, has_at}
+use Rattle.si_laws.proofs.Stages.{any_has}
 use Rattle.si_laws.specs.Commits.{wrote_key}
 use Rattle.si_laws.specs.SnapshotIsolation.{IsAnswer, IsCommittedAt}
-use Rattle.std.proofs.Common.{Bool, List, None, Option, Some, [], ap, arith, eq-eqb, eqb-true, false, find, inl, inr, option_map, refl, slice_get, subst, subst₂, suc, sym, take, true, zero, ℕ, ◌++◌, ◌+◌, ◌<◌, ◌∙◌, ◌∷◌, ◌≡◌, ◌≢◌, ◌≤◌, ◌⊎◌}
+use Rattle.std.proofs.Common.{List, None, Option, Some, [], ap, arith, eq-eqb, eqb-true, find, inl, inr, option_map, refl, slice_get, subst, subst₂, suc, sym, take, true, zero, ℕ, ◌<◌, ◌∙◌, ◌∷◌, ◌≡◌, ◌≤◌}
 use Rattle.str_base.specs.Versions.{same_key, stamp}
 use Rattle.str_base.specs.declared.names.KeyId.{KeyId}
 use Rattle.str_base.specs.declared.names.Ts.{Ts}
@@ -25,12 +25,11 @@ use Rattle.str_model.proofs.Gaining.{find_none}
 use Rattle.str_model.proofs.Members.{In, at_in}
 use Rattle.str_model.proofs.Telling.{outcome_of, told}
 use Rattle.str_model.specs.Owned.{Owns}
-use Rattle.str_model.specs.Runs.{World, run}
-use Rattle.str_model.specs.Turns.{CommittedAt, own_fate, phase_fate}
+use Rattle.str_model.specs.Runs.{run}
+use Rattle.str_model.specs.Turns.{own_fate, phase_fate}
 use Rattle.str_model.specs.Views.{Aborted, Active, CertWait, Closing, Committed, Global, Local, Own, Phase, ReadWait, Remote, Reply, View, is_decided, lc_of, name_of}
 use Rattle.str_model.specs.declared.messages.Answer.{Answer}
-use Rattle.str_model.specs.declared.messages.Outcome.TheVariants.{Aborted as Aborts, Committed as Commits}
-use Rattle.str_model.specs.declared.messages.Outcome.{Outcome}
+use Rattle.str_model.specs.declared.messages.Outcome.TheVariants.{Committed as Commits}
 use Rattle.str_model.specs.declared.names.Got.{Got}
 use Rattle.str_model.specs.declared.names.ReadDone.{ReadDone}
 use Rattle.str_scene.specs.SceneLimits.{IsScene}

@@ -75,12 +75,12 @@ resolve_all-open own rs (d ∷ ds) ffc f es e x h =
   where
     by_fate-open : (t : Turns.Fate) → own_fate (slice_get own (d.seq - 1)) ≡ t
         → ((g : ℕ) (es' : List Dep) → Turns.resolve_all own rs ds g ≡ Keep f es' → In x es' → own_fate (slice_get own (x.seq - 1)) ≡ Turns.Open)
-        → Turns.by_fate rs d ffc (λ g. Turns.resolve_all own rs ds g) t ≡ Keep f es → In x es → own_fate (slice_get own (x.seq - 1)) ≡ Turns.Open
+        → Turns.by_fate rs d ds ffc (λ g. Turns.resolve_all own rs ds g) t ≡ Keep f es → In x es → own_fate (slice_get own (x.seq - 1)) ≡ Turns.Open
     by_fate-open Turns.Open is rec q k = kept_also (Turns.resolve_all own rs ds ffc) refl q k
       where
         kept_also : (r : DepTurn) → Turns.resolve_all own rs ds ffc ≡ r → Turns.keep_also d r ≡ Keep f es → In x es → own_fate (slice_get own (x.seq - 1)) ≡ Turns.Open
-        kept_also (Lost a) p q k = absurd (cc q)
-        kept_also (Late a b) p q k = absurd (cc q)
+        kept_also (Lost a g gs) p q k = absurd (cc q)
+        kept_also (Late a b g gs) p q k = absurd (cc q)
         kept_also (Keep a bs) p q k =
             let same : d ∷ bs ≡ es = cc q in
             let f' : a ≡ f = cc q in
@@ -88,7 +88,7 @@ resolve_all-open own rs (d ∷ ds) ffc f es e x h =
     by_fate-open Turns.Gone is rec q k = absurd (cc q)
     by_fate-open (Turns.CommittedAt fc) is rec q k = by_test (nat_lt rs fc) q k
       where
-        by_test : (b : Bool) → (if b then Late d.seq fc else Turns.resolve_all own rs ds (max ffc fc)) ≡ Keep f es → In x es → own_fate (slice_get own (x.seq - 1)) ≡ Turns.Open
+        by_test : (b : Bool) → (if b then Late d.seq fc ffc (d ∷ ds) else Turns.resolve_all own rs ds (max ffc fc)) ≡ Keep f es → In x es → own_fate (slice_get own (x.seq - 1)) ≡ Turns.Open
         by_test true q k = absurd (cc q)
         by_test false q k = rec (max ffc fc) es q k
 

@@ -67,7 +67,7 @@ module _ (here : Here) (input : Input) (w : Where) where
     read_new v snap k a by new h f (to_local u s q) = subst (λ t. TurnBelow b t) q (read_below b v h here snap k f)
 
     change_new : (d : Doing) (i : ℕ) (x y : Own) → ViewBelow b d.view → OwnBelow b x → Change here input d i x y → New x y
-    change_new d i x y h o (ch_resolve ffc ds e) = record { ffc = subst (λ t. DepBelow b t) e (dep_below b d.view h x.snap o.ffc); finals = o.finals }
+    change_new d i x y h o (ch_resolve t e) = record { ffc = subst (DepBelow b) e (dep_below b d.view h x.snap o.ffc); finals = o.finals }
     change_new d i x y h o (ch_known op k a e p n q) = kept_new x x (finish op a x) (finish-keeps op a x) o.ffc o.finals
     change_new d i x y h o (ch_blind op a e p n) = kept_new x x (finish op a x) (finish-keeps op a x) o.ffc o.finals
     change_new d i x y h o (ch_read k a by snap r m t) =

@@ -1,5 +1,5 @@
 -- Times below a bound, and that what a turn decides from such times is below it too.
-use Rattle.std.proofs.Common.{List, None, Option, Some, [], arith, find, inl, inr, max, nat_lt, refl, slice_get, slice_index, suc, zero, ℕ, ◌+◌, ◌-◌, ◌<◌, ◌∷◌, ◌≡◌, ◌≤◌}
+use Rattle.std.proofs.Common.{List, None, Option, Some, [], arith, find, inl, inr, max, nat_lt, refl, slice_get, slice_index, subst, suc, sym, zero, ℕ, ◌+◌, ◌-◌, ◌<◌, ◌∷◌, ◌≡◌, ◌≤◌}
 use Rattle.std.specs.List.{last_or}
 use Rattle.dependency_set.specs.declared.names.Dep.{Dep}
 use Rattle.dependency_set.specs.Snapshots.{Snap, accept_final, holds, oldest}
@@ -17,13 +17,14 @@ use Rattle.str_base.specs.declared.names.Write.{Write}
 use Rattle.str_base.specs.Versions.{chain, last_pre, last_undecided, mark_of, newest, same_key, visible}
 use Rattle.str_base.specs.Versions
 use Rattle.str_model.proofs.Gaining.{if_elim, in_last, visible-is}
+use Rattle.str_model.proofs.Looking.{ffc_also}
 use Rattle.str_model.proofs.Members.{In, in_at, in_filter}
 use Rattle.str_model.specs.declared.messages.Body.{Body}
 use Rattle.str_model.specs.declared.messages.Body.TheVariants.{Abort, Ack, Commit, Prepare, ReadReply, ReadReq, Refuse, Replicate}
 use Rattle.str_model.specs.declared.messages.Waiter.{Waiter}
 use Rattle.str_model.specs.declared.messages.Waiter.TheVariants.{Held, Read}
 use Rattle.str_model.specs.declared.names.KeyMark.{KeyMark}
-use Rattle.str_model.specs.Turns.{Away, CertTurn, Certified, CommittedAt, Conflict, DepTurn, Fate, Give, Gone, Keep, Late, Lost, Open, Plain, ReadTurn, ServeTurn, ServeWait, Speculative, Wait, WaitGate, cert_turn, conflicts, dep_turn, gated, greatest, joined, met, own_fate, passed, phase_fate, read_turn, reply_turn, serve_turn, take_over}
+use Rattle.str_model.specs.Turns.{Away, CertTurn, Certified, CommittedAt, Conflict, DepTurn, Fate, Give, Gone, Late, Open, Plain, ReadTurn, ServeTurn, ServeWait, Speculative, Wait, WaitGate, cert_turn, conflicts, dep_turn, ffc_left, gated, greatest, joined, met, own_fate, passed, phase_fate, read_turn, reply_turn, serve_turn, take_over}
 use Rattle.str_model.specs.Turns
 use Rattle.str_model.specs.Views.{Aborted, Committed, Own, Phase, View, lc_of}
 use Rattle.str_scene.specs.Scenes.{Here, hosts_key}
@@ -160,11 +161,9 @@ FateBelow b Open = Unit {0}
 FateBelow b (CommittedAt fc) = fc < b
 FateBelow b Gone = Unit {0}
 
--- the final timestamps that are kept
+-- the final timestamp that a look leaves
 abbrev pub DepBelow : ℕ → DepTurn → Type 0
-DepBelow b (Keep ffc ds) = ffc < b
-DepBelow b (Lost q) = Unit {0}
-DepBelow b (Late q fc) = Unit {0}
+DepBelow b t = ffc_left t < b
 
 module _ (b : ℕ) (view : View) (h : ViewBelow b view) where
   pub own_at : (i : ℕ) (x : Own) → slice_get view.own i ≡ Some x → OwnBelow b x
@@ -259,9 +258,7 @@ module _ (b : ℕ) (view : View) (h : ViewBelow b view) where
   fate_below (Some x) f = phase_below x.phase (f x refl).finals
 
   also_below : (d : Dep) (t : DepTurn) → (DepBelow b) t → (DepBelow b) (Turns.keep_also d t)
-  also_below d (Lost q) k = tt
-  also_below d (Late q fc) k = tt
-  also_below d (Keep ffc ds) k = k
+  also_below d t k = subst (λ n. n < b) (sym (ffc_also d t)) k
 
   resolve_below : (rs : ℕ) (ds : List Dep) (ffc : ℕ) → ffc < b → (DepBelow b) (Turns.resolve_all view.own rs ds ffc)
   resolve_below rs [] ffc f = f
@@ -269,10 +266,10 @@ module _ (b : ℕ) (view : View) (h : ViewBelow b view) where
       by_fate (Turns.own_fate (slice_get view.own (d.seq - 1))) (fate_below (slice_get view.own (d.seq - 1)) (λ x e. own_at (d.seq - 1) x e)) (λ g k. resolve_below rs ds g k)
     where
       by_fate : (t : Fate) → (FateBelow b) t → ((g : ℕ) → g < b → (DepBelow b) (Turns.resolve_all view.own rs ds g))
-          → (DepBelow b) (Turns.by_fate rs d ffc (λ g. Turns.resolve_all view.own rs ds g) t)
+          → (DepBelow b) (Turns.by_fate rs d ds ffc (λ g. Turns.resolve_all view.own rs ds g) t)
       by_fate Open k rec = also_below d (Turns.resolve_all view.own rs ds ffc) (rec ffc f)
-      by_fate Gone k rec = tt
-      by_fate (CommittedAt fc) k rec = if_elim (DepBelow b) (nat_lt rs fc) (Late d.seq fc) (Turns.resolve_all view.own rs ds (max ffc fc)) (λ e. tt) (λ e. rec (max ffc fc) (omega (arith, f, k)))
+      by_fate Gone k rec = f
+      by_fate (CommittedAt fc) k rec = if_elim (DepBelow b) (nat_lt rs fc) (Late d.seq fc ffc (d ∷ ds)) (Turns.resolve_all view.own rs ds (max ffc fc)) (λ e. f) (λ e. rec (max ffc fc) (omega (arith, f, k)))
 
   pub dep_below : (snap : Snap) → snap.ffc < b → (DepBelow b) (dep_turn view.own snap)
   unfolding dep_turn

@@ -42,18 +42,18 @@ DepOf own ds q f = (dep : Dep) × (In dep ds) × (dep.seq ≡ q) × (own_fate (s
 
 -- what a look at dependencies that fails has found
 abbrev Found : List Own → ℕ → List Dep → DepTurn → Type 0
-Found own rs ds (Lost q) = DepOf own ds q Turns.Gone
-Found own rs ds (Late q fc) = DepOf own ds q (Turns.CommittedAt fc) × (rs < fc)
+Found own rs ds (Lost q g es) = DepOf own ds q Turns.Gone
+Found own rs ds (Late q fc g es) = DepOf own ds q (Turns.CommittedAt fc) × (rs < fc)
 Found own rs ds (Keep ffc es) = Unit {0}
 
 found_more : (own : List Own) (rs : ℕ) (d : Dep) (ds : List Dep) (t : DepTurn) → Found own rs ds t → Found own rs (d ∷ ds) t
-found_more own rs d ds (Lost q) f = (f.0, inr f.1, f.2, f.3)
-found_more own rs d ds (Late q fc) f = ((f.0.0, inr f.0.1, f.0.2, f.0.3), f.1)
+found_more own rs d ds (Lost q g es) f = (f.0, inr f.1, f.2, f.3)
+found_more own rs d ds (Late q fc g es) f = ((f.0.0, inr f.0.1, f.0.2, f.0.3), f.1)
 found_more own rs d ds (Keep ffc es) f = tt
 
 found_also : (own : List Own) (rs : ℕ) (d : Dep) (ds : List Dep) (t : DepTurn) → Found own rs ds t → Found own rs (d ∷ ds) (Turns.keep_also d t)
-found_also own rs d ds (Lost q) f = (f.0, inr f.1, f.2, f.3)
-found_also own rs d ds (Late q fc) f = ((f.0.0, inr f.0.1, f.0.2, f.0.3), f.1)
+found_also own rs d ds (Lost q g es) f = (f.0, inr f.1, f.2, f.3)
+found_also own rs d ds (Late q fc g es) f = ((f.0.0, inr f.0.1, f.0.2, f.0.3), f.1)
 found_also own rs d ds (Keep ffc es) f = tt
 
 found : (own : List Own) (rs : ℕ) (ds : List Dep) (ffc : ℕ) → Found own rs ds (Turns.resolve_all own rs ds ffc)
@@ -61,12 +61,12 @@ found own rs [] ffc = tt
 found own rs (d ∷ ds) ffc = by_fate (own_fate (slice_get own (d.seq - 1))) refl (λ g. found own rs ds g)
   where
     by_fate : (t : Turns.Fate) → own_fate (slice_get own (d.seq - 1)) ≡ t → ((g : ℕ) → Found own rs ds (Turns.resolve_all own rs ds g))
-        → Found own rs (d ∷ ds) (Turns.by_fate rs d ffc (λ g. Turns.resolve_all own rs ds g) t)
+        → Found own rs (d ∷ ds) (Turns.by_fate rs d ds ffc (λ g. Turns.resolve_all own rs ds g) t)
     by_fate Turns.Open e f = found_also own rs d ds (Turns.resolve_all own rs ds ffc) (f ffc)
     by_fate Turns.Gone e f = (d, inl refl, refl, e)
     by_fate (Turns.CommittedAt fc) e f = by_test (nat_lt rs fc) refl
       where
-        by_test : (b : Bool) → nat_lt rs fc ≡ b → Found own rs (d ∷ ds) (if b then Late d.seq fc else Turns.resolve_all own rs ds (max ffc fc))
+        by_test : (b : Bool) → nat_lt rs fc ≡ b → Found own rs (d ∷ ds) (if b then Late d.seq fc ffc (d ∷ ds) else Turns.resolve_all own rs ds (max ffc fc))
         by_test true t = ((d, inl refl, refl, e), ltb-true rs fc t)
         by_test false t = found_more own rs d ds (Turns.resolve_all own rs ds (max ffc fc)) (f (max ffc fc))
 
@@ -177,10 +177,10 @@ module _ (scene : Scene) (ok : IsScene scene) (es : List Event) where
   lost_true j t d x u a = by_kind (aborts_by j t d x (IsLost u) a) (aborts_by j t d x (IsLost u) a).by
     where
       by_kind : (b : Aborts j t d x (IsLost u) a) → AbortedBy (at_place scene b.took_.takes.place) b.took_.takes.input d b.place x (IsLost u) → (y : Own) × DependedOn d t x u y × IsAborted y
-      by_kind b (ab_lost q e c) =
+      by_kind b (ab_lost q g es e c) =
           let name : record { node = record { 0 = b.took_.takes.place + 1 }; seq = q } ≡ u = cc c in
-          let r = dep_stands j t d x (IsLost u) a b q Turns.Gone (turn_found d.view.own x.snap (Lost q) e) u (sym name) in (r.0, r.1, gone_is r.0 r.2)
-      by_kind b (ab_late q fc e c) = absurd (cc c)
+          let r = dep_stands j t d x (IsLost u) a b q Turns.Gone (turn_found d.view.own x.snap (Lost q g es) e) u (sym name) in (r.0, r.1, gone_is r.0 r.2)
+      by_kind b (ab_late q fc g es e c) = absurd (cc c)
       by_kind b (ab_met snap v k rs w vs e c) = absurd (cc c)
       by_kind b (ab_evicted from v w m e c) = absurd (cc c)
       by_kind b (ab_stop e c) = absurd (cc c)
@@ -192,14 +192,14 @@ module _ (scene : Scene) (ok : IsScene scene) (es : List Event) where
   late_true j t d x u ts a = by_kind (aborts_by j t d x (IsLate u ts) a) (aborts_by j t d x (IsLate u ts) a).by
     where
       by_kind : (b : Aborts j t d x (IsLate u ts) a) → AbortedBy (at_place scene b.took_.takes.place) b.took_.takes.input d b.place x (IsLate u ts) → (y : Own) × DependedOn d t x u y × IsCommitted y ts.0 × (x.snap.rs < ts.0)
-      by_kind b (ab_late q fc e c) =
+      by_kind b (ab_late q fc g es e c) =
           let name : record { node = record { 0 = b.took_.takes.place + 1 }; seq = q } ≡ u = cc c in
           let time : stamp fc ≡ ts = cc c in
           let at : fc ≡ ts.0 = ap (λ (z : Ts). z.0) time in
-          let f = turn_found d.view.own x.snap (Late q fc) e in
+          let f = turn_found d.view.own x.snap (Late q fc g es) e in
           let r = dep_stands j t d x (IsLate u ts) a b q (Turns.CommittedAt fc) f.0 u (sym name) in
           (r.0, r.1, committed_is r.0 ts.0 (r.2 ∙ ap Turns.CommittedAt at), omega (arith, f.1, at))
-      by_kind b (ab_lost q e c) = absurd (cc c)
+      by_kind b (ab_lost q g es e c) = absurd (cc c)
       by_kind b (ab_met snap v k rs w vs e c) = absurd (cc c)
       by_kind b (ab_evicted from v w m e c) = absurd (cc c)
       by_kind b (ab_stop e c) = absurd (cc c)
@@ -222,8 +222,8 @@ module _ (scene : Scene) (ok : IsScene scene) (es : List Event) where
           let here = at_place scene k.takes.place in
           let all = moment_of scene es j a.moment a.before.0 t.node d k a.before.3 (λ z. AllNeedy here z.view) (λ w y z act. needy-act here k.takes.input w y z act) (needy_view k.from.early k.takes.place k.takes.view k.takes.is) in
           inr (e, f, (all b.place x b.owns).unmet e)
-      by_kind b (ab_lost q e c) = absurd (cc c)
-      by_kind b (ab_late q fc e c) = absurd (cc c)
+      by_kind b (ab_lost q g es e c) = absurd (cc c)
+      by_kind b (ab_late q fc g es e c) = absurd (cc c)
       by_kind b (ab_met snap v k rs w vs e c) = absurd (cc c)
       by_kind b (ab_evicted from v w m e c) = absurd (cc c)
       by_kind b (ab_refused from v q w k m n e f g c) = absurd (cc c)

@@ -1,9 +1,8 @@
 -- The guard of a read at a node: its mark, and no version of the key between its writer and the snapshot. What keeps it.
 use Rattle.dependency_set.specs.Snapshots.{Snap, holds, oldest}
 use Rattle.si_laws.proofs.Marking.{Rises}
-use Rattle.si_laws.proofs.Mastering.{VersionAct}
-use Rattle.std.proofs.Common.{Bool, List, None, Option, Some, [], ap, arith, false, find, if◌then◌else◌, inl, inr, map, max, nat_lt, refl, subst, sym, true, ℕ, ◌+◌, ◌<◌, ◌∙◌, ◌∷◌, ◌≡◌, ◌≢◌, ◌≤◌, ◌⊎◌}
-use Rattle.str_base.specs.Versions.{mark_of, newest, settled}
+use Rattle.std.proofs.Common.{List, None, Option, Some, [], ap, arith, find, inl, inr, map, max, nat_lt, sym, ℕ, ◌+◌, ◌<◌, ◌∙◌, ◌∷◌, ◌≡◌, ◌≢◌, ◌≤◌, ◌⊎◌}
+use Rattle.str_base.specs.Versions.{mark_of, newest}
 use Rattle.str_base.specs.declared.names.KeyId.{KeyId}
 use Rattle.str_base.specs.declared.names.Kind.TheVariants.{Final, Local as LocalKind, Pre}
 use Rattle.str_base.specs.declared.names.TxId.{TxId}

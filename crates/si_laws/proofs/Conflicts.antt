@@ -193,7 +193,7 @@ module _ (scene : Scene) (ok : IsScene scene) (es : List Event) where
                   let q : t'.seq ≡ t.seq = omega (arith, p.1, at, seq) in
                   λ y. record { node = record { 0 = n y }; seq = q y }
               by_node false s g = absurd (cc g)
-      by_kind b (ab_lost q e c) = absurd (cc c)
-      by_kind b (ab_late q fc e c) = absurd (cc c)
+      by_kind b (ab_lost q f es e c) = absurd (cc c)
+      by_kind b (ab_late q fc f es e c) = absurd (cc c)
       by_kind b (ab_stop e c) = absurd (cc c)
       by_kind b (ab_wish e f c) = absurd (cc c)

@@ -1,37 +1,24 @@
 -- What a transaction has read gives what it has got and written, over every run.
-use Rattle.dependency_set.specs.Snapshots.{Snap, accept_final, holds, oldest}
-use Rattle.si_laws.proofs.Evaluating.{Agrees, CauseGives, Evaluates, Gave, PhaseGives, StopsBy, Wants, asks-ends, finish-gives, known_value, noted-gives, reads-wants}
+use Rattle.si_laws.proofs.Evaluating.{CauseGives, Evaluates, PhaseGives, Wants, asks-ends, finish-gives, known_value, noted-gives, reads-wants}
 use Rattle.si_laws.proofs.Marking.{same_key-is}
-use Rattle.std.proofs.Common.{Bool, List, None, Option, Some, [], add-one, ap, drop, false, find, if◌then◌else◌, inl, inr, refl, slice_get, slice_set, subst, suc, sym, true, zero, ℕ, ◌++◌, ◌+◌, ◌∙◌, ◌∷◌, ◌≡◌, ◌≢◌, ◌⊎◌}
-use Rattle.str_base.specs.Values.{is_below, set_write}
-use Rattle.str_base.specs.Versions.{same_key}
+use Rattle.std.proofs.Common.{List, None, Option, Some, [], ap, false, inl, inr, refl, slice_get, slice_set, subst, sym, true, ℕ, ◌∙◌, ◌≡◌, ◌≢◌}
 use Rattle.str_base.specs.declared.names.Cause.TheVariants.{Conflict, Late, Lost, Wish}
 use Rattle.str_base.specs.declared.names.Cause.{Cause}
 use Rattle.str_base.specs.declared.names.KeyId.{KeyId}
-use Rattle.str_base.specs.declared.names.TxId.{TxId}
-use Rattle.str_base.specs.declared.names.Value.{Value}
-use Rattle.str_base.specs.declared.names.Write.{Write}
-use Rattle.str_model.proofs.Acting.{Act, AsksCommit, Change, Needs, NeedsNone, Reads, Where, Why, Wishing, act_abort, act_abort_came, act_accept, act_ack, act_ask, act_begin, act_certify, act_close, act_commit, act_commit_came, act_mark, act_put, act_refuse, act_reply, act_request, act_take, act_unwait, act_wait, asks_again, asks_new, at_abort, at_need, by_certification, by_eviction, by_late, by_lost, by_refusal, by_script, ch_away, ch_blind, ch_close, ch_gate, ch_known, ch_read, ch_reply, ch_resolve, ch_take, ch_wait, reads_again, reads_new}
+use Rattle.str_model.proofs.Acting.{Act, Change, Needs, NeedsNone, Where, Why, act_abort, act_abort_came, act_accept, act_ack, act_ask, act_begin, act_certify, act_close, act_commit, act_commit_came, act_mark, act_put, act_refuse, act_reply, act_request, act_take, act_unwait, act_wait, at_abort, at_need, by_certification, by_eviction, by_late, by_lost, by_refusal, by_script, ch_away, ch_blind, ch_close, ch_gate, ch_known, ch_read, ch_reply, ch_resolve, ch_take, ch_wait}
 use Rattle.str_model.proofs.Along.{step-keeps}
 use Rattle.str_model.proofs.Everywhere.{at_each_event, at_place}
-use Rattle.str_model.proofs.Gaining.{if_elim}
 use Rattle.str_model.proofs.Lists.{got_push, got_set}
-use Rattle.str_model.proofs.Members.{In, in_append, in_left, in_right}
 use Rattle.str_model.specs.Acts.{abort_came, aborted, accepted, acked, asked, begun, certified, closed, commit_came, committed, fresh, in_phase, marked, refused, replied, requested, taken, waits, with_asked}
-use Rattle.str_model.specs.Evaluation.{AtEnd, Evaluated, Stop, Unmet, Wished, eval, eval_from, value_at, write_or}
-use Rattle.str_model.specs.Evaluation
+use Rattle.str_model.specs.Evaluation.{value_at}
 use Rattle.str_model.specs.Owned.{Owns}
 use Rattle.str_model.specs.Runs.{run}
-use Rattle.str_model.specs.Scripts.{finish, finish_next, found_read, found_write, known, noted, or_else, own_op, wrote}
-use Rattle.str_model.specs.Scripts
-use Rattle.str_model.specs.Turns.{Plain, reply_turn}
-use Rattle.str_model.specs.Turns
+use Rattle.str_model.specs.Scripts.{own_op}
+use Rattle.str_model.specs.Turns.{left_by}
 use Rattle.str_model.specs.Views.{Aborted, Active, CertWait, Closing, Committed, Doing, Global, Local, Own, Phase, ReadWait, Remote, Reply, View, lc_of, starts}
 use Rattle.str_model.specs.declared.messages.Input.{Input}
-use Rattle.str_model.specs.declared.names.Got.{Got}
-use Rattle.str_model.specs.declared.names.ReadDone.{ReadDone}
 use Rattle.str_scene.specs.SceneLimits.{IsScene}
-use Rattle.str_scene.specs.Scenes.{Here, Scene, participants, script_at}
+use Rattle.str_scene.specs.Scenes.{Here, Scene, participants}
 use Rattle.str_scene.specs.declared.names.Event.{Event}
 use Rattle.str_scene.specs.declared.names.Op.TheVariants.{Abort as Give, Add, Del, Get, Need, Put, Puts}
 use Rattle.str_scene.specs.declared.names.Op.{Op}
@@ -41,9 +28,9 @@ module _ (here : Here) where
   -- ---- each change
 
   pub change-gives : (input : Input) (d : Doing) (i : ℕ) (x y : Own) → Change here input d i x y → Evaluates here x → Evaluates here y
-  change-gives input d i x y (ch_resolve ffc ds e) h = record { gave = h.gave; phase = same_phase x.phase h.phase }
+  change-gives input d i x y (ch_resolve t e) h = record { gave = h.gave; phase = same_phase x.phase h.phase }
     where
-      same_phase : (p : Phase) → PhaseGives here x p → PhaseGives here (record x { snap = record (x.snap) { ffc = ffc; deps = ds } }) p
+      same_phase : (p : Phase) → PhaseGives here x p → PhaseGives here (record x { snap = left_by t x.snap }) p
       same_phase Active q = tt
       same_phase (ReadWait k) q = record { op = q.op; is = q.is; needs = q.needs; unknown = q.unknown }
       same_phase (Remote k) q = record { op = q.op; is = q.is; needs = q.needs; unknown = q.unknown }
@@ -121,8 +108,8 @@ module _ (here : Here) where
   cause-gives : (input : Input) (d : Doing) (i : ℕ) (x : Own) (cause : Cause) → Why here input d i x cause → Evaluates here x → CauseGives here x cause
   cause-gives input d i x cause (by_script (at_abort a e)) h = inr e
   cause-gives input d i x cause (by_script (at_need e n)) h = inl (subst (PhaseGives here x) e h.phase)
-  cause-gives input d i x cause (by_lost q e) h = tt
-  cause-gives input d i x cause (by_late q fc e) h = tt
+  cause-gives input d i x cause (by_lost q f es e) h = tt
+  cause-gives input d i x cause (by_late q fc f es e) h = tt
   cause-gives input d i x cause (by_certification u k e) h = tt
   cause-gives input d i x cause (by_eviction from a w c) h = tt
   cause-gives input d i x cause (by_refusal from t p u k c) h = tt

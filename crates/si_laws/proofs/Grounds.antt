@@ -1,37 +1,33 @@
 -- What the guards of reads rest on, in every state of a run, also in the midst of an event.
-use Rattle.si_laws.proofs.Arriving.{ArrivedAs, BegunAt, FoundAt, committed_stands}
+use Rattle.si_laws.proofs.Arriving.{BegunAt}
 use Rattle.si_laws.proofs.Around.{Stand}
 use Rattle.si_laws.proofs.Carrying.{fate_is}
 use Rattle.si_laws.proofs.HomeMarks.{HomeMarked, home_marked_opening, home_marked_step}
 use Rattle.si_laws.proofs.InTime.{InTime, in_time-act}
-use Rattle.si_laws.proofs.Linked.{IsCertified, one_certified}
+use Rattle.si_laws.proofs.Linked.{one_certified}
 use Rattle.si_laws.proofs.MasterLaw.{Governed, governed-keeps, governed_opening}
 use Rattle.si_laws.proofs.Origins.{AllWritten, FinalsHosted, HasWritten, all_written_opening, all_written_step, finals_hosted-act}
 use Rattle.si_laws.proofs.Parts.{WaitStep, w_fewer, w_more, wait_step}
 use Rattle.si_laws.proofs.Replying.{FarReads, far_opening, far_step}
 use Rattle.si_laws.proofs.Reporting.{CommittedIn, Reported, reported-act, reported_opening}
 use Rattle.si_laws.specs.Standing.{IsCommitted}
-use Rattle.std.proofs.Common.{List, None, Option, Some, [], ap, false, inl, inr, refl, slice_get, slice_set, subst, subst₂, sym, true, ℕ, ◌++◌, ◌+◌, ◌∙◌, ◌∷◌, ◌≡◌, ◌⊎◌}
+use Rattle.std.proofs.Common.{List, None, Option, Some, [], ap, inl, inr, slice_get, slice_set, subst, subst₂, sym, true, ℕ, ◌∙◌, ◌∷◌, ◌≡◌}
 use Rattle.str_base.specs.declared.names.KeyId.{KeyId}
-use Rattle.str_base.specs.declared.names.NodeId.{NodeId}
 use Rattle.str_base.specs.declared.names.Ts.{Ts}
 use Rattle.str_base.specs.declared.names.TxId.{TxId}
 use Rattle.str_base.specs.declared.names.Value.{Value}
-use Rattle.str_base.specs.declared.names.Write.{Write}
 use Rattle.str_model.proofs.Acting.{Act, Arrives, Where, a_prepare, a_read}
 use Rattle.str_model.proofs.Everywhere.{IsSeen, Stage, at_place, during, everywhere, stage_of}
 use Rattle.str_model.proofs.Lists.{get_set, get_set_other, got_replicate, got_set}
 use Rattle.str_model.proofs.Members.{In, in_append}
-use Rattle.str_model.specs.Owned.{Owns}
 use Rattle.str_model.specs.Runs.{opening, opening_view, run}
-use Rattle.str_model.specs.Turns.{CommittedAt, Fate, own_fate, phase_fate}
-use Rattle.str_model.specs.Turns
-use Rattle.str_model.specs.Views.{Aborted, Active, CertWait, Closing, Committed, Doing, Global, Local, Own, Phase, ReadWait, Remote, Reply, View, name_of}
+use Rattle.str_model.specs.Turns.{CommittedAt, own_fate, phase_fate}
+use Rattle.str_model.specs.Views.{Aborted, Active, CertWait, Closing, Committed, Doing, Global, Local, Own, Phase, ReadWait, Remote, Reply, View}
 use Rattle.str_model.specs.declared.messages.Input.{Input}
 use Rattle.str_model.specs.declared.messages.Waiter.TheVariants.{Read}
 use Rattle.str_model.specs.declared.messages.Waiter.{Waiter}
 use Rattle.str_scene.specs.SceneLimits.{IsScene}
-use Rattle.str_scene.specs.Scenes.{Here, Scene, hosts, hosts_key, part_of}
+use Rattle.str_scene.specs.Scenes.{Here, Scene, hosts_key}
 use Rattle.str_scene.specs.declared.names.Event.{Event}
 
 -- each read that waits is for a key of the node

@@ -1,14 +1,12 @@
 -- The guard of a read from an own undecided transaction: it stays, or the writer aborts, or it commits and the guard becomes one of what is final.
-use Rattle.partition_map.specs.declared.rows.Asked.{Asked}
 use Rattle.si_laws.proofs.Arriving.{committed_stands}
 use Rattle.si_laws.proofs.Around.{Around, Stand, final_below, final_late, local_above, local_below, same_tx-is}
-use Rattle.si_laws.proofs.Clearing.{Clear, LocalsClear, Moved, Under, locals_stay, m_local, m_new, m_old, m_pre}
+use Rattle.si_laws.proofs.Clearing.{Clear, LocalsClear, Moved, locals_stay, m_local, m_new, m_old, m_pre}
 use Rattle.si_laws.proofs.Grounds.{Grounds, committed_write, committer}
 use Rattle.si_laws.proofs.Guards.{FinalGuard, GoneWriter, MarkSent, OpenWriter, ReadGuard, committed_up, fg_some, open_not, rg_final, rg_gone, rg_open, rg_sent, there_d, there_e, written_up}
-use Rattle.si_laws.proofs.Homes.{OwnGood, filter_keeps}
-use Rattle.si_laws.proofs.Linked.{one_certified, one_of}
+use Rattle.si_laws.proofs.Homes.{filter_keeps}
+use Rattle.si_laws.proofs.Linked.{one_certified}
 use Rattle.si_laws.proofs.Marking.{Rises}
-use Rattle.si_laws.proofs.Masters.{by_kind}
 use Rattle.si_laws.proofs.Origins.{HasWritten}
 use Rattle.si_laws.proofs.Overlapping.{master_of}
 use Rattle.si_laws.proofs.Owners.{same_own}
@@ -30,14 +28,14 @@ use Rattle.str_base.specs.declared.names.Version.{Version}
 use Rattle.str_base.specs.declared.names.Write.{Write}
 use Rattle.str_model.proofs.Acting.{Act, Where}
 use Rattle.str_model.proofs.Everywhere.{IsSeen, Stage, at_place, during}
-use Rattle.str_model.proofs.Lists.{get_push, get_set, get_set_other, got_set, same_or_not}
+use Rattle.str_model.proofs.Lists.{get_push, get_set, get_set_other, same_or_not}
 use Rattle.str_model.proofs.Members.{In, in_append, in_left, in_right, map_in}
 use Rattle.str_model.proofs.Operating.{gate_commits}
 use Rattle.str_model.specs.Acts.{fresh, in_phase, local_version, marks_in}
 use Rattle.str_model.specs.Gates.{CommitAt, dep_parts, gate_of}
 use Rattle.str_model.specs.Owned.{Owns}
-use Rattle.str_model.specs.Turns.{CommittedAt, own_fate}
-use Rattle.str_model.specs.Views.{Aborted, Committed, Doing, Own, View, is_decided, lc_of, name_of}
+use Rattle.str_model.specs.Turns.{own_fate}
+use Rattle.str_model.specs.Views.{Committed, Doing, Own, View, is_decided, lc_of, name_of}
 use Rattle.str_model.specs.declared.messages.Body.TheVariants.{Commit}
 use Rattle.str_model.specs.declared.messages.Input.{Input}
 use Rattle.str_model.specs.declared.messages.Message.{Message}

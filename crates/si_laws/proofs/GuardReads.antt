@@ -1,10 +1,10 @@
 -- Every read of a run is guarded, and so is every reply.
 use Rattle.dependency_set.specs.Snapshots.{Snap}
-use Rattle.si_laws.proofs.Clearing.{Clear, LocalsClear}
+use Rattle.si_laws.proofs.Clearing.{LocalsClear}
 use Rattle.si_laws.proofs.Grounds.{Grounds, NodeGround, grounds_opening, grounds_step}
 use Rattle.si_laws.proofs.GuardOpen.{open_up}
 use Rattle.si_laws.proofs.GuardSent.{sent_up}
-use Rattle.si_laws.proofs.Guards.{FinalGuard, GoneWriter, GuardAt, MarkSent, OpenWriter, ReadGuard, committed_up, fg_none, fg_some, final_guard_up, rg_final, rg_gone, rg_open, rg_sent, there_d, there_e, written_up}
+use Rattle.si_laws.proofs.Guards.{FinalGuard, ReadGuard, committed_up, fg_none, fg_some, final_guard_up, rg_final, rg_gone, rg_open, rg_sent, there_d, there_e, written_up}
 use Rattle.si_laws.proofs.HomeMarks.{HomeMarked}
 use Rattle.si_laws.proofs.Linked.{one_of}
 use Rattle.si_laws.proofs.Marking.{marked_now}
@@ -14,13 +14,12 @@ use Rattle.si_laws.proofs.ReadLetters.{ReadLetter, is_other, letters_act, rl_com
 use Rattle.si_laws.proofs.ReadOrigins.{ReadOrigin, read_origin, ro_old, ro_read, ro_take}
 use Rattle.si_laws.proofs.ReadsBack.{ReplyBack, pb_came, pb_old, reply-act}
 use Rattle.si_laws.proofs.Replying.{HasRs, has_rs_stays}
-use Rattle.si_laws.proofs.Reporting.{CommittedIn}
 use Rattle.si_laws.proofs.Seeing.{ReadSees, ServeSees, clear_none, clear_seen, local-sees, locals_seen, plain-sees, sees_final, sees_local, sees_none, serve-sees, serves_final, serves_none}
 use Rattle.si_laws.proofs.Staying.{decided-step}
-use Rattle.std.proofs.Common.{Bool, List, None, Option, Some, [], ap, arith, eqb-true, false, if◌then◌else◌, inl, inr, length, length-set, ltb-true, max, refl, replicate, slice_get, slice_set, subst, subst₂, suc, sym, true, ℕ, ◌&&◌, ◌++◌, ◌+◌, ◌-◌, ◌<◌, ◌∙◌, ◌∷◌, ◌≡◌, ◌≢◌, ◌≤◌, ◌⊎◌}
+use Rattle.std.proofs.Common.{Bool, List, None, Option, Some, ap, arith, eqb-true, false, if◌then◌else◌, inl, inr, length, ltb-true, refl, replicate, slice_get, slice_set, subst, subst₂, suc, sym, true, ℕ, ◌&&◌, ◌++◌, ◌+◌, ◌<◌, ◌∙◌, ◌≡◌, ◌≢◌, ◌≤◌, ◌⊎◌}
 use Rattle.str_base.specs.Versions.{mark_of, same_node, stamp}
 use Rattle.str_base.specs.declared.names.KeyId.{KeyId}
-use Rattle.str_base.specs.declared.names.Kind.TheVariants.{Final, Local as LocalKind}
+use Rattle.str_base.specs.declared.names.Kind.TheVariants.{Final}
 use Rattle.str_base.specs.declared.names.NodeId.{NodeId}
 use Rattle.str_base.specs.declared.names.PartId.{PartId}
 use Rattle.str_base.specs.declared.names.Ts.{Ts}
@@ -30,7 +29,7 @@ use Rattle.str_base.specs.declared.names.Version.{Version}
 use Rattle.str_model.proofs.Acting.{Act, ComesToRead, IsAsked, ReadsTo, Where, asked_before, asked_now, to_final, to_local}
 use Rattle.str_model.proofs.Everywhere.{IsSeen, Sent, Stage, at_place, during, everywhere, stage_of}
 use Rattle.str_model.proofs.Gaining.{and_left, and_right}
-use Rattle.str_model.proofs.Lists.{get_set, get_set_other, got_replicate, got_set, same_or_not}
+use Rattle.str_model.proofs.Lists.{get_set_other, got_replicate, got_set, same_or_not}
 use Rattle.str_model.proofs.Members.{In, in_append, in_at, in_left, in_right}
 use Rattle.str_model.proofs.Owning.{own_step}
 use Rattle.str_model.specs.Owned.{Owns}
@@ -43,10 +42,9 @@ use Rattle.str_model.specs.declared.messages.Body.TheVariants.{ReadReply, ReadRe
 use Rattle.str_model.specs.declared.messages.Input.TheVariants.{Deliver}
 use Rattle.str_model.specs.declared.messages.Input.{Input}
 use Rattle.str_model.specs.declared.messages.Message.{Message}
-use Rattle.str_model.specs.declared.messages.Waiter.TheVariants.{Read}
 use Rattle.str_model.specs.declared.names.ReadDone.{ReadDone}
 use Rattle.str_scene.specs.SceneLimits.{IsScene}
-use Rattle.str_scene.specs.Scenes.{Here, Scene, hosts, hosts_key, nth, part_of}
+use Rattle.str_scene.specs.Scenes.{Scene, hosts, hosts_key, nth, part_of}
 use Rattle.str_scene.specs.declared.names.Event.{Event}
 
 -- replies, held replies and reads are guarded

@@ -5,16 +5,16 @@ use Rattle.si_laws.proofs.Clearing.{Clear}
 use Rattle.si_laws.proofs.Grounds.{Committer, Grounds, committer}
 use Rattle.si_laws.proofs.Guards.{MarkSent, clear_some_up, open_not, there_d, there_e}
 use Rattle.si_laws.proofs.Linked.{one_certified, one_of}
-use Rattle.si_laws.proofs.Marking.{Rises, raise_all-rises, raised-rises}
-use Rattle.si_laws.proofs.Masters.{IsBefore, by_kind}
+use Rattle.si_laws.proofs.Marking.{raise_all-rises}
+use Rattle.si_laws.proofs.Masters.{IsBefore}
 use Rattle.si_laws.proofs.Origins.{HasWritten, Origin, og_came, og_commit, og_local, og_old, og_pre, origin}
 use Rattle.si_laws.proofs.ReadLetters.{ReadLetter, is_other, letters_act, rl_commit, rl_other, rl_reply, rl_request}
 use Rattle.si_laws.proofs.Reporting.{CommittedIn}
 use Rattle.si_laws.proofs.Settling.{came_above}
-use Rattle.std.proofs.Common.{Bool, List, None, Option, Some, [], ap, arith, eq-eqb, false, inl, inr, length, length-set, max, refl, slice_get, slice_index, slice_set, subst, subst₂, suc, sym, true, zero, ℕ, ◌++◌, ◌+◌, ◌<◌, ◌∙◌, ◌∷◌, ◌≡◌, ◌≢◌, ◌≤◌, ◌⊎◌}
+use Rattle.std.proofs.Common.{Bool, List, Some, [], ap, arith, eq-eqb, false, inl, inr, length, length-set, max, refl, slice_get, slice_index, slice_set, subst, subst₂, suc, sym, true, zero, ℕ, ◌++◌, ◌+◌, ◌<◌, ◌∙◌, ◌∷◌, ◌≡◌, ◌≢◌, ◌≤◌, ◌⊎◌}
 use Rattle.str_base.specs.Versions.{mark_of, raised, same_tx, stamp}
 use Rattle.str_base.specs.declared.names.KeyId.{KeyId}
-use Rattle.str_base.specs.declared.names.Kind.TheVariants.{Final, Local as LocalKind, Pre}
+use Rattle.str_base.specs.declared.names.Kind.TheVariants.{Final, Pre}
 use Rattle.str_base.specs.declared.names.PartId.{PartId}
 use Rattle.str_base.specs.declared.names.Ts.{Ts}
 use Rattle.str_base.specs.declared.names.TxId.{TxId}
@@ -22,16 +22,15 @@ use Rattle.str_base.specs.declared.names.Value.{Value}
 use Rattle.str_base.specs.declared.names.Version.{Version}
 use Rattle.str_model.proofs.Acting.{Act, Where}
 use Rattle.str_model.proofs.Everywhere.{IsSeen, Sent, Stage, at_place, during}
-use Rattle.str_model.proofs.Lists.{get_set, get_set_other, got_set, same_or_not}
+use Rattle.str_model.proofs.Lists.{get_set_other, same_or_not}
 use Rattle.str_model.proofs.Members.{In, in_append, in_at, in_left, in_right}
 use Rattle.str_model.specs.Acts.{marks_in, raise_all}
 use Rattle.str_model.specs.Views.{Doing, Own, View, name_of}
 use Rattle.str_model.specs.declared.messages.Body.TheVariants.{Commit}
-use Rattle.str_model.specs.declared.messages.Input.TheVariants.{Deliver}
 use Rattle.str_model.specs.declared.messages.Input.{Input}
 use Rattle.str_model.specs.declared.messages.Message.{Message}
 use Rattle.str_model.specs.declared.names.KeyMark.{KeyMark}
-use Rattle.str_scene.specs.Scenes.{Here, Scene, hosts, is_master, part_of}
+use Rattle.str_scene.specs.Scenes.{Scene, hosts, is_master, part_of}
 
 index_set : (ms : List ℕ) (i t : ℕ) → i < length ms → slice_index (slice_set ms i t) i ≡ t
 index_set [] i t h = absurd (omega (arith, h))

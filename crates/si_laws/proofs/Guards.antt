@@ -1,9 +1,9 @@
 -- Guards of reads in a state of a run, and that a single change keeps the guard at a node.
-use Rattle.si_laws.proofs.Arriving.{ArrivedAs, FoundAt, IsOf, a_final, a_pre, committed_stands}
+use Rattle.si_laws.proofs.Arriving.{ArrivedAs, IsOf, a_final, a_pre, committed_stands}
 use Rattle.si_laws.proofs.Around.{Around, Stand, final_below, final_late, local_above, local_below}
 use Rattle.si_laws.proofs.Carrying.{decides_far, pair-is}
-use Rattle.si_laws.proofs.Clearing.{Clear, LocalsClear, NoneUnder, Under, clear_stays}
-use Rattle.si_laws.proofs.Grounds.{Committer, Grounds, committed_write, committer}
+use Rattle.si_laws.proofs.Clearing.{Clear, LocalsClear, NoneUnder, clear_stays}
+use Rattle.si_laws.proofs.Grounds.{Grounds, committed_write, committer}
 use Rattle.si_laws.proofs.Linked.{one_of}
 use Rattle.si_laws.proofs.Origins.{HasWritten, Origin, has_written_stays, og_came, og_commit, og_local, og_old, og_pre, origin}
 use Rattle.si_laws.proofs.Owners.{open-fate, same_own}
@@ -12,7 +12,6 @@ use Rattle.si_laws.proofs.Reporting.{CommittedIn, lift_c}
 use Rattle.si_laws.proofs.Settling.{all_moved, own_local}
 use Rattle.si_laws.specs.Standing.{IsAborted}
 use Rattle.std.proofs.Common.{List, None, Option, Some, [], add-sub_cancel, ap, arith, false, inl, inr, refl, slice_get, slice_set, subst, subst₂, sym, true, ℕ, ◌++◌, ◌+◌, ◌-◌, ◌<◌, ◌∙◌, ◌∷◌, ◌≡◌, ◌≢◌, ◌≤◌, ◌⊎◌}
-use Rattle.str_base.specs.Versions.{mark_of, settled}
 use Rattle.str_base.specs.declared.names.KeyId.{KeyId}
 use Rattle.str_base.specs.declared.names.Kind.TheVariants.{Final, Local as LocalKind, Pre}
 use Rattle.str_base.specs.declared.names.NodeId.{NodeId}
@@ -35,7 +34,7 @@ use Rattle.str_model.specs.declared.messages.Input.{Input}
 use Rattle.str_model.specs.declared.messages.Message.{Message}
 use Rattle.str_model.specs.declared.names.KeyMark.{KeyMark}
 use Rattle.str_model.specs.declared.names.ReadDone.{ReadDone}
-use Rattle.str_scene.specs.Scenes.{Here, Scene, hosts, is_master, part_of}
+use Rattle.str_scene.specs.Scenes.{Scene, hosts, is_master, part_of}
 
 -- a replica of the key guards the read
 pub record GuardAt (scene : Scene) (s : Stage) (k : KeyId) (rs : ℕ) (by : Option TxId) (f : ℕ) : Type 0 where

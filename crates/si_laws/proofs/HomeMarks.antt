@@ -72,7 +72,7 @@ module _ (here : Here) (ok : IsScene here.scene) where
   -- a change of an own transaction
   changed : (input : Input) (d : Doing) (i : ℕ) (x y : Own) → Change here input d i x y → ((k : KeyId) → Looks x k → k.0 < length here.scene.keys.names)
       → (y.snap.rs ≡ x.snap.rs) × ((k : KeyId) → Looks y k → Before d.view x k)
-  changed input d i x y (ch_resolve ffc ds e) within = (refl, λ k h. before h)
+  changed input d i x y (ch_resolve t e) within = (refl, λ k h. before h)
   changed input d i x y (ch_known op k a p e n q) within = let l = finish-looks op a x in (l.rs, λ k h. before (looks_back x y k l h))
   changed input d i x y (ch_blind op a p e n) within = let l = finish-looks op a x in (l.rs, λ k h. before (looks_back x y k l h))
   changed input d i x y (ch_read k a by snap r m t) within =

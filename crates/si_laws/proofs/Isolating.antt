@@ -1,19 +1,19 @@
 -- Each answer of a run may follow those before it.
-use Rattle.si_laws.proofs.Behind.{Behind, WriterOf, behind, commit_phase, committed_in, find_write, get_take, ground, has_written, known, phase_at, take_get, times_of, writer_of}
+use Rattle.si_laws.proofs.Behind.{Behind, WriterOf, behind, commit_phase, committed_in, find_write, get_take, ground, has_written, known, take_get, times_of, writer_of}
 use Rattle.si_laws.proofs.Answering.{IsKept}
-use Rattle.si_laws.proofs.CommitOrder.{Named, named}
+use Rattle.si_laws.proofs.CommitOrder.{named}
 use Rattle.si_laws.proofs.Evaluating.{Evaluates, PhaseGives, ends-at}
 use Rattle.si_laws.proofs.EvaluatingActs.{evaluates_after}
 use Rattle.si_laws.proofs.Newest.{newest_none}
 use Rattle.si_laws.proofs.NextAnswer.{Covered, Keeps}
 use Rattle.si_laws.proofs.Origins.{HasWritten}
-use Rattle.si_laws.proofs.ReadsSeen.{IsAbove, IsRight, LastBelow, NoneBelow, Reads, of_none, of_one, reads_keep, reads_seen, top_of}
+use Rattle.si_laws.proofs.ReadsSeen.{IsAbove, IsRight, Reads, of_none, of_one, reads_keep, reads_seen, top_of}
 use Rattle.si_laws.proofs.Reporting.{CommittedIn}
 use Rattle.si_laws.proofs.Scripting.{ScriptGood, scripts_after}
 use Rattle.si_laws.proofs.Stages.{has_at}
 use Rattle.si_laws.specs.Commits.{seen, wrote_key}
 use Rattle.si_laws.specs.SnapshotIsolation.{IsAnswer, IsCommittedAt, SI}
-use Rattle.std.proofs.Common.{Bool, List, None, Option, Some, [], ap, arith, eq-eqb, false, find, inl, inr, option_map, refl, slice_get, subst, subst₂, sym, take, true, ℕ, ◌++◌, ◌+◌, ◌<◌, ◌∙◌, ◌∷◌, ◌≡◌, ◌≢◌, ◌≤◌, ◌⊎◌}
+use Rattle.std.proofs.Common.{List, None, Option, Some, ap, arith, eq-eqb, find, inl, inr, refl, subst, sym, take, true, ℕ, ◌<◌, ◌∙◌, ◌≡◌, ◌≤◌, ◌⊎◌}
 use Rattle.str_base.specs.Versions.{same_key, stamp}
 use Rattle.str_base.specs.declared.names.KeyId.{KeyId}
 use Rattle.str_base.specs.declared.names.Ts.{Ts}
@@ -28,7 +28,7 @@ use Rattle.str_model.specs.Runs.{run}
 use Rattle.str_model.specs.Scripts.{own_op}
 use Rattle.str_model.specs.Views.{Committed, Own, Phase}
 use Rattle.str_model.specs.declared.messages.Answer.{Answer}
-use Rattle.str_model.specs.declared.messages.Outcome.TheVariants.{Aborted as Aborts, Committed as Commits}
+use Rattle.str_model.specs.declared.messages.Outcome.TheVariants.{Committed as Commits}
 use Rattle.str_model.specs.declared.names.Got.{Got}
 use Rattle.str_model.specs.declared.names.ReadDone.{ReadDone}
 use Rattle.str_scene.specs.SceneLimits.{IsScene}

@@ -1,6 +1,6 @@
 -- Snapshot isolation of every run.
 use Rattle.si_laws.proofs.Answering.{IsKept}
-use Rattle.si_laws.proofs.Arriving.{ArrivedAs, IsOf, a_final, a_pre, committed_stands}
+use Rattle.si_laws.proofs.Arriving.{ArrivedAs, a_final, a_pre, committed_stands}
 use Rattle.si_laws.proofs.Behind.{Behind, behind, commit_phase, committed_in, get_take, ground, has_written, take_get, times_of}
 use Rattle.si_laws.proofs.Evaluating.{PhaseGives, StopsBy, abort-wishes}
 use Rattle.si_laws.proofs.Grounds.{committed_write, committer}
@@ -10,22 +10,20 @@ use Rattle.si_laws.proofs.Masters.{IsBefore}
 use Rattle.si_laws.proofs.Newest.{commit_at}
 use Rattle.si_laws.proofs.NextAnswer.{IsNext, Keeps, SeenNext, seen_next}
 use Rattle.si_laws.proofs.NextHolds.{si_next, si_none}
-use Rattle.si_laws.proofs.Origins.{HasWritten}
 use Rattle.si_laws.proofs.Overlapping.{key_of_table, master_of, script_op}
-use Rattle.si_laws.proofs.ReadsSeen.{Reads, reads_seen}
+use Rattle.si_laws.proofs.ReadsSeen.{reads_seen}
 use Rattle.si_laws.proofs.CommitOrder.{named}
 use Rattle.si_laws.proofs.Isolating
-use Rattle.si_laws.proofs.Reporting.{CommittedIn}
 use Rattle.si_laws.proofs.Scripting.{scripts_after}
 use Rattle.si_laws.proofs.SessionAnswers.{session_holds}
 use Rattle.si_laws.specs.Commits.{seen, wrote_key}
 use Rattle.si_laws.specs.SnapshotIsolation.{IsAnswer, IsCommittedAt, IsCommittedSnapshot, IsFinal, IsWish, SI, SIRun}
-use Rattle.std.proofs.Common.{Bool, List, None, Option, Some, [], ap, arith, false, inl, inr, length, option_map, refl, slice_get, subst, subst₂, suc, sym, take, true, zero, ℕ, ◌++◌, ◌+◌, ◌<◌, ◌∙◌, ◌∷◌, ◌≡◌, ◌≢◌, ◌≤◌, ◌⊎◌}
+use Rattle.std.proofs.Common.{List, None, Option, Some, [], ap, arith, inl, inr, length, option_map, refl, slice_get, subst, subst₂, suc, sym, take, true, zero, ℕ, ◌++◌, ◌+◌, ◌<◌, ◌∙◌, ◌∷◌, ◌≡◌, ◌≢◌, ◌≤◌, ◌⊎◌}
 use Rattle.str_base.specs.Versions.{stamp}
 use Rattle.str_base.specs.declared.names.Cause.TheVariants.{Wish}
 use Rattle.str_base.specs.declared.names.Cause.{Cause}
 use Rattle.str_base.specs.declared.names.KeyId.{KeyId}
-use Rattle.str_base.specs.declared.names.Kind.TheVariants.{Final, Local as LocalKind, Pre}
+use Rattle.str_base.specs.declared.names.Kind.TheVariants.{Final, Local as LocalKind}
 use Rattle.str_base.specs.declared.names.NodeId.{NodeId}
 use Rattle.str_base.specs.declared.names.PartId.{PartId}
 use Rattle.str_base.specs.declared.names.Ts.{Ts}
@@ -34,12 +32,11 @@ use Rattle.str_base.specs.declared.names.Value.{Value}
 use Rattle.str_base.specs.declared.names.Version.{Version}
 use Rattle.str_model.proofs.Everywhere.{at_place, stage_of}
 use Rattle.str_model.proofs.Lists.{same_or_not}
-use Rattle.str_model.proofs.Members.{In}
-use Rattle.str_model.proofs.Telling.{outcome_of, told}
+use Rattle.str_model.proofs.Telling.{outcome_of}
 use Rattle.str_model.specs.Evaluation.{Evaluated, eval}
 use Rattle.str_model.specs.Runs.{run}
 use Rattle.str_model.specs.Scripts.{own_op}
-use Rattle.str_model.specs.Views.{Aborted, Active, CertWait, Closing, Committed, Global, Local, Own, Phase, ReadWait, Remote, Reply, View, is_decided}
+use Rattle.str_model.specs.Views.{Aborted, Active, CertWait, Closing, Committed, Global, Local, Phase, ReadWait, Remote, Reply, View, is_decided}
 use Rattle.str_model.specs.declared.messages.Answer.{Answer}
 use Rattle.str_model.specs.declared.messages.Outcome.TheVariants.{Aborted as Aborts, Committed as Commits}
 use Rattle.str_model.specs.declared.messages.Outcome.{Outcome}
@@ -50,7 +47,6 @@ use Rattle.str_scene.specs.declared.names.Event.{Event}
 use Rattle.str_scene.specs.declared.names.Op.TheVariants.{Abort as Give, Add, Del, Get, Need, Put, Puts}
 use Rattle.str_scene.specs.declared.names.Op.{Op}
 use Rattle.str_scene.specs.declared.names.TxPlace.{TxPlace}
-use Rattle.str_base.specs.declared.names.Write.{Write}
 
 -- one more is taken, or there is none
 take_one : {A : Type 0} (xs : List A) (n : ℕ) → ((x : A) × (slice_get xs n ≡ Some x) × (take (suc n) xs ≡ take n xs ++ x ∷ [])) ⊎ ((slice_get xs n ≡ None) × (take (suc n) xs ≡ take n xs))

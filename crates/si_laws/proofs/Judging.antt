@@ -9,7 +9,6 @@ use Rattle.str_base.specs.declared.names.PartId.{PartId}
 use Rattle.str_base.specs.declared.names.Ts.{Ts}
 use Rattle.str_base.specs.declared.names.TxId.{TxId}
 use Rattle.str_base.specs.declared.names.Value.{Value}
-use Rattle.str_base.specs.declared.names.Write.{Write}
 use Rattle.str_base.specs.Versions.{same_key, same_node, stamp}
 use Rattle.str_scene.specs.Scenes.{Here, hosts_key, is_master, others, replicas}
 use Rattle.str_model.specs.declared.messages.Arrived.{Arrived}
@@ -36,7 +35,7 @@ use Rattle.str_model.specs.Strange.{is_valid}
 use Rattle.str_model.specs.Turns.{Give, ServeTurn, ServeWait, serve_turn}
 use Rattle.str_model.specs.Views.{Doing, Global, Own, Phase, Remote, Reply, letter, put}
 use Rattle.str_model.specs.Waiters
-use Rattle.str_model.proofs.Acting.{Comes, IsHere, IsMasters, it_comes, it_waits}
+use Rattle.str_model.proofs.Acting.{Comes, IsHere, it_comes, it_waits}
 use Rattle.str_model.proofs.Gaining.{and_left, and_right, if_elim}
 use Rattle.str_model.proofs.Linking.{Link, evict_linked_to, l_close, l_evict, l_half, l_rule, l_wait, last_of, valid}
 use Rattle.str_model.proofs.LinkPaths.{take_is}

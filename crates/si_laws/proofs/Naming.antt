@@ -1,16 +1,16 @@
 -- The answer of an abort names the cause with which its transaction stands aborted, over every run.
-use Rattle.std.proofs.Common.{List, None, Option, Some, [], ap, inl, inr, refl, slice_get, slice_set, subst, sym, true, ℕ, ◌++◌, ◌+◌, ◌∙◌, ◌∷◌, ◌≡◌, ◌≢◌, ◌⊎◌}
+use Rattle.std.proofs.Common.{List, Option, Some, ap, inl, inr, slice_get, slice_set, subst, sym, true, ℕ, ◌+◌, ◌∙◌, ◌≡◌}
 use Rattle.str_base.specs.declared.names.Cause.{Cause}
 use Rattle.str_model.specs.declared.messages.Answer.{Answer}
 use Rattle.str_model.specs.declared.messages.Input.{Input}
-use Rattle.str_model.specs.declared.messages.Outcome.TheVariants.{Aborted as Aborts, Committed as Commits}
+use Rattle.str_model.specs.declared.messages.Outcome.TheVariants.{Aborted as Aborts}
 use Rattle.str_model.specs.declared.names.Got.{Got}
 use Rattle.str_model.specs.Owned.{Owns}
-use Rattle.str_model.specs.Runs.{opening, run}
+use Rattle.str_model.specs.Runs.{run}
 use Rattle.str_model.specs.Views.{Aborted, Committed, Doing, Own, Phase, View, is_decided}
 use Rattle.str_scene.specs.Scenes.{Scene}
 use Rattle.str_model.proofs.Acting.{Act, Where}
-use Rattle.str_model.proofs.Everywhere.{IsSeen, Stage, at_place, during, everywhere, stage_of}
+use Rattle.str_model.proofs.Everywhere.{Stage, at_place, during, everywhere}
 use Rattle.str_model.proofs.Lists.{get_set, get_set_other, got_set}
 use Rattle.str_model.proofs.Members.{In, in_append, in_at, in_left, in_right}
 use Rattle.str_model.proofs.Owning.{own_step}

@@ -1,18 +1,17 @@
 -- A guarded read is the newest: no commit of its key is final between its writer and the snapshot.
-use Rattle.si_laws.proofs.Arriving.{ArrivedAs, FoundAt, IsOf, a_final, a_pre, committed_stands}
+use Rattle.si_laws.proofs.Arriving.{ArrivedAs, IsOf, a_final, a_pre, committed_stands}
 use Rattle.si_laws.proofs.Clearing.{Clear, Under}
 use Rattle.si_laws.proofs.Grounds.{Committer, Grounds, committed_write, committer}
-use Rattle.si_laws.proofs.GuardReads.{Guarded}
-use Rattle.si_laws.proofs.Guards.{FinalGuard, GuardAt, MarkSent, ReadGuard, fg_none, fg_some, rg_final, rg_gone, rg_open, rg_sent}
+use Rattle.si_laws.proofs.Guards.{MarkSent, ReadGuard, fg_none, fg_some, rg_final, rg_gone, rg_open, rg_sent}
 use Rattle.si_laws.proofs.GuardSent.{same_or_other}
 use Rattle.si_laws.proofs.Linked.{IsCertified, one_certified, one_of}
 use Rattle.si_laws.proofs.Masters.{IsBefore}
 use Rattle.si_laws.proofs.Origins.{HasWritten}
 use Rattle.si_laws.proofs.Owners.{open-fate}
 use Rattle.si_laws.proofs.Reporting.{CommittedIn}
-use Rattle.std.proofs.Common.{List, None, Option, Some, ap, arith, false, inl, inr, refl, slice_get, subst, subst₂, sym, true, ℕ, ◌+◌, ◌<◌, ◌∙◌, ◌≡◌, ◌≢◌, ◌≤◌, ◌⊎◌}
+use Rattle.std.proofs.Common.{List, None, Option, Some, ap, arith, inl, inr, refl, slice_get, subst, subst₂, sym, true, ℕ, ◌+◌, ◌<◌, ◌∙◌, ◌≡◌, ◌≢◌, ◌≤◌, ◌⊎◌}
 use Rattle.str_base.specs.declared.names.KeyId.{KeyId}
-use Rattle.str_base.specs.declared.names.Kind.TheVariants.{Final, Local as LocalKind, Pre}
+use Rattle.str_base.specs.declared.names.Kind.TheVariants.{Local as LocalKind}
 use Rattle.str_base.specs.declared.names.NodeId.{NodeId}
 use Rattle.str_base.specs.declared.names.PartId.{PartId}
 use Rattle.str_base.specs.declared.names.TxId.{TxId}
@@ -20,11 +19,11 @@ use Rattle.str_base.specs.declared.names.Value.TheVariants.{Absent}
 use Rattle.str_base.specs.declared.names.Value.{Value}
 use Rattle.str_base.specs.declared.names.Version.{Version}
 use Rattle.str_base.specs.declared.names.Write.{Write}
-use Rattle.str_model.proofs.Everywhere.{Stage, at_place}
+use Rattle.str_model.proofs.Everywhere.{Stage}
 use Rattle.str_model.proofs.Members.{In}
 use Rattle.str_model.specs.Turns.{CommittedAt, own_fate, phase_fate}
 use Rattle.str_model.specs.Turns
-use Rattle.str_model.specs.Views.{Own, View, is_decided, lc_of}
+use Rattle.str_model.specs.Views.{Own, View, lc_of}
 use Rattle.str_model.specs.declared.names.ReadDone.{ReadDone}
 use Rattle.str_scene.specs.Scenes.{Scene, hosts, is_master, part_of}
 use Rattle.si_laws.specs.Standing.{IsAborted}

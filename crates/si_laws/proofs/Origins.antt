@@ -7,10 +7,10 @@ use Rattle.si_laws.proofs.Linked.{AreWrites, IsCertified, Linked}
 use Rattle.si_laws.proofs.Masters.{Masters, writes_of}
 use Rattle.si_laws.proofs.Parts.{Placed, by_master, by_slave}
 use Rattle.si_laws.proofs.Linked
-use Rattle.std.proofs.Common.{Bool, List, Some, [], ap, false, filter, inl, inr, map, not, refl, replicate, slice_get, slice_set, subst, sym, true, ℕ, ◌+◌, ◌<◌, ◌∙◌, ◌∷◌, ◌≡◌, ◌≤◌, ◌⊎◌}
-use Rattle.str_base.specs.Versions.{finalise, insert_all, mark_of, of_pair, of_tx, settled, without}
+use Rattle.std.proofs.Common.{List, Some, [], ap, false, filter, inl, inr, map, refl, slice_get, subst, sym, true, ℕ, ◌<◌, ◌∙◌, ◌≡◌, ◌≤◌, ◌⊎◌}
+use Rattle.str_base.specs.Versions.{finalise, mark_of, of_pair, of_tx, settled, without}
 use Rattle.str_base.specs.declared.names.KeyId.{KeyId}
-use Rattle.str_base.specs.declared.names.Kind.TheVariants.{Final, Local as LocalKind, Pre}
+use Rattle.str_base.specs.declared.names.Kind.TheVariants.{Final}
 use Rattle.str_base.specs.declared.names.NodeId.{NodeId}
 use Rattle.str_base.specs.declared.names.PartId.{PartId}
 use Rattle.str_base.specs.declared.names.Ts.{Ts}

@@ -1,5 +1,4 @@
 -- The law Prefix: committed answers and wishes see their snapshots, and a read of committed data is the newest.
-use Rattle.dependency_set.specs.declared.names.Dep.{Dep}
 use Rattle.si_laws.proofs.Answering.{Answering, answering}
 use Rattle.si_laws.proofs.Apart.{stand_after}
 use Rattle.si_laws.proofs.Arriving.{BegunAt, begun_at}
@@ -11,27 +10,24 @@ use Rattle.si_laws.proofs.Owners.{WeakDep}
 use Rattle.si_laws.proofs.Reporting.{CommittedIn, ReadOk, ro_committed, ro_gone, ro_listed}
 use Rattle.si_laws.proofs.Seats.{of_nth, to_nth}
 use Rattle.si_laws.proofs.Standing.{fate_open}
-use Rattle.si_laws.specs.Laws.Prefix.{FinalReads, Prefix, PrefixHolds}
+use Rattle.si_laws.specs.Laws.Prefix.{FinalReads, PrefixHolds}
 use Rattle.si_laws.specs.SnapshotIsolation.{SI}
 use Rattle.si_laws.specs.SpeculativeIsolation.{OfOpenWriter, ReadCommitted, ReadNothing}
-use Rattle.si_laws.specs.Standing.{Begun, CommitOf, HasRead, IsCommitted, IsOpen}
-use Rattle.std.proofs.Common.{List, None, Option, Some, add-sub_cancel, ap, arith, false, inl, inr, length, refl, slice_get, subst, subst₂, sym, take, true, ℕ, ◌+◌, ◌-◌, ◌<◌, ◌∙◌, ◌≡◌, ◌≤◌, ◌⊎◌}
+use Rattle.si_laws.specs.Standing.{Begun, CommitOf, IsOpen}
+use Rattle.std.proofs.Common.{List, None, Option, Some, add-sub_cancel, ap, false, inl, inr, length, refl, slice_get, subst, sym, true, ℕ, ◌+◌, ◌-◌, ◌∙◌, ◌≡◌, ◌≤◌, ◌⊎◌}
 use Rattle.std.proofs.Math.Seq.{take-length}
 use Rattle.std.proofs.lemmas.Option.{slice_get_within}
 use Rattle.str_base.specs.declared.names.KeyId.{KeyId}
-use Rattle.str_base.specs.declared.names.NodeId.{NodeId}
 use Rattle.str_base.specs.declared.names.TxId.{TxId}
 use Rattle.str_base.specs.declared.names.Value.{Value}
-use Rattle.str_base.specs.declared.names.Write.{Write}
 use Rattle.str_model.proofs.Everywhere.{at_place, stage_of}
 use Rattle.str_model.proofs.Gaining.{Names}
 use Rattle.str_model.proofs.Members.{In, at_in, in_at}
 use Rattle.str_model.specs.Owned.{Owns}
-use Rattle.str_model.specs.Runs.{World, run}
+use Rattle.str_model.specs.Runs.{run}
 use Rattle.str_model.specs.Turns.{CommittedAt, own_fate, phase_fate}
 use Rattle.str_model.specs.Turns
 use Rattle.str_model.specs.Views.{Own, View, is_decided, lc_of, name_of}
-use Rattle.str_model.specs.declared.messages.Answer.{Answer}
 use Rattle.str_model.specs.declared.names.ReadDone.{ReadDone}
 use Rattle.str_scene.specs.SceneLimits.{IsScene}
 use Rattle.str_scene.specs.Scenes.{Scene, nth}

@@ -5,9 +5,6 @@ use Rattle.si_laws.proofs.Evaluating.{reply_same}
 use Rattle.si_laws.proofs.Marking.{finish-looks, finish_next-looks}
 use Rattle.si_laws.proofs.ReadTurns.{reply-is}
 use Rattle.std.proofs.Common.{Option, Some, [], ap, inl, inr, refl, slice_get, slice_set, subst, sym, ℕ, ◌++◌, ◌∙◌, ◌∷◌, ◌≡◌, ◌⊎◌}
-use Rattle.str_base.specs.declared.names.KeyId.{KeyId}
-use Rattle.str_base.specs.declared.names.TxId.{TxId}
-use Rattle.str_base.specs.declared.names.Value.{Value}
 use Rattle.str_model.proofs.Acting.{Act, Change, GoesOn, JustMarked, ReadsTo, Where, act_abort, act_abort_came, act_accept, act_ack, act_ask, act_begin, act_certify, act_close, act_commit, act_commit_came, act_mark, act_put, act_refuse, act_reply, act_request, act_take, act_unwait, act_wait, ch_away, ch_blind, ch_close, ch_gate, ch_known, ch_read, ch_reply, ch_resolve, ch_take, ch_wait}
 use Rattle.str_model.proofs.Lists.{got_push, got_set}
 use Rattle.str_model.proofs.Members.{In, in_append}
@@ -37,7 +34,7 @@ module _ (here : Here) (input : Input) where
       ]
 
   changed_origin : (d : Doing) (i : ℕ) (x y : Own) (r : ReadDone) → Owns d.view i x → GoesOn d.view x y → Change here input d i x y → In r y.reads → ReadOrigin here d i y r
-  changed_origin d i x y r own g (ch_resolve ffc ds e) h = same_origin d i x y r own refl g.snap.rs h
+  changed_origin d i x y r own g (ch_resolve t e) h = same_origin d i x y r own refl g.snap.rs h
   changed_origin d i x y r own g (ch_known op k a p e n q) h = same_origin d i x y r own (finish-looks op a x).reads g.snap.rs h
   changed_origin d i x y r own g (ch_blind op a p e n) h = same_origin d i x y r own (finish-looks op a x).reads g.snap.rs h
   changed_origin d i x y r own g (ch_read k a by snap rd m t) h =

@@ -87,7 +87,7 @@ module _ (here : Here) (input : Input) where
       ]
 
   changed_back : (d : Doing) (i : ℕ) (x y : Own) (r : ReadDone) → Owns d.view i x → GoesOn d.view x y → Change here input d i x y → In r y.reads → ReadBack d i y r
-  changed_back d i x y r own g (ch_resolve ffc ds e) h = same_back d i x y r own refl g.snap.rs h
+  changed_back d i x y r own g (ch_resolve t e) h = same_back d i x y r own refl g.snap.rs h
   changed_back d i x y r own g (ch_known op k a p e n q) h = same_back d i x y r own (finish-looks op a x).reads g.snap.rs h
   changed_back d i x y r own g (ch_blind op a p e n) h = same_back d i x y r own (finish-looks op a x).reads g.snap.rs h
   changed_back d i x y r own g (ch_read k a by snap s m t) h =
@@ -112,7 +112,7 @@ module _ (here : Here) (input : Input) where
 
   changed_reply : (d : Doing) (i : ℕ) (x y : Own) (k : KeyId) (a : Value) (by : Option TxId) (fc : ℕ) → Owns d.view i x → GoesOn d.view x y → Change here input d i x y → y.phase ≡ Reply k a by fc
       → ReplyBack here input d i y k a by fc
-  changed_reply d i x y k a by fc own g (ch_resolve ffc ds e) h = pb_old x own g.snap.rs h
+  changed_reply d i x y k a by fc own g (ch_resolve t e) h = pb_old x own g.snap.rs h
   changed_reply d i x y k a by fc own g (ch_known op l b p e n q) h = pb_old x own g.snap.rs (finish-reply op b x k a by fc h)
   changed_reply d i x y k a by fc own g (ch_blind op b p e n) h = pb_old x own g.snap.rs (finish-reply op b x k a by fc h)
   changed_reply d i x y k a by fc own g (ch_read l b u snap s m t) h = pb_old x own g.snap.rs (finish_next-reply (own_op here x) b (noted l b u snap x) k a by fc h)

@@ -1,12 +1,11 @@
 -- A conflict by a Refuse has a true cause: the master sent it while the other's version stood there and was a reason.
-use Rattle.std.proofs.Common.{Bool, List, None, Option, Some, [], add-sub_cancel, ap, arith, eq-eqb, false, filter, find, if◌then◌else◌, inl, inr, length, ltb-true, nat_lt, not, refl, slice_get, slice_set, subst, subst₂, suc, sym, true, ℕ, ◌&&◌, ◌++◌, ◌+◌, ◌<◌, ◌∙◌, ◌∷◌, ◌≡◌, ◌≢◌, ◌||◌, ◌⊎◌}
+use Rattle.std.proofs.Common.{Bool, List, None, Option, Some, [], ap, arith, eq-eqb, false, filter, find, if◌then◌else◌, inl, inr, length, ltb-true, nat_lt, not, refl, slice_get, subst, suc, sym, true, ℕ, ◌&&◌, ◌++◌, ◌+◌, ◌<◌, ◌∙◌, ◌∷◌, ◌≡◌, ◌≢◌, ◌||◌, ◌⊎◌}
 use Rattle.str_base.specs.declared.names.Cause.{Cause}
 use Rattle.str_base.specs.declared.names.Cause.TheVariants.{Conflict as ByConflict, Late as IsLate, Lost as IsLost, Wish}
 use Rattle.str_base.specs.declared.names.KeyId.{KeyId}
 use Rattle.str_base.specs.declared.names.Kind.{Kind}
 use Rattle.str_base.specs.declared.names.Kind.TheVariants.{Final, Local as LocalKind, Pre}
 use Rattle.str_base.specs.declared.names.NodeId.{NodeId}
-use Rattle.str_base.specs.declared.names.PartId.{PartId}
 use Rattle.str_base.specs.declared.names.TxId.{TxId}
 use Rattle.str_base.specs.declared.names.Version.{Version}
 use Rattle.str_base.specs.declared.names.Write.{Write}
@@ -15,14 +14,14 @@ use Rattle.str_scene.specs.declared.names.Event.{Event}
 use Rattle.str_scene.specs.SceneLimits.{IsScene}
 use Rattle.str_scene.specs.Scenes.{Here, Scene, in_part, is_master, part_of}
 use Rattle.str_model.specs.declared.messages.Arrived.{Arrived}
-use Rattle.str_model.specs.declared.messages.Body.TheVariants.{Prepare, Refuse as Refusal}
+use Rattle.str_model.specs.declared.messages.Body.TheVariants.{Refuse as Refusal}
 use Rattle.str_model.specs.declared.messages.Input.{Input}
 use Rattle.str_model.specs.declared.messages.Input.TheVariants.{Deliver}
 use Rattle.str_model.specs.declared.messages.Message.{Message}
 use Rattle.str_model.specs.declared.messages.Waiter.TheVariants.{Held}
 use Rattle.str_model.specs.Owned.{Owns}
 use Rattle.str_model.specs.Proposals.{MasterTurn, Refuse, master_parks, master_refuses, master_turn, refuses}
-use Rattle.str_model.specs.Runs.{World, opening, run, run_from}
+use Rattle.str_model.specs.Runs.{World, opening, run}
 use Rattle.str_model.specs.Traces.{Happening, MomentAt, trace}
 use Rattle.str_model.specs.Turns.{met}
 use Rattle.str_model.specs.Views.{Doing, Own, View, lc_of, name_of}
@@ -37,7 +36,6 @@ use Rattle.si_laws.specs.TrueCause.{AbortsAt, IsReason, IsTrue, TrueConflict}
 use Rattle.si_laws.proofs.Carrying.{same_part-is}
 use Rattle.si_laws.proofs.Causes.{Aborts, aborts_by, found_in, late_true, lost_true, wish_true}
 use Rattle.si_laws.proofs.Conflicts.{RefuseHere, conflict_true, wrote_final, wrote_is, written_moment}
-use Rattle.si_laws.proofs.Judging.{Judges}
 use Rattle.si_laws.proofs.Linked.{AreWrites, IsCertified, Linked, certified-lasts}
 use Rattle.si_laws.proofs.LinkingAll.{linked, linked_step}
 use Rattle.si_laws.proofs.Marking.{same_key-is}

@@ -1,13 +1,12 @@
 -- What a step does without a Refuse: own transactions, their turns, evictions and client steps.
 use Rattle.partition_map.specs.declared.rows.Asked.{Asked}
-use Rattle.std.proofs.Common.{Bool, List, None, Option, Some, [], ap, false, if◌then◌else◌, inl, inr, length, map, refl, slice_get, subst, suc, sym, true, zero, ℕ, ◌++◌, ◌+◌, ◌∙◌, ◌∷◌, ◌≡◌}
+use Rattle.std.proofs.Common.{Bool, List, None, Option, Some, [], false, inl, inr, length, map, slice_get, subst, suc, sym, true, zero, ℕ, ◌++◌, ◌+◌, ◌∷◌}
 use Rattle.str_base.specs.declared.names.Cause.{Cause}
 use Rattle.str_base.specs.declared.names.Cause.TheVariants.{Conflict as ByConflict, Late as IsLate, Lost as IsLost, Wish}
 use Rattle.str_base.specs.declared.names.KeyId.{KeyId}
 use Rattle.str_base.specs.declared.names.NodeId.{NodeId}
 use Rattle.str_base.specs.declared.names.PartId.{PartId}
 use Rattle.str_base.specs.declared.names.SessionId.{SessionId}
-use Rattle.str_base.specs.declared.names.TxId.{TxId}
 use Rattle.str_base.specs.declared.names.Value.{Value}
 use Rattle.str_base.specs.declared.names.Write.{Write}
 use Rattle.str_base.specs.Versions.{same_node, stamp}
@@ -28,8 +27,8 @@ use Rattle.str_model.specs.Pass
 use Rattle.str_model.specs.Pass.{half_turn, turn}
 use Rattle.str_model.specs.Scripts
 use Rattle.str_model.specs.Scripts.{known, own_op}
-use Rattle.str_model.specs.Turns.{Away, CertTurn, Certified, Conflict, DepTurn, Keep, Late, Lost, Plain, ReadTurn, Speculative, Wait, WaitGate, cert_turn, dep_turn, read_turn, reply_turn}
-use Rattle.str_model.specs.Views.{Aborted, Active, CertWait, Closing, Committed, Doing, Global, Local, Own, Phase, ReadWait, Remote, Reply, is_decided, letter, name_of}
+use Rattle.str_model.specs.Turns.{Away, CertTurn, Certified, Conflict, DepTurn, Keep, Late, Lost, Plain, ReadTurn, Speculative, Wait, WaitGate, cert_turn, dep_turn, left_by, read_turn, reply_turn}
+use Rattle.str_model.specs.Views.{Aborted, Active, CertWait, Closing, Committed, Doing, Global, Local, Own, Phase, ReadWait, Reply, is_decided, letter, name_of, put}
 use Rattle.str_model.proofs.Gaining.{if_elim}
 use Rattle.str_model.proofs.Members.{In, in_append, in_map}
 
@@ -133,9 +132,15 @@ module _ (here : Here) where
   -- ---- turns
 
   resolved_none : (i : ℕ) (x : Own) (t : DepTurn) (d : Doing) → NoRefusal d (Pass.resolved here i x t d)
-  resolved_none i x (Lost q) d m h r = none_aborted i (IsLost (record { node = here.node; seq = q })) x d m h r
-  resolved_none i x (Late q fc) d m h r = none_aborted i (IsLate (record { node = here.node; seq = q }) (stamp fc)) x d m h r
-  resolved_none i x (Keep ffc ds) d m h r = h
+  resolved_none i x (Lost q f es) d m h r = none_aborted i (IsLost (record { node = here.node; seq = q })) x d m h r
+  resolved_none i x (Late q fc f es) d m h r = none_aborted i (IsLate (record { node = here.node; seq = q }) (stamp fc)) x d m h r
+  resolved_none i x (Keep f es) d m h r = h
+
+  resolve_none : (i : ℕ) (x : Own) (d : Doing) → NoRefusal d (Pass.resolve_own here i x d)
+  resolve_none i x d m h r =
+      let t = dep_turn d.view.own x.snap in
+      let y : Own = record x { snap = left_by t x.snap } in
+      resolved_none i y t (put i y d) m h r
 
   reply_none : (i : ℕ) (k : KeyId) (x : Own) (t : ReadTurn) (d : Doing) → NoRefusal d (Pass.again_reply here i k x t d)
   reply_none i k x (Plain v u fc snap) d m h r = h
@@ -152,7 +157,7 @@ module _ (here : Here) where
   half_none i d =
       let e : Doing = Scripts.at_own i (Pass.resolve_own here i) d in
       none_then d e (Scripts.at_own i (λ x. Pass.again_own here i x.phase x) e)
-      (at_own_none i (Pass.resolve_own here i) d (λ x. resolved_none i x (dep_turn d.view.own x.snap) d))
+      (at_own_none i (Pass.resolve_own here i) d (λ x. resolve_none i x d))
       (at_own_none i (λ x. Pass.again_own here i x.phase x) e (λ x. again_none i x.phase x e))
 
   gate_none : (i : ℕ) (again : Doing → Doing) (lc : ℕ) (x : Own) (t : GateTurn) (d : Doing) → ((z : Doing) → NoRefusal z (again z)) → NoRefusal d (Pass.gate_done here i again lc x t d)

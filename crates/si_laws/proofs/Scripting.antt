@@ -232,7 +232,7 @@ module _ (here : Here) where
   asks_end x (asks_again e) g = g.waits_ e
 
   pub change-good : (input : Input) (d : Doing) (i : ℕ) (x y : Own) → Change here input d i x y → ScriptGood here x → ScriptGood here y
-  change-good input d i x y (ch_resolve ffc ds e) g = record { covers = g.covers; whole = g.whole; waits_ = g.waits_; inside = g.inside; once = g.once }
+  change-good input d i x y (ch_resolve t e) g = record { covers = g.covers; whole = g.whole; waits_ = g.waits_; inside = g.inside; once = g.once }
   change-good input d i x y (ch_known op k a e o n q) g = finish-good x op a o (ap lc_of e) (λ z. cc (sym e ∙ z)) g
   change-good input d i x y (ch_blind op a e o n) g = finish-good x op a o (ap lc_of e) (λ z. cc (sym e ∙ z)) g
   change-good input d i x y (ch_read k a by snap r m t) g =

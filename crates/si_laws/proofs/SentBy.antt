@@ -13,7 +13,7 @@ use Rattle.str_model.specs.Steps.{step}
 use Rattle.str_model.specs.Traces.{Happening, happening, trace_from}
 use Rattle.str_model.specs.Traces
 use Rattle.str_model.specs.Views.{Doing, View, starts}
-use Rattle.str_model.proofs.Acting.{Act, Path, Where, along}
+use Rattle.str_model.proofs.Acting.{Path, Where, along}
 use Rattle.str_model.proofs.Everywhere.{at_place}
 use Rattle.str_model.proofs.LastMoment.{EndsAt, last_moment}
 use Rattle.str_model.proofs.Later.{Took, first_of, got_below}

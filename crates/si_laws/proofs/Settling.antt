@@ -1,6 +1,6 @@
 -- A version is decided at or above its timestamp, so that each change moves the versions of its node up.
 use Rattle.si_laws.proofs.Around.{FinalKnown, Stand, far_final, own_final}
-use Rattle.si_laws.proofs.Arriving.{ArrivedAs, BegunAt, FoundAt, IsOf, a_final, a_pre, committed_stands}
+use Rattle.si_laws.proofs.Arriving.{ArrivedAs, BegunAt, IsOf, a_final, a_pre, committed_stands}
 use Rattle.si_laws.proofs.Carrying.{decides_far, not_done, pair-is}
 use Rattle.si_laws.proofs.Clearing.{AllMoved, Moved, m_local, m_new, m_old, m_pre}
 use Rattle.si_laws.proofs.Linked.{IsDecidedAs, Told, one_certified, one_of}
@@ -9,9 +9,8 @@ use Rattle.si_laws.proofs.Masters.{by_kind}
 use Rattle.si_laws.proofs.Origins.{AllWritten, HasWritten, Origin, og_came, og_commit, og_local, og_old, og_pre, origin}
 use Rattle.si_laws.proofs.Clearing
 use Rattle.si_laws.proofs.Owners.{open-fate, same_own}
-use Rattle.std.proofs.Common.{List, Some, false, add-sub_cancel, ap, arith, inl, inr, refl, slice_get, slice_set, subst, subst₂, sym, true, ℕ, ◌++◌, ◌+◌, ◌-◌, ◌<◌, ◌∙◌, ◌∷◌, ◌≡◌, ◌≤◌, ◌⊎◌}
-use Rattle.str_base.specs.Versions.{mark_of, of_pair, settled}
-use Rattle.str_base.specs.declared.names.KeyId.{KeyId}
+use Rattle.std.proofs.Common.{List, Some, false, add-sub_cancel, ap, arith, slice_get, slice_set, subst, subst₂, sym, true, ℕ, ◌++◌, ◌+◌, ◌-◌, ◌∙◌, ◌≡◌, ◌≤◌}
+use Rattle.str_base.specs.Versions.{mark_of, of_pair}
 use Rattle.str_base.specs.declared.names.Kind.TheVariants.{Final, Local as LocalKind, Pre}
 use Rattle.str_base.specs.declared.names.NodeId.{NodeId}
 use Rattle.str_base.specs.declared.names.PartId.{PartId}
@@ -30,13 +29,12 @@ use Rattle.str_model.specs.Steps.{decides}
 use Rattle.str_model.specs.Turns.{CommittedAt, own_fate}
 use Rattle.str_model.specs.Turns
 use Rattle.str_model.specs.Views.{Doing, Own, View, is_decided, lc_of, name_of}
-use Rattle.str_model.specs.declared.messages.Body.{Body}
 use Rattle.str_model.specs.declared.messages.Body.TheVariants.{Commit}
 use Rattle.str_model.specs.declared.messages.Input.TheVariants.{Deliver}
 use Rattle.str_model.specs.declared.messages.Input.{Input}
 use Rattle.str_model.specs.declared.messages.Message.{Message}
 use Rattle.str_model.specs.declared.names.KeyMark.{KeyMark}
-use Rattle.str_scene.specs.Scenes.{Here, Scene, hosts, part_of}
+use Rattle.str_scene.specs.Scenes.{Scene, hosts, part_of}
 
 module _ (scene : Scene) (s : Stage) (i : ℕ) (v : View) (input : Input) (w : Where) (d e : Doing) (is : slice_get s.nodes i ≡ Some v) (seen : IsSeen s input) (act : Act (at_place scene i) input w d e)
     (g : Governed scene (during s i d)) (vals : AllWritten scene (during s i d)) where

@@ -140,7 +140,7 @@ module _ (here : Here) (input : Input) (P : TxId → KeyId → Type 0) (d : Doin
       let f : FromVersion d.view.versions k (Some u) = subst (TurnFrom d.view.versions k) q (read_from here d.view snap k) in λ z t. f z (sym e ∙ t)
 
   pub change_from : (i : ℕ) (x y : Own) → Change here input d i x y → OwnFrom P x → OwnFrom P y
-  change_from i x y (ch_resolve ffc ds e) h = record { reads = h.reads; phase = h.phase }
+  change_from i x y (ch_resolve t e) h = record { reads = h.reads; phase = h.phase }
   change_from i x y (ch_known op k a p e n q) h = finish_from P op a x h
   change_from i x y (ch_blind op a p e n) h = finish_from P op a x h
   change_from i x y (ch_read k a by snap r m t) h =

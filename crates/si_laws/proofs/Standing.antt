@@ -17,6 +17,7 @@ use Rattle.str_model.proofs.Along.{StepPath, first-path, resolved_first, rest-pa
 use Rattle.si_laws.proofs.Beneath.{Below, OpenAt, UpTo, fate_same, keeps_below, keeps_up_to, leaves, resolve_all-open}
 use Rattle.si_laws.proofs.Depending.{depends-act}
 use Rattle.str_model.proofs.Lists.{get_set, get_set_other}
+use Rattle.str_model.proofs.Looking.{after_look}
 use Rattle.str_model.proofs.Members.{In}
 use Rattle.si_laws.proofs.Owners.{Depends, same_own}
 use Rattle.si_laws.proofs.Times.{timed_opening}
@@ -27,12 +28,14 @@ written : (v : List Own) (i : ℕ) (x z y : Own) → slice_get v i ≡ Some x �
 written v i x z y is own = let k : Some y ≡ Some z = sym own ∙ get_set v i x z is in cc k
 
 resolved-open : (here : Here) (i : ℕ) (x : Own) (t : DepTurn) (d : Doing) → Owns d.view i x → dep_turn d.view.own x.snap ≡ t
-    → Depends here (Pass.resolved here i x t d).view → OpenAt (Pass.resolved here i x t d).view i
+    → Depends here (after_look here i x t d).view → OpenAt (after_look here i x t d).view i
 unfolding dep_turn aborted
-resolved-open here i x (Lost q) d is e b y dep own op m =
-    absurd (cc (ap (λ z. is_decided z.phase) (written d.view.own i x _ y is own), op))
-resolved-open here i x (Late q fc) d is e b y dep own op m =
-    absurd (cc (ap (λ z. is_decided z.phase) (written d.view.own i x _ y is own), op))
+resolved-open here i x (Lost q ffc ds) d is e b y dep own op m =
+    let z : Own = record x { snap = record (x.snap) { ffc = ffc; deps = ds } } in
+    absurd (cc (ap (λ z. is_decided z.phase) (written (slice_set d.view.own i z) i z _ y (get_set d.view.own i x z is) own), op))
+resolved-open here i x (Late q fc ffc ds) d is e b y dep own op m =
+    let z : Own = record x { snap = record (x.snap) { ffc = ffc; deps = ds } } in
+    absurd (cc (ap (λ z. is_decided z.phase) (written (slice_set d.view.own i z) i z _ y (get_set d.view.own i x z is) own), op))
 resolved-open here i x (Keep ffc ds) d is e b y dep own op m =
     let z : Own = record x { snap = record (x.snap) { ffc = ffc; deps = ds } } in
     let w = b.deps i y dep own op m in

@@ -99,7 +99,7 @@ module _ (here : Here) where
   reads_need x k h (reads_again p) = h.waits k (subst (λ f. WaitsFor f k) (sym p) refl)
 
   changed_needy : (input : Input) (d : Doing) (i : ℕ) (x y : Own) → Change here input d i x y → Needy here x → Needy here y
-  changed_needy input d i x y (ch_resolve ffc ds e) h = record { unmet = h.unmet; waits = h.waits }
+  changed_needy input d i x y (ch_resolve t e) h = record { unmet = h.unmet; waits = h.waits }
   changed_needy input d i x y (ch_known op k a p e n q) h = finish_needy op k a x e n q
   changed_needy input d i x y (ch_blind op a p e n) h = blind_needy op a x n
   changed_needy input d i x y (ch_read k a by snap r m t) h = read_needy x k a by snap (reads_need x k h r)

@@ -1,6 +1,6 @@
 -- A transaction that wished to abort, and not by an abort of its script: its dependencies were gone, so all that it read from has committed.
-use Rattle.std.proofs.Common.{List, None, Option, Some, [], ap, false, inl, inr, refl, slice_get, slice_set, subst, sym, true, ℕ, ◌++◌, ◌∙◌, ◌∷◌, ◌≡◌, ◌⊎◌}
-use Rattle.str_base.specs.declared.names.Cause.TheVariants.{Conflict, Late, Lost, Wish}
+use Rattle.std.proofs.Common.{None, Option, Some, [], ap, false, inl, inr, refl, slice_get, slice_set, subst, sym, true, ℕ, ◌∙◌, ◌≡◌}
+use Rattle.str_base.specs.declared.names.Cause.TheVariants.{Wish}
 use Rattle.str_base.specs.declared.names.Cause.{Cause}
 use Rattle.str_model.proofs.Acting.{Act, Where, Why, act_abort, act_abort_came, act_accept, act_ack, act_ask, act_begin, act_certify, act_close, act_commit, act_commit_came, act_mark, act_put, act_refuse, act_reply, act_request, act_take, act_unwait, act_wait, at_abort, at_need, by_certification, by_eviction, by_late, by_lost, by_refusal, by_script}
 use Rattle.str_model.proofs.Lists.{got_push, got_set}
@@ -37,8 +37,8 @@ module _ (here : Here) (input : Input) where
       → WishOrigin here d n (in_phase (Aborted (lc_of x.phase) cause) x)
   why_wish d n x cause own f (by_script (at_abort a e)) h = wo_stop e
   why_wish d n x cause own f (by_script (at_need e none)) h = wo_now x own f none refl refl
-  why_wish d n x cause own f (by_lost q e) h = absurd (cc h.1)
-  why_wish d n x cause own f (by_late q fc e) h = absurd (cc h.1)
+  why_wish d n x cause own o (by_lost q f es e) h = absurd (cc h.1)
+  why_wish d n x cause own o (by_late q fc f es e) h = absurd (cc h.1)
   why_wish d n x cause own f (by_certification u k e) h = absurd (cc h.1)
   why_wish d n x cause own f (by_eviction from a w c) h = absurd (cc h.1)
   why_wish d n x cause own f (by_refusal from t p u k c) h = absurd (cc h.1)

@@ -63,7 +63,7 @@ finish_next_keeps None a x k h = h
 finish_next_keeps (Some op) a x k h = finish_keeps op a x k h
 
 changed_keeps : (here : Here) (input : Input) (d : Doing) (i : ℕ) (x y : Own) → Change here input d i x y → (k : KeyId) → WroteKey x.writes k → WroteKey y.writes k
-changed_keeps here input d i x y (ch_resolve ffc ds e) k h = h
+changed_keeps here input d i x y (ch_resolve t e) k h = h
 changed_keeps here input d i x y (ch_known op l a p e n q) k h = finish_keeps op a x k h
 changed_keeps here input d i x y (ch_blind op a p e n) k h = finish_keeps op a x k h
 changed_keeps here input d i x y (ch_read l a by snap r m t) k h = finish_next_keeps (own_op here x) a (noted l a by snap x) k h

@@ -36,7 +36,7 @@ use Rattle.str_scene.specs.Scenes.{Here, Session, hosts, hosts_key, is_master, n
 use Rattle.dependency_set.specs.Snapshots.{Snap}
 use Rattle.str_model.specs.Steps.{decides, drop_held}
 use Rattle.str_model.specs.Strange.{is_valid}
-use Rattle.str_model.specs.Turns.{Away, Certified, Conflict, Give, Keep, Late, Lost, Plain, Speculative, Wait, cert_turn, dep_turn, read_turn, reply_turn, serve_turn}
+use Rattle.str_model.specs.Turns.{Away, Certified, Conflict, DepTurn, Give, Late, Lost, Plain, Speculative, Wait, cert_turn, dep_turn, left_by, read_turn, reply_turn, serve_turn}
 use Rattle.str_base.specs.Versions.{of_tx, raised, same_key, same_node, stamp}
 use Rattle.str_model.specs.Views.{Active, CertWait, Closing, Doing, Global, Own, ReadWait, Remote, Reply, View, is_decided, lc_of, name_of, put}
 use Rattle.str_model.proofs.Gaining.{Extends}
@@ -120,7 +120,7 @@ IsAsking here w d i x = (slice_get d.view.own i ≡ Some x) × Touches w i × As
 
 -- what an undecided transaction becomes, change by change
 pub data Change (here : Here) (input : Input) (d : Doing) (i : ℕ) (x : Own) : Own → Type 0 where
-  ch_resolve : (ffc : ℕ) (ds : List Dep) → dep_turn d.view.own x.snap ≡ Keep ffc ds → Change here input d i x (record x { snap = record (x.snap) { ffc = ffc; deps = ds } })
+  ch_resolve : (t : DepTurn) → dep_turn d.view.own x.snap ≡ t → Change here input d i x (record x { snap = left_by t x.snap })
   ch_known : (op : Op) (k : KeyId) (a : Value) → x.phase ≡ Active → own_op here x ≡ Some op → Needs op k → known x k ≡ Some a → Change here input d i x (finish op a x)
   ch_blind : (op : Op) (a : Value) → x.phase ≡ Active → own_op here x ≡ Some op → NeedsNone op → Change here input d i x (finish op a x)
   ch_read : (k : KeyId) (a : Value) (by : Option TxId) (snap : Snap) → Reads here x k → JustMarked d.view k x.snap.rs → ReadsTo here d.view x.snap k a by snap
@@ -147,8 +147,8 @@ pub data Wishing (here : Here) (x : Own) : Type 0 where
 -- why a transaction aborts
 pub data Why (here : Here) (input : Input) (d : Doing) (i : ℕ) (x : Own) : Cause → Type 0 where
   by_script : Wishing here x → Why here input d i x Wish
-  by_lost : (q : ℕ) → dep_turn d.view.own x.snap ≡ Lost q → Why here input d i x (IsLost (record { node = here.node; seq = q }))
-  by_late : (q fc : ℕ) → dep_turn d.view.own x.snap ≡ Late q fc → Why here input d i x (IsLate (record { node = here.node; seq = q }) (stamp fc))
+  by_lost : (q f : ℕ) (es : List Dep) → dep_turn d.view.own x.snap ≡ Lost q f es → Why here input d i x (IsLost (record { node = here.node; seq = q }))
+  by_late : (q fc f : ℕ) (es : List Dep) → dep_turn d.view.own x.snap ≡ Late q fc f es → Why here input d i x (IsLate (record { node = here.node; seq = q }) (stamp fc))
   by_certification : (u : TxId) (k : KeyId) → cert_turn here d.view x.snap x.writes ≡ Conflict u k → Why here input d i x (ByConflict u k here.node)
   by_eviction : (from : NodeId) (a : Arrived) (w : Write) → Comes here input from (Replicate a.tx a.part a.rs a.lc a.writes) → Why here input d i x (ByConflict a.tx w.key here.node)
   by_refusal : (from : NodeId) (t : TxId) (p : PartId) (u : TxId) (k : KeyId) → Comes here input from (Refusal t p u k) → Why here input d i x (ByConflict u k from)

@@ -15,11 +15,13 @@ use Rattle.str_model.specs.Proposals.{Accept, Ignore, MasterTurn, Park, Refuse, 
 use Rattle.str_scene.specs.Scenes.{Here}
 use Rattle.str_model.specs.Scripts
 use Rattle.str_model.specs.Steps
-use Rattle.str_model.specs.Turns.{DepTurn, Give, Keep, Late, Lost, Plain, ReadTurn, ServeTurn, ServeWait, dep_turn, reply_turn, serve_turn}
-use Rattle.str_model.specs.Views.{CertWait, Closing, Doing, Global, Local, Own, Phase, ReadWait, Reply, View, is_decided, lc_of, starts}
+use Rattle.str_model.specs.Turns.{DepTurn, Give, Keep, Late, Lost, Plain, ReadTurn, ServeTurn, ServeWait, dep_turn, left_by, reply_turn, serve_turn}
+use Rattle.str_model.specs.Views.{CertWait, Closing, Doing, Global, Local, Own, Phase, ReadWait, Reply, View, is_decided, lc_of, put, starts}
 use Rattle.str_model.specs.Waiters
 use Rattle.str_model.proofs.Acting.{Act, InRule, InTurn, InWait, IsOwn, Path, PathTo, Touches, Where, act_abort, act_accept, act_ask, act_close, act_commit, act_put, act_refuse, act_reply, act_unwait, along, and_then, asks_again, at_need, by_late, by_lost, by_script, ch_resolve, ch_take, it_waits, one, reads_again, s_read, stay, IsTurn, asked_before, touches_turn}
 use Rattle.str_model.proofs.Gaining.{TurnGood, if_elim, reply_turn-good}
+use Rattle.str_model.proofs.Lists.{get_set}
+use Rattle.str_model.proofs.Looking.{dep_turn_again}
 use Rattle.str_model.proofs.Members.{In, in_right}
 use Rattle.str_model.proofs.Operating.{IsFree, at_own-path, certify_now-path, free_at, gate_commits, read_now-path, resolved-extends, with_value-path}
 use Rattle.str_model.proofs.Ruling.{rule-path}
@@ -27,12 +29,25 @@ use Rattle.str_model.proofs.Ruling.{rule-path}
 module _ (here : Here) (input : Input) (w : Where) where
   -- ---- the pass
 
-  resolved-path : (i : ℕ) (x : Own) (turn : DepTurn) (d : Doing) → IsOwn w d i x → is_decided x.phase ≡ false → dep_turn d.view.own x.snap ≡ turn
-      → Path here input w d (Pass.resolved here i x turn d)
-  resolved-path i x (Lost q) d own f e = one (act_abort i _ x d own f (by_lost q e))
-  resolved-path i x (Late q fc) d own f e = one (act_abort i _ x d own f (by_late q fc e))
-  resolved-path i x (Keep ffc ds) d own f e =
-      one (act_put i x _ d own (record { goes = record { was_open = f; is_open = f; same_place = refl; snap = resolved-extends x ffc ds d e; same_lc = refl }; change = ch_resolve ffc ds e }))
+  -- the snapshot that is left is put
+  left-path : (i : ℕ) (x : Own) (t : DepTurn) (d : Doing) → IsOwn w d i x → is_decided x.phase ≡ false → dep_turn d.view.own x.snap ≡ t
+      → Path here input w d (put i (record x { snap = left_by t x.snap }) d)
+  left-path i x t d own f e =
+      one (act_put i x _ d own (record { goes = record { was_open = f; is_open = f; same_place = refl; snap = resolved-extends x t d e; same_lc = refl }; change = ch_resolve t e }))
+
+  -- it aborts where a dependency decides
+  resolved-path : (i : ℕ) (y : Own) (t : DepTurn) (d : Doing) → IsOwn w d i y → is_decided y.phase ≡ false → dep_turn d.view.own y.snap ≡ t → Path here input w d (Pass.resolved here i y t d)
+  resolved-path i y (Lost q g es) d own f e = one (act_abort i _ y d own f (by_lost q g es e))
+  resolved-path i y (Late q fc g es) d own f e = one (act_abort i _ y d own f (by_late q fc g es e))
+  resolved-path i y (Keep g es) d own f e = stay d
+
+  resolve_own-path : (i : ℕ) (x : Own) (d : Doing) → IsOwn w d i x → is_decided x.phase ≡ false → Path here input w d (Pass.resolve_own here i x d)
+  resolve_own-path i x d own f =
+      let t = dep_turn d.view.own x.snap in
+      let y : Own = record x { snap = left_by t x.snap } in
+      let e : Doing = put i y d in
+      and_then d e (Pass.resolved here i y t e) (left-path i x t d own f refl)
+      (resolved-path i y t e (get_set d.view.own i x y own.0, own.1) f (dep_turn_again d.view.own i x own.0))
 
   again_reply-path : (i : ℕ) (k : KeyId) (a : Value) (by : Option TxId) (fc : ℕ) (x : Own) (turn : ReadTurn) (d : Doing) → IsFree w d i x → TurnGood d.view x.snap turn
       → x.phase ≡ Reply k a by fc → reply_turn here x.snap a by fc ≡ turn → Path here input w d (Pass.again_reply here i k x turn d)
@@ -94,7 +109,7 @@ module _ (here : Here) (input : Input) (w : Where) where
 
   pub first-path : (i : ℕ) (d : Doing) → Touches w i → Path here input w d (resolved_first i d)
   unfolding resolved_first
-  first-path i d t = at_own-path here input w i (Pass.resolve_own here i) d t (λ x own o. resolved-path i x (dep_turn d.view.own x.snap) d own o refl)
+  first-path i d t = at_own-path here input w i (Pass.resolve_own here i) d t (λ x own o. resolve_own-path i x d own o)
 
   again-half : (i : ℕ) (d : Doing) → Touches w i → Path here input w (resolved_first i d) (Pass.half_turn here i d)
   unfolding Pass.half_turn resolved_first

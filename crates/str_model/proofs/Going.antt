@@ -44,7 +44,7 @@ module _ (here : Here) (input : Input) (d : Doing) (i : ℕ) (x : Own) where
   never n lc l = cc (n, l)
 
   by_change : (y : Own) → GoesOn d.view x y → Change here input d i x y → PutsOn d.view x y
-  by_change y g (ch_resolve ffc ds e) = record { goes = g; same_parts = refl; kept = λ lc l. (refl, refl) }
+  by_change y g (ch_resolve t e) = record { goes = g; same_parts = refl; kept = λ lc l. (refl, refl) }
   by_change y g (ch_known op k a e o n q) = record { goes = g; same_parts = finish-parts op a x; kept = λ lc l. absurd (never (ap lc_of e) lc l) }
   by_change y g (ch_blind op a e o n) = record { goes = g; same_parts = finish-parts op a x; kept = λ lc l. absurd (never (ap lc_of e) lc l) }
   by_change y g (ch_read k a by snap r m t) =

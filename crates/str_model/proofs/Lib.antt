@@ -2,6 +2,7 @@ pub mod Worked
 pub mod Lists
 pub mod Members
 pub mod Gaining
+pub mod Looking
 pub mod Acting
 pub mod Operating
 pub mod Meeting

@@ -20,10 +20,9 @@ use Rattle.str_model.specs.Views.{Doing, name_of}
 use Rattle.str_scene.specs.Scenes.{Here}
 use Rattle.str_model.proofs.Acting.{Comes, InRule, InTurn, InWait, Path, PathTo, Where, act_take, one}
 use Rattle.str_model.proofs.Along.{close-path, half_turn-path, waiter_turn-waited}
-use Rattle.str_model.proofs.Evicting.{all_evicted}
 use Rattle.str_model.proofs.Linking.{Link, evict_linked_to, l_close, l_evict, l_half, l_rule, l_wait, last_of, valid}
 use Rattle.str_model.proofs.Operating.{at_own-path}
-use Rattle.str_model.proofs.Ruling.{evict-unknown, evict_at-path, rule-path, takes_parts, takes_at}
+use Rattle.str_model.proofs.Ruling.{evict_at-path, rule-path, takes_at}
 
 -- the last eviction, and then the versions are taken
 pub take_is : (here : Here) (a : Arrived) (d r : Doing) → Arrivals.replicate_rule here a d ≡ Some r

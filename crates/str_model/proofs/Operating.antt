@@ -20,11 +20,12 @@ use Rattle.str_scene.specs.Scenes.{Here}
 use Rattle.str_model.specs.Scripts.{ask_commit, cert_done, certify_now, do_op, finish, finish_next, known, need_value, noted, op_or_commit, own_op, read_done, read_now, with_value}
 use Rattle.str_model.specs.Scripts
 use Rattle.dependency_set.specs.Snapshots.{Snap}
-use Rattle.str_model.specs.Turns.{Away, CertTurn, Certified, Conflict, DepTurn, Keep, Late, Lost, Plain, ReadTurn, Speculative, Wait, WaitGate, cert_turn, dep_turn, greatest, read_turn}
+use Rattle.str_model.specs.Turns.{Away, CertTurn, Certified, Conflict, DepTurn, Late, Plain, ReadTurn, Speculative, Wait, WaitGate, by_fate, cert_turn, dep_turn, deps_left, greatest, left_by, own_fate, read_turn, resolve_all}
 use Rattle.str_model.specs.Turns
 use Rattle.str_model.specs.Views.{Active, CertWait, Closing, Doing, Own, Phase, ReadWait, Remote, View, is_decided, lc_of, put}
 use Rattle.str_model.proofs.Acting.{AsksCommit, Change, GoesOn, IsMasters, IsOwn, JustMarked, Needs, Path, Reads, Touches, Where, act_abort, act_certify, act_mark, act_put, act_request, and_then, asks_new, at_abort, by_certification, by_script, ch_away, ch_blind, ch_close, ch_gate, ch_known, ch_read, ch_wait, one, own_reading, reads_new, stay, to_final, to_local}
 use Rattle.str_model.proofs.Gaining.{Extends, Gains, Names, Settles, TurnGood, extends_self, gains_it, gains_of, if_elim, read_turn-good}
+use Rattle.str_model.proofs.Looking.{deps_also}
 use Rattle.str_model.proofs.Members.{In}
 
 pub nor_left : (a b : Bool) → not (a || b) ≡ true → a ≡ false
@@ -110,62 +111,49 @@ read_marked here k x d (Speculative v by snap) h = extends_marked k x d snap h
 read_marked here k x d (Wait by) h = tt
 read_marked here k x d (Away n) h = tt
 
--- what is left of dependencies that were resolved
-pub resolve_all-sub : (own : List Own) (rs : ℕ) (ds : List Dep) (ffc f : ℕ) (es : List Dep) → Turns.resolve_all own rs ds ffc ≡ Keep f es → (x : Dep) → In x es → In x ds
-resolve_all-sub own rs [] ffc f es e x h = let q : [] ≡ es = cc e in subst (In x) (sym q) h
-resolve_all-sub own rs (d ∷ ds) ffc f es e x h =
-    by_fate-sub (Turns.own_fate (slice_get own (d.seq - 1))) (λ g es' e' h'. inr (resolve_all-sub own rs ds g f es' e' x h')) e h
+-- what is left of dependencies that were looked at
+pub resolve_all-sub : (own : List Own) (rs : ℕ) (ds : List Dep) (ffc : ℕ) (x : Dep) → In x (deps_left (resolve_all own rs ds ffc)) → In x ds
+resolve_all-sub own rs [] ffc x h = h
+resolve_all-sub own rs (d ∷ ds) ffc x h = by_fate-sub (own_fate (slice_get own (d.seq - 1))) (λ g k. resolve_all-sub own rs ds g x k) h
   where
-    by_fate-sub : (t : Turns.Fate) → ((g : ℕ) (es' : List Dep) → Turns.resolve_all own rs ds g ≡ Keep f es' → In x es' → In x (d ∷ ds))
-        → Turns.by_fate rs d ffc (λ g. Turns.resolve_all own rs ds g) t ≡ Keep f es → In x es → In x (d ∷ ds)
-    by_fate-sub Turns.Open rec q k = kept_also (Turns.resolve_all own rs ds ffc) refl q k
+    by_fate-sub : (f : Turns.Fate) → ((g : ℕ) → In x (deps_left (resolve_all own rs ds g)) → In x ds)
+        → In x (deps_left (by_fate rs d ds ffc (λ g. resolve_all own rs ds g) f)) → In x (d ∷ ds)
+    by_fate-sub Turns.Open rec k = elim (subst (In x) (deps_also d (resolve_all own rs ds ffc)) k) [ inl z ↦ inl z | inr z ↦ inr (rec ffc z) ]
+    by_fate-sub Turns.Gone rec k = k
+    by_fate-sub (Turns.CommittedAt fc) rec k = by_test (nat_lt rs fc) k
       where
-        kept_also : (r : DepTurn) → Turns.resolve_all own rs ds ffc ≡ r → Turns.keep_also d r ≡ Keep f es → In x es → In x (d ∷ ds)
-        kept_also (Lost a) p q k = absurd (cc q)
-        kept_also (Late a b) p q k = absurd (cc q)
-        kept_also (Keep a bs) p q k =
-            let same : d ∷ bs ≡ es = cc q in
-            let f' : a ≡ f = cc q in
-            elim (subst (In x) (sym same) k) [ inl z ↦ inl z | inr z ↦ rec ffc bs (p ∙ ap (λ n. Keep n bs) f') z ]
-    by_fate-sub Turns.Gone rec q k = absurd (cc q)
-    by_fate-sub (Turns.CommittedAt fc) rec q k = by_test (nat_lt rs fc) q k
-      where
-        by_test : (b : Bool) → (if b then Late d.seq fc else Turns.resolve_all own rs ds (max ffc fc)) ≡ Keep f es → In x es → In x (d ∷ ds)
-        by_test true q k = absurd (cc q)
-        by_test false q k = rec (max ffc fc) es q k
+        by_test : (b : Bool) → In x (deps_left (if b then Late d.seq fc ffc (d ∷ ds) else resolve_all own rs ds (max ffc fc))) → In x (d ∷ ds)
+        by_test true k = k
+        by_test false k = inr (rec (max ffc fc) k)
 
 -- what is no longer there has committed at or below the snapshot
-pub resolve_all-kept : (view : View) (rs : ℕ) (ds : List Dep) (ffc f : ℕ) (es : List Dep) → Turns.resolve_all view.own rs ds ffc ≡ Keep f es → (x : Dep) → In x ds → Names x.seq es ⊎ Settles view rs x
-resolve_all-kept view rs [] ffc f es e x h = absurd h
-resolve_all-kept view rs (d ∷ ds) ffc f es e x h =
-    by_fate-kept (Turns.own_fate (slice_get view.own (d.seq - 1))) refl (λ g es' e' h'. resolve_all-kept view rs ds g f es' e' x h') e h
+pub resolve_all-kept : (view : View) (rs : ℕ) (ds : List Dep) (ffc : ℕ) (x : Dep) → In x ds → Names x.seq (deps_left (resolve_all view.own rs ds ffc)) ⊎ Settles view rs x
+resolve_all-kept view rs [] ffc x h = absurd h
+resolve_all-kept view rs (d ∷ ds) ffc x h = by_fate-kept (own_fate (slice_get view.own (d.seq - 1))) refl (λ g k. resolve_all-kept view rs ds g x k) h
   where
-    by_fate-kept : (t : Turns.Fate) → Turns.own_fate (slice_get view.own (d.seq - 1)) ≡ t → ((g : ℕ) (es' : List Dep) → Turns.resolve_all view.own rs ds g ≡ Keep f es' → In x ds → Names x.seq es' ⊎ Settles view rs x)
-        → Turns.by_fate rs d ffc (λ g. Turns.resolve_all view.own rs ds g) t ≡ Keep f es → In x (d ∷ ds) → Names x.seq es ⊎ Settles view rs x
-    by_fate-kept Turns.Open s rec q k = kept_also (Turns.resolve_all view.own rs ds ffc) refl q k
+    by_fate-kept : (f : Turns.Fate) → own_fate (slice_get view.own (d.seq - 1)) ≡ f → ((g : ℕ) → In x ds → Names x.seq (deps_left (resolve_all view.own rs ds g)) ⊎ Settles view rs x)
+        → In x (d ∷ ds) → Names x.seq (deps_left (by_fate rs d ds ffc (λ g. resolve_all view.own rs ds g) f)) ⊎ Settles view rs x
+    by_fate-kept Turns.Open s rec k = subst (λ es. Names x.seq es ⊎ Settles view rs x) (sym (deps_also d (resolve_all view.own rs ds ffc))) (by_place k)
       where
-        kept_also : (r : DepTurn) → Turns.resolve_all view.own rs ds ffc ≡ r → Turns.keep_also d r ≡ Keep f es → In x (d ∷ ds) → Names x.seq es ⊎ Settles view rs x
-        kept_also (Lost a) p q k = absurd (cc q)
-        kept_also (Late a b) p q k = absurd (cc q)
-        kept_also (Keep a bs) p q (inl z) =
-            let same : d ∷ bs ≡ es = cc q in inl (d, subst (In d) same (inl refl), ap (λ (y : Dep). y.seq) z)
-        kept_also (Keep a bs) p q (inr z) =
-            let same : d ∷ bs ≡ es = cc q in
-            let f' : a ≡ f = cc q in
-            elim (rec ffc bs (p ∙ ap (λ n. Keep n bs) f') z) [ inl n ↦ inl (n.0, subst (In n.0) same (inr n.1), n.2) | inr t ↦ inr t ]
-    by_fate-kept Turns.Gone s rec q k = absurd (cc q)
-    by_fate-kept (Turns.CommittedAt fc) s rec q k = by_test (nat_lt rs fc) refl q k
+        by_place : In x (d ∷ ds) → Names x.seq (d ∷ deps_left (resolve_all view.own rs ds ffc)) ⊎ Settles view rs x
+        by_place (inl z) = inl (d, inl refl, ap (λ (y : Dep). y.seq) z)
+        by_place (inr z) = elim (rec ffc z) [ inl n ↦ inl (n.0, inr n.1, n.2) | inr t ↦ inr t ]
+    by_fate-kept Turns.Gone s rec k = inl (x, k, refl)
+    by_fate-kept (Turns.CommittedAt fc) s rec k = by_test (nat_lt rs fc) refl k
       where
-        by_test : (b : Bool) → nat_lt rs fc ≡ b → (if b then Late d.seq fc else Turns.resolve_all view.own rs ds (max ffc fc)) ≡ Keep f es → In x (d ∷ ds) → Names x.seq es ⊎ Settles view rs x
-        by_test true t q k = absurd (cc q)
-        by_test false t q (inl z) = inr (fc, subst (λ (y : Dep). Turns.own_fate (slice_get view.own (y.seq - 1)) ≡ Turns.CommittedAt fc) z s, ltb-false rs fc t)
-        by_test false t q (inr z) = rec (max ffc fc) es q z
+        by_test : (b : Bool) → nat_lt rs fc ≡ b → In x (d ∷ ds) → Names x.seq (deps_left (if b then Late d.seq fc ffc (d ∷ ds) else resolve_all view.own rs ds (max ffc fc))) ⊎ Settles view rs x
+        by_test true t k = inl (x, k, refl)
+        by_test false t (inl z) = inr (fc, subst (λ (y : Dep). own_fate (slice_get view.own (y.seq - 1)) ≡ Turns.CommittedAt fc) z s, ltb-false rs fc t)
+        by_test false t (inr z) = rec (max ffc fc) z
 
-pub resolved-extends : (x : Own) (ffc : ℕ) (ds : List Dep) (d : Doing) → dep_turn d.view.own x.snap ≡ Keep ffc ds
-    → Extends d.view x.snap (record (x.snap) { ffc = ffc; deps = ds })
+pub resolved-extends : (x : Own) (t : DepTurn) (d : Doing) → dep_turn d.view.own x.snap ≡ t → Extends d.view x.snap (left_by t x.snap)
 unfolding dep_turn
-resolved-extends x ffc ds d e =
-    record { rs = refl; deps = λ y h. inl (resolve_all-sub d.view.own x.snap.rs x.snap.deps x.snap.ffc ffc ds e y h); kept = resolve_all-kept d.view x.snap.rs x.snap.deps x.snap.ffc ffc ds e }
+resolved-extends x t d e =
+    record {
+      rs = refl;
+      deps = λ y h. inl (resolve_all-sub d.view.own x.snap.rs x.snap.deps x.snap.ffc y (subst (λ u. In y (deps_left u)) (sym e) h));
+      kept = λ y h. subst (λ u. Names y.seq (deps_left u) ⊎ Settles d.view x.snap.rs y) e (resolve_all-kept d.view x.snap.rs x.snap.deps x.snap.ffc y h);
+    }
 
 -- marks change nothing that a read looks at
 read_again : (here : Here) (k : KeyId) (t : ℕ) (snap : Snap) (d : Doing) → read_turn here (marked k t d).view snap k ≡ read_turn here d.view snap k

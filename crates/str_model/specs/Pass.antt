@@ -6,19 +6,22 @@ use Rattle.str_model.specs.Acts.{aborted, asked, closed, committed}
 use Rattle.str_model.specs.Gates.{Ask, CommitAt, GateTurn, Missing, Shut, gate_of}
 use Rattle.str_scene.specs.Scenes.{Here}
 use Rattle.str_model.specs.Scripts.{at_own, certify_now, read_now, with_value}
-use Rattle.str_model.specs.Turns.{DepTurn, Keep, Late, Lost, Plain, ReadTurn, dep_turn, reply_turn}
+use Rattle.str_model.specs.Turns.{DepTurn, Keep, Late, Lost, Plain, ReadTurn, dep_turn, left_by, reply_turn}
 use Rattle.str_base.specs.Versions.{stamp}
 use Rattle.str_model.specs.Views.{CertWait, Closing, Doing, Global, Local, Own, Phase, ReadWait, Reply, put}
 
--- what the look at the dependencies came to is done
+-- it aborts where a dependency decided
 abbrev pub resolved : Here → ℕ → Own → DepTurn → Doing → Doing
-resolved here i x (Lost q) d = aborted here i (IsLost (record { node = here.node; seq = q })) x d
-resolved here i x (Late q fc) d = aborted here i (IsLate (record { node = here.node; seq = q }) (stamp fc)) x d
-resolved here i x (Keep ffc ds) d = put i (record x { snap = record (x.snap) { ffc = ffc; deps = ds } }) d
+resolved here i y (Lost q f es) d = aborted here i (IsLost (record { node = here.node; seq = q })) y d
+resolved here i y (Late q fc f es) d = aborted here i (IsLate (record { node = here.node; seq = q }) (stamp fc)) y d
+resolved here i y (Keep f es) d = d
 
--- the dependencies are looked at
+-- the dependencies are looked at: the snapshot that is left is put, and then it aborts where a dependency decided
 abbrev pub resolve_own : Here → ℕ → Own → Doing → Doing
-resolve_own here i x d = resolved here i x (dep_turn d.view.own x.snap) d
+resolve_own here i x d =
+    let t = dep_turn d.view.own x.snap in
+    let y = record x { snap = left_by t x.snap } in
+    resolved here i y t (put i y d)
 
 -- a reply is taken, where the gate lets it through
 abbrev pub again_reply : Here → ℕ → KeyId → Own → ReadTurn → Doing → Doing

@@ -158,28 +158,45 @@ abbrev pub own_fate : Option Own → Fate
 own_fate None = Open
 own_fate (Some x) = phase_fate x.phase
 
--- what the look at the dependencies comes to
+-- what the look at the dependencies comes to: this one aborted, this one committed at a final timestamp above the snapshot,
+-- or none decides; each with the greatest final timestamp and the dependencies that are left
 pub data DepTurn : Type 0 where
-  Lost : ℕ → DepTurn
-  Late : ℕ → ℕ → DepTurn
+  Lost : ℕ → ℕ → List Dep → DepTurn
+  Late : ℕ → ℕ → ℕ → List Dep → DepTurn
   Keep : ℕ → List Dep → DepTurn
 
 -- one more is kept
 abbrev pub keep_also : Dep → DepTurn → DepTurn
-keep_also d (Lost q) = Lost q
-keep_also d (Late q fc) = Late q fc
-keep_also d (Keep ffc ds) = Keep ffc (d ∷ ds)
+keep_also d (Lost q f es) = Lost q f (d ∷ es)
+keep_also d (Late q fc f es) = Late q fc f (d ∷ es)
+keep_also d (Keep f es) = Keep f (d ∷ es)
 
--- one dependency by its fate, and then the rest
-abbrev pub by_fate : ℕ → Dep → ℕ → (ℕ → DepTurn) → Fate → DepTurn
-by_fate rs d ffc rest Open = keep_also d (rest ffc)
-by_fate rs d ffc rest Gone = Lost d.seq
-by_fate rs d ffc rest (CommittedAt fc) = if nat_lt rs fc then Late d.seq fc else rest (max ffc fc)
+-- one dependency by its fate, and then those after it
+abbrev pub by_fate : ℕ → Dep → List Dep → ℕ → (ℕ → DepTurn) → Fate → DepTurn
+by_fate rs d ds ffc rest Open = keep_also d (rest ffc)
+by_fate rs d ds ffc rest Gone = Lost d.seq ffc (d ∷ ds)
+by_fate rs d ds ffc rest (CommittedAt fc) = if nat_lt rs fc then Late d.seq fc ffc (d ∷ ds) else rest (max ffc fc)
 
 -- the dependencies by rising number
 abbrev pub resolve_all : List Own → ℕ → List Dep → ℕ → DepTurn
 resolve_all own rs [] ffc = Keep ffc []
-resolve_all own rs (d ∷ ds) ffc = by_fate rs d ffc (λ f. resolve_all own rs ds f) (own_fate (slice_get own (d.seq - 1)))
+resolve_all own rs (d ∷ ds) ffc = by_fate rs d ds ffc (λ f. resolve_all own rs ds f) (own_fate (slice_get own (d.seq - 1)))
+
+-- the greatest final timestamp that a turn leaves
+abbrev pub ffc_left : DepTurn → ℕ
+ffc_left (Lost q f es) = f
+ffc_left (Late q fc f es) = f
+ffc_left (Keep f es) = f
+
+-- the dependencies that a turn leaves
+abbrev pub deps_left : DepTurn → List Dep
+deps_left (Lost q f es) = es
+deps_left (Late q fc f es) = es
+deps_left (Keep f es) = es
+
+-- the snapshot that a turn leaves
+abbrev pub left_by : DepTurn → Snap → Snap
+left_by t snap = record snap { ffc = ffc_left t; deps = deps_left t }
 
 -- the look at the dependencies of a snapshot
 unfoldable pub dep_turn : List Own → Snap → DepTurn
