@@ -3,7 +3,6 @@ use Rattle.std.proofs.Common.{List, None, Option, Some, [], ap, refl, sym, true,
 use Rattle.std.proofs.lemmas.Option.{none-some, same_Some}
 use Rattle.std.specs.Option.{SomeIff, option_zip}
 use Rattle.scene_text.proofs.NumeralLemmas.{numeral-without}
-use Rattle.scene_text.proofs.SplitLemmas.{is_without-append, is_without-name, split_unique}
 use Rattle.scene_text.specs.LineReading.{ReadsArguments, ReadsNoArguments, Spells, SpellsBytes, SpellsKey, SpellsKeyNumber, SpellsNoBytes, SpellsNoKey, SpellsNoKeyNumber, SpellsNoSigned, SpellsNone, is_without}
 use Rattle.scene_text.specs.LineTexts.{bytes_text, key_text}
 use Rattle.scene_text.specs.Numerals.{numeral, signed_numeral}
@@ -11,6 +10,7 @@ use Rattle.scene_text.specs.declared.lines.Line.TheVariants.{Add, Client, Del, D
 use Rattle.scene_text.specs.declared.lines.Word.TheVariants.{Add as WAdd, Client as WClient, Del as WDel, Deliver as WDeliver, Get as WGet, Need as WNeed, Nodes as WNodes, Put as WPut, Puts as WPuts, Session as WSession, Version as WVersion}
 use Rattle.str_base.specs.declared.names.PartId.{PartId}
 use Rattle.str_scene.specs.SceneLimits.{is_name}
+use Rattle.str_scene.proofs.Without.{is_without-append, is_without-name, split_unique}
 
 -- where a pair isn't kept, one of the two doesn't fit
 pub zip_none : {A B : Type 0} (a : Option A) (b : Option B) (P Q : Type 0) (x : A) (y : B) → SomeIff a P x → SomeIff b Q y → option_zip a b ≡ None → ¬ (P × Q)

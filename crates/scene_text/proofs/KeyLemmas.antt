@@ -3,7 +3,7 @@ use Rattle.std.proofs.Common.{Bool, List, None, Option, Some, [], ap, append_ass
 use Rattle.std.proofs.lemmas.Bool.Decides.{nat_tests}
 use Rattle.std.specs.List.{list_all}
 use Rattle.std.specs.Prelude.{flat_map}
-use Rattle.scene_text.proofs.SplitLemmas.{both, is_without-name, one_answer, parts, split_unique}
+use Rattle.scene_text.proofs.SplitLemmas.{both, one_answer, parts}
 use Rattle.scene_text.specs.HexDigits.{digit_number, is_hex, paired}
 use Rattle.scene_text.specs.LineReading.{Spells, SpellsBytes, SpellsKey, SpellsNoBytes, SpellsNoKey, SpellsNone, is_without}
 use Rattle.scene_text.specs.LineTexts.{AreBytes, key_text}
@@ -11,6 +11,7 @@ use Rattle.scene_text.specs.Numerals.{numeral}
 use Rattle.str_base.specs.declared.names.PartId.{PartId}
 use Rattle.str_scene.specs.SceneLimits.{is_name}
 use Rattle.str_scene.specs.Spelling.{hex_byte, hex_digit}
+use Rattle.str_scene.proofs.Without.{is_without-name, split_unique}
 
 -- a key in its parts
 pub key_text_is : (name : List ℕ) (p : PartId) → key_text name p ≡ name ++ 64 ∷ numeral p.0

@@ -9,13 +9,14 @@ use Rattle.std.specs.List.{list_all}
 use Rattle.std.specs.Option.{SomeIff, option_zip}
 use Rattle.scene_text.proofs.ArgumentLemmas.{zip_none}
 use Rattle.scene_text.proofs.NumeralLemmas.{numeral-injective, numeral-without}
-use Rattle.scene_text.proofs.SplitLemmas.{both, is_without-here, parts, split_unique}
+use Rattle.scene_text.proofs.SplitLemmas.{both, parts}
 use Rattle.scene_text.specs.LineReading.{ReadsArguments, ReadsNoArguments, RowFits, Spells, SpellsNoRow, SpellsNone, SpellsRow, is_without, row_text}
 use Rattle.scene_text.specs.Numerals.{numeral}
 use Rattle.scene_text.specs.declared.lines.Line.TheVariants.{Part}
 use Rattle.scene_text.specs.declared.lines.Word.TheVariants.{Part as WPart}
 use Rattle.str_base.specs.declared.names.NodeId.{NodeId}
 use Rattle.str_base.specs.declared.names.PartId.{PartId}
+use Rattle.str_scene.proofs.Without.{is_without-here, split_unique}
 
 -- the replicas that have been read of a text, and what is left of it
 pub record RowSoFar (text left : List ℕ) (kept : Option (List NodeId)) : Type 0 where

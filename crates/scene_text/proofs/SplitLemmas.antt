@@ -10,6 +10,7 @@ use Rattle.std.specs.Cmp.Lexicographic.{pointwise}
 use Rattle.std.specs.List.{list_all, slice_get, slice_range}
 use Rattle.str_scene.specs.SceneLimits.{in_name, is_letter, is_name}
 use Rattle.scene_text.specs.LineReading.{is_without}
+use Rattle.str_scene.proofs.Without.{is_without-append}
 
 -- both tests pass
 pub both : (a b : Bool) → a ≡ true → b ≡ true → (a && b) ≡ true
@@ -28,38 +29,9 @@ differs p b c yes_b no_c = by_answer (b == c) refl
     by_answer true e = let same : b ≡ c = grind (arith, nat_tests) in absurd (cc (ap p same))
     by_answer false e = refl
 
--- what is in neither part is not in both
-pub is_without-append : (c : ℕ) (xs ys : List ℕ) → is_without c xs ≡ true → is_without c ys ≡ true → is_without c (xs ++ ys) ≡ true
-is_without-append c xs ys e f = list_all-append (λ b. not (b == c)) xs ys ∙ both _ _ e f
-
 -- a byte is itself
 not_itself : (c : ℕ) → not (c == c) ≡ true → ⊥
 not_itself c e = grind (arith, nat_tests)
-
--- a byte that stands in the list is in it
-pub is_without-here : (c : ℕ) (xs ys : List ℕ) → is_without c (xs ++ c ∷ ys) ≡ true → ⊥
-is_without-here c [] ys e = not_itself c (parts _ _ e).0
-is_without-here c (x ∷ xs) ys e = is_without-here c xs ys (parts _ _ e).1
-
--- a list has one part before the first of a byte, and one after it
-pub split_unique : (c : ℕ) (xs ys us vs : List ℕ) → is_without c xs ≡ true → is_without c us ≡ true → xs ++ c ∷ ys ≡ us ++ c ∷ vs → (xs ≡ us) × (ys ≡ vs)
-split_unique c [] ys [] vs a b e = (refl, cc)
-split_unique c [] ys (u ∷ us) vs a b e = let same : c ≡ u = cc in absurd (not_itself c (rw (← same) at (parts (not (u == c)) (is_without c us) b).0))
-split_unique c (x ∷ xs) ys [] vs a b e = let same : c ≡ x = cc in absurd (not_itself c (rw (← same) at (parts (not (x == c)) (is_without c xs) a).0))
-split_unique c (x ∷ xs) ys (u ∷ us) vs a b e =
-    let rest : (xs ≡ us) × (ys ≡ vs) = split_unique c xs ys us vs (parts (not (x == c)) (is_without c xs) a).1 (parts (not (u == c)) (is_without c us) b).1 (cc) in
-    let first : x ≡ u = cc in
-    (cc (first, rest.0), rest.1)
-
--- a byte that may not stand in a name is in none
-pub is_without-name : (c : ℕ) (name : List ℕ) → is_letter c ≡ false → in_name c ≡ false → is_name name ≡ true → is_without c name ≡ true
-is_without-name c [] no_letter no_follow e = absurd (cc)
-is_without-name c (b ∷ bs) no_letter no_follow e =
-    both _ _ (differs is_letter b c (parts _ _ e).0 no_letter) (rest bs (parts _ _ (parts _ _ e).1).0)
-  where
-    rest : (cs : List ℕ) → list_all in_name cs ≡ true → is_without c cs ≡ true
-    rest [] h = refl
-    rest (d ∷ ds) h = both _ _ (differs in_name d c (parts _ _ h).0 no_follow) (rest ds (parts _ _ h).1)
 
 -- one more byte of a range
 pub is_without_more : (c : ℕ) (xs : List ℕ) (from i : ℕ) → from ≤ i → i < length xs → ¬ (get_or xs i 0 ≡ c) → is_without c (slice_range xs from i) ≡ true → is_without c (slice_range xs from (i + 1)) ≡ true

@@ -2,7 +2,6 @@
 use Rattle.std.proofs.Common.{List, None, Option, Some, [], ap, append_assoc, arith, get_or, length, refl, subst, sym, true, ℕ, ◌*◌, ◌++◌, ◌+◌, ◌∙◌, ◌∷◌, ◌≡◌}
 use Rattle.std.proofs.lemmas.Option.{none-some, same_Some}
 use Rattle.std.specs.Option.{SomeIff}
-use Rattle.scene_text.proofs.SplitLemmas.{is_without-here, split_unique}
 use Rattle.scene_text.specs.LineReading.{IsReadAs, ReadsArguments, ReadsNoArguments, arguments, is_without, word_of, word_text}
 use Rattle.scene_text.specs.LineTexts.{Fits, IsForm, bytes_text, key_text, line_text}
 use Rattle.scene_text.specs.Numerals.{numeral, signed_numeral}
@@ -11,6 +10,7 @@ use Rattle.scene_text.specs.declared.lines.Line.TheVariants.{Abort, Add, Client,
 use Rattle.scene_text.specs.declared.lines.ReadLine.{ReadLine}
 use Rattle.scene_text.specs.declared.lines.Word.{Word}
 use Rattle.scene_text.specs.declared.lines.Word.TheVariants.{Abort as WAbort, Add as WAdd, Client as WClient, Del as WDel, Deliver as WDeliver, Drain as WDrain, End as WEnd, Get as WGet, Need as WNeed, Nodes as WNodes, Part as WPart, Put as WPut, Puts as WPuts, Schedule as WSchedule, Session as WSession, Tx as WTx, Version as WVersion}
+use Rattle.str_scene.proofs.Without.{is_without-here, split_unique}
 
 -- a line of more than one word
 pub line_text_is : (l : Line) (text : List ℕ) → arguments l ≡ Some text → line_text l ≡ word_text (word_of l) ++ 32 ∷ text

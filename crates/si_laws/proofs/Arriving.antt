@@ -1,6 +1,6 @@
 -- Where the versions of a certified transaction stand: at its origin, and at each participant that has answered.
 use Rattle.partition_map.specs.declared.rows.Asked.{Asked}
-use Rattle.si_laws.proofs.Homes.{OwnGood, filter_keeps, final_version}
+use Rattle.si_laws.proofs.Homes.{OwnGood, final_version}
 use Rattle.si_laws.proofs.Linked.{Acknowledged, IsDecidedAs, Kept, Linked, k_ended, k_stands, one_certified, one_decided, one_of, one_place, pre_of}
 use Rattle.si_laws.proofs.Linking.{answer_known}
 use Rattle.si_laws.proofs.Seats.{of_nth, seat_of}
@@ -24,6 +24,7 @@ use Rattle.str_model.specs.Proposals.{is_pair}
 use Rattle.str_model.specs.Runs.{World}
 use Rattle.str_model.specs.Views.{Committed, Own, View, is_decided, lc_of, name_of}
 use Rattle.str_scene.specs.Scenes.{Scene, hosts, in_part, part_of}
+use Rattle.str_model.proofs.Meeting.{filter_in}
 
 -- the version is of the transaction, of the key, and in the key's partition
 pub record IsOf (scene : Scene) (tx : TxId) (k : KeyId) (q : Version) : Type 0 where
@@ -53,7 +54,7 @@ begun_at scene w t x b =
 
 -- a write in its partition is among those that a participant is asked for
 in_own_part : (scene : Scene) (ws : List Write) (w : Write) → In w ws → In w (filter (in_part scene (part_of scene w.key)) ws)
-in_own_part scene ws w h = filter_keeps (in_part scene (part_of scene w.key)) ws w h (eq-eqb (part_of scene w.key).0 (part_of scene w.key).0 refl)
+in_own_part scene ws w h = filter_in (in_part scene (part_of scene w.key)) ws w h (eq-eqb (part_of scene w.key).0 (part_of scene w.key).0 refl)
 
 module _ (scene : Scene) (s : Stage) (h : Linked scene s) where
   -- the Ack of a participant is of the transaction as it stands

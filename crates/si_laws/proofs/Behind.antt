@@ -1,7 +1,6 @@
 -- The own transaction behind an answer of a run, its reads and their writers.
 use Rattle.si_laws.proofs.Answering.{Answering, IsKept, answering, kept_reads}
 use Rattle.si_laws.proofs.Preceding.{Precedes}
-use Rattle.si_laws.proofs.Causes.{found_in}
 use Rattle.si_laws.proofs.Grounds.{Committer, Grounds, committer}
 use Rattle.si_laws.proofs.Linked.{one_certified, one_of}
 use Rattle.si_laws.proofs.Mastering.{AreDistinct, one_write}
@@ -35,6 +34,7 @@ use Rattle.str_model.specs.declared.names.ReadDone.{ReadDone}
 use Rattle.str_scene.specs.SceneLimits.{IsScene}
 use Rattle.str_scene.specs.Scenes.{Scene}
 use Rattle.str_scene.specs.declared.names.Event.{Event}
+use Rattle.si_laws.proofs.Evaluating.{find_is}
 
 -- ---- lists
 
@@ -62,7 +62,7 @@ find_write ws w m dist = by_found (find (λ (z : Write). same_key z.key w.key) w
     by_found : (o : Option Write) → find (λ (z : Write). same_key z.key w.key) ws ≡ o → find (λ (z : Write). same_key z.key w.key) ws ≡ Some w
     by_found None q = absurd (let f = find_none (λ (z : Write). same_key z.key w.key) ws w q m in let t : same_key w.key w.key ≡ true = eq-eqb w.key.0 w.key.0 refl in cc (f, t))
     by_found (Some z) q =
-        let f = found_in (λ (z : Write). same_key z.key w.key) ws z q in
+        let f = find_is (λ (z : Write). same_key z.key w.key) ws z q in
         let k : z.key.0 ≡ w.key.0 = eqb-true z.key.0 w.key.0 f.1 in
         q ∙ ap Some (one_write ws dist z w f.0 m (λ i. record { 0 = k i }))
 

@@ -33,6 +33,7 @@ use Rattle.si_laws.proofs.Aborting.{AbortedBy, ab_evicted, ab_late, ab_lost, ab_
 use Rattle.si_laws.proofs.Gating.{committed_is, nth_place, place_nth, stand_moment}
 use Rattle.si_laws.proofs.Marking.{same_key-is}
 use Rattle.si_laws.proofs.Unmet.{AllNeedy, needy-act}
+use Rattle.si_laws.proofs.Evaluating.{find_is}
 
 -- ---- the look at the dependencies
 
@@ -85,14 +86,6 @@ gone_is y e = by_phase y.phase e
 
 -- ---- the certification
 
-pub found_in : {A : Type 0} (p : A → Bool) (xs : List A) (x : A) → find p xs ≡ Some x → (In x xs) × (p x ≡ true)
-found_in p [] x e = absurd (cc e)
-found_in p (y ∷ xs) x e = by_test (p y) refl (found_in p xs x) e
-  where
-    by_test : (b : Bool) → p y ≡ b → (find p xs ≡ Some x → (In x xs) × (p x ≡ true)) → (if b then Some y else find p xs) ≡ Some x → (In x (y ∷ xs)) × (p x ≡ true)
-    by_test true q f g = let same : y ≡ x = cc g in (inl same, ap p (sym same) ∙ q)
-    by_test false q f g = let r = f g in (inr r.0, r.1)
-
 -- what it conflicts with stands here, and is of a key that is written
 pub conflict_is : (here : Here) (v : View) (snap : Snap) (ws : List Write) (u : TxId) (k : KeyId) → cert_turn here v snap ws ≡ Conflict u k
     → (q : Version) × (In q v.versions) × (q.tx ≡ u) × (q.key ≡ k) × ((q.kind ≡ Pre) ⊎ (snap.rs < q.ts.0)) × ((w : Write) × (In w ws) × (w.key ≡ k))
@@ -118,7 +111,7 @@ conflict_is here v snap ws u k e = by_found (find (conflicts snap.rs) (met ws v.
     by_found (Some x) f q =
         let tx : x.tx ≡ u = cc q in
         let key : x.key ≡ k = cc q in
-        let g = found_in (conflicts snap.rs) (met ws v.versions) x f in
+        let g = find_is (conflicts snap.rs) (met ws v.versions) x f in
         let r = in_flat_map (λ (w : Write). chain w.key v.versions) ws x g.0 in
         let c = in_filter (λ (y : Version). same_key y.key r.0.key) v.versions x r.2 in (
           x,

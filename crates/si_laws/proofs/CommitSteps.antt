@@ -1,6 +1,5 @@
 -- From a moment on: once a transaction has a mark to carry and commits, each participant is sent it.
 use Rattle.partition_map.specs.declared.rows.Asked.{Asked}
-use Rattle.si_laws.proofs.Homes.{filter_keeps}
 use Rattle.si_laws.proofs.Linked.{one_of}
 use Rattle.si_laws.proofs.Parts.{sent_step}
 use Rattle.si_laws.proofs.ReadLetters.{marks_act}
@@ -24,6 +23,7 @@ use Rattle.str_model.specs.declared.names.KeyMark.{KeyMark}
 use Rattle.str_model.specs.Owned.{Owns}
 use Rattle.str_model.specs.Views.{Aborted, Committed, Doing, Global, Local, Own, Remote, View, is_decided, lc_of, letter, name_of}
 use Rattle.str_scene.specs.Scenes.{Here, Scene, in_part, part_of, participants}
+use Rattle.str_model.proofs.Meeting.{filter_in}
 
 -- whoever is committed with a final timestamp was so before, or commits now
 pub data CommitStep (here : Here) (d e : Doing) : Type 0 where
@@ -95,7 +95,7 @@ module _ (scene : Scene) (n j : ℕ) (k : KeyId) (r : ℕ) where
         let mark : KeyMark = record { key = y.key; mark = stamp (mark_of d.view.marks y.key) } in
         let ms : List KeyMark = marks_in (at_place scene i) d.view a.part x.writes in
         let m : Message = letter (at_place scene i) a.node (Commit (name_of (at_place scene i) j) a.part (stamp fc) ms) in
-        let in_it : In y (filter (in_part scene a.part) x.writes) = filter_keeps (in_part scene a.part) x.writes y g (eq-eqb (part_of scene y.key).0 a.part.0 (ap (λ (z : KeyId). (part_of scene z).0) key ∙ ap (λ (z : PartId). z.0) (sym part))) in
+        let in_it : In y (filter (in_part scene a.part) x.writes) = filter_in (in_part scene a.part) x.writes y g (eq-eqb (part_of scene y.key).0 a.part.0 (ap (λ (z : KeyId). (part_of scene z).0) key ∙ ap (λ (z : PartId). z.0) (sym part))) in
         let in_ms : In mark ms = map_in (λ (w : Write). record { key = w.key; mark = stamp (mark_of d.view.marks w.key) }) (filter (in_part scene a.part) x.writes) y in_it in
         let at = at_in ms mark in_ms in
         let sent : In m (commit_letters (at_place scene i) j x fc d.view) =

@@ -30,11 +30,12 @@ use Rattle.si_laws.specs.Standing.{Begun, Wrote}
 use Rattle.si_laws.specs.TrueCause.{AbortsAt, BothWrote, Delivered, Evicted, FoundAtHome, HasVersion, TrueConflict}
 use Rattle.si_laws.proofs.Aborting.{AbortedBy, ab_evicted, ab_late, ab_lost, ab_met, ab_refused, ab_stop, ab_wish}
 use Rattle.si_laws.proofs.Around.{same_tx-is}
-use Rattle.si_laws.proofs.Causes.{Aborts, aborts_by, conflict_is, found_in}
+use Rattle.si_laws.proofs.Causes.{Aborts, aborts_by, conflict_is}
 use Rattle.si_laws.proofs.Gating.{nth_place, place_nth}
 use Rattle.si_laws.proofs.Marking.{same_key-is}
 use Rattle.si_laws.proofs.Owners.{same_own}
 use Rattle.si_laws.proofs.Writing.{WroteIn, WroteKey, Written, wrote-act, written-act, written_opening}
+use Rattle.si_laws.proofs.Evaluating.{find_is}
 
 -- the own transaction of this place has written the key
 abbrev pub WroteAt : ℕ → KeyId → View → Type 0
@@ -119,7 +120,7 @@ module _ (scene : Scene) (ok : IsScene scene) (es : List Event) where
           let eu : c.tx ≡ u = cc e in
           let ek : w.key ≡ k = cc e in
           let en : record { 0 = g.takes.place + 1 } ≡ n = cc e in
-          let f = found_in (λ (z : Write). list_any (λ (y : Version). same_key y.key z.key && (of_tx (name_of here b.place) y && is_local y.kind)) d.view.versions) c.writes w h in
+          let f = find_is (λ (z : Write). list_any (λ (y : Version). same_key y.key z.key && (of_tx (name_of here b.place) y && is_local y.kind)) d.view.versions) c.writes w h in
           let q = some_of (λ (y : Version). same_key y.key w.key && (of_tx (name_of here b.place) y && is_local y.kind)) d.view.versions f.1 in
           let qkey : q.0.key ≡ w.key = same_key-is q.0.key w.key (and_left (same_key q.0.key w.key) (of_tx (name_of here b.place) q.0 && is_local q.0.kind) q.2) in
           let rest = and_right (same_key q.0.key w.key) (of_tx (name_of here b.place) q.0 && is_local q.0.kind) q.2 in

@@ -84,7 +84,7 @@ drop_none [] (suc i) e = refl
 drop_none (y ∷ ys) zero e = absurd cc
 drop_none (y ∷ ys) (suc i) e = drop_none ys i e
 
-find_is : {A : Type 0} (p : A → Bool) (xs : List A) (x : A) → find p xs ≡ Some x → (In x xs) × (p x ≡ true)
+pub find_is : {A : Type 0} (p : A → Bool) (xs : List A) (x : A) → find p xs ≡ Some x → (In x xs) × (p x ≡ true)
 find_is p [] x e = absurd (cc e)
 find_is p (y ∷ ys) x e = by_test (p y) refl e (find_is p ys x)
   where

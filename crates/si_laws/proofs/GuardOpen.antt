@@ -4,7 +4,6 @@ use Rattle.si_laws.proofs.Around.{Around, Stand, final_below, final_late, local_
 use Rattle.si_laws.proofs.Clearing.{Clear, LocalsClear, Moved, locals_stay, m_local, m_new, m_old, m_pre}
 use Rattle.si_laws.proofs.Grounds.{Grounds, committed_write, committer}
 use Rattle.si_laws.proofs.Guards.{FinalGuard, GoneWriter, MarkSent, OpenWriter, ReadGuard, committed_up, fg_some, open_not, rg_final, rg_gone, rg_open, rg_sent, there_d, there_e, written_up}
-use Rattle.si_laws.proofs.Homes.{filter_keeps}
 use Rattle.si_laws.proofs.Linked.{one_certified}
 use Rattle.si_laws.proofs.Marking.{Rises}
 use Rattle.si_laws.proofs.Origins.{HasWritten}
@@ -43,6 +42,7 @@ use Rattle.str_model.specs.declared.names.KeyMark.{KeyMark}
 use Rattle.str_model.specs.declared.names.ReadDone.{ReadDone}
 use Rattle.str_scene.specs.SceneLimits.{IsScene}
 use Rattle.str_scene.specs.Scenes.{Here, Scene, hosts, in_part, is_master, part_of}
+use Rattle.str_model.proofs.Meeting.{filter_in}
 
 -- what becomes of a certified undecided transaction
 data OpenNext (here : Here) (d e : View) (j lc : ℕ) (x : Own) : Type 0 where
@@ -196,7 +196,7 @@ module _ (scene : Scene) (ok : IsScene scene) (s : Stage) (i : ℕ) (v : View) (
               let inside' : In write y.writes = subst (λ (z : Own). In write z.writes) (sym same) in_buffer in
               let in_p : in_part scene q.part write ≡ true = eq-eqb (part_of scene k).0 q.part.0 (ap (λ (z : PartId). z.0) (sym part)) in
               let there = map_in (λ (z : Write). let km : KeyMark = record { key = z.key; mark = stamp (mark_of d.view.marks z.key) } in km) (Rattle.std.proofs.Common.filter (in_part scene q.part) y.writes) write
-              (filter_keeps (in_part scene q.part) y.writes write inside' in_p) in
+              (filter_in (in_part scene q.part) y.writes write inside' in_p) in
               (record { key = k; mark = stamp (mark_of d.view.marks k) }, subst (In (record { key = k; mark = stamp (mark_of d.view.marks k) })) marks there, refl, mark)
 
       -- where the node hasn't the key, its master gets the mark by the Commit

@@ -26,6 +26,7 @@ use Rattle.str_model.specs.Views.{Aborted, Closing, Committed, Doing, Global, Lo
 use Rattle.str_model.specs.declared.messages.Input.{Input}
 use Rattle.str_scene.specs.Scenes.{Here, hosts_key, participants}
 use Rattle.str_scene.specs.declared.names.TxPlace.{TxPlace}
+use Rattle.str_model.proofs.Meeting.{filter_in}
 
 -- who takes part, without what was asked and answered
 abbrev pub seats : List Asked → List (PartId × NodeId)
@@ -52,12 +53,6 @@ pub record OwnGood (here : Here) (vs : List Version) (i : ℕ) (x : Own) : Type 
 
 abbrev pub AtHome : Here → View → Type 0
 AtHome here v = (i : ℕ) (x : Own) → Owns v i x → OwnGood here v.versions i x
-
-pub filter_keeps : {A : Type 0} (test : A → Bool) (xs : List A) (x : A) → In x xs → test x ≡ true → In x (filter test xs)
-filter_keeps test [] x h e = absurd h
-filter_keeps test (y ∷ xs) x (inl q) e = rw (ap test q ∙ e) (inl q)
-filter_keeps {A = A} test (y ∷ xs) x (inr h) e =
-    if_elim (λ (zs : List A). In x zs) (test y) (y ∷ filter test xs) (filter test xs) (λ t. inr (filter_keeps test xs x h e)) (λ t. filter_keeps test xs x h e)
 
 -- ---- the gate
 
@@ -231,7 +226,7 @@ module _ (here : Here) (d e : View) (stays : (i : ℕ) (v : Version) → v.tx �
       settled_in w h u =
           in_all_new (map (settled fc) (filter (is_hosted_of here (name_of here i)) d.versions)) (without (of_tx (name_of here i)) d.versions) (final_version here i fc w)
           (map_in (settled fc) (filter (is_hosted_of here (name_of here i)) d.versions) (local_version here i lc w)
-          (filter_keeps (is_hosted_of here (name_of here i)) d.versions (local_version here i lc w) (g.locals f lc l w h) (hosted w u)))
+          (filter_in (is_hosted_of here (name_of here i)) d.versions (local_version here i lc w) (g.locals f lc l w h) (hosted w u)))
 
   closed-good : (i : ℕ) (x : Own) → x.phase ≡ Closing false → OwnGood here d.versions i x → OwnGood here e.versions i (in_phase (Committed None None) x)
   closed-good i x q g = record {

@@ -6,7 +6,7 @@ use Rattle.str_base.specs.Versions.{insert_all, insert_version, is_before, is_pr
 use Rattle.str_base.specs.declared.names.KeyId.{KeyId}
 use Rattle.str_base.specs.declared.names.Version.{Version}
 use Rattle.str_model.proofs.Acting.{Act, Where}
-use Rattle.str_model.proofs.Gaining.{and_left, and_right}
+use Rattle.str_model.proofs.Gaining.{and_left, and_right, in_last}
 use Rattle.str_model.proofs.Meeting.{filter_in}
 use Rattle.str_model.proofs.Members.{In, in_filter, in_insert}
 use Rattle.str_model.specs.Acts.{is_hosted_of, local_version, pre_version}
@@ -116,10 +116,6 @@ in_time-act here input w d e a h = by_step (version_step here input w d e a)
 
 -- ---- the last one
 
-last_is_in : (o : Option Version) (xs : List Version) (v : Version) → last_or o xs ≡ Some v → (o ≡ Some v) ⊎ In v xs
-last_is_in o [] v e = inl e
-last_is_in o (x ∷ xs) v e = elim (last_is_in (Some x) xs v e) [ inl q ↦ inr (inl (cc q)) | inr h ↦ inr (inr h) ]
-
 some_last : (zs : List Version) (z : Version) → last_or (Some z) zs ≡ None → ⊥
 some_last [] z e = cc e
 some_last (y ∷ zs) z e = some_last zs y e
@@ -134,7 +130,7 @@ none_passes test vs x e h t = none_in (filter test vs) x e (filter_in test vs x 
 last_greatest : (o : Option Version) (xs : List Version) (v x : Version) → InTime xs → last_or o xs ≡ Some v → In x xs → x.key.0 ≡ v.key.0 → x.ts.0 ≤ v.ts.0
 last_greatest o [] v x h e m k = absurd m
 last_greatest o (y ∷ ys) v x h e (inr m) k = last_greatest (Some y) ys v x h.1 e m k
-last_greatest o (y ∷ ys) v x h e (inl q) k = elim (last_is_in (Some y) ys v e) [
+last_greatest o (y ∷ ys) v x h e (inl q) k = elim (in_last (Some y) ys v e) [
   | inl r ↦ (let s : y ≡ v = cc r in omega (arith, ap (λ (z : Version). z.ts.0) q, ap (λ (z : Version). z.ts.0) s))
   | inr m ↦ (elim (h.0 v m) [
     | inl l ↦ absurd (omega (arith, l, k, ap (λ (z : Version). z.key.0) q))
@@ -162,7 +158,7 @@ pub record IsVisible (vs : List Version) (k : KeyId) (r : ℕ) (v : Version) : T
   pub greatest : (q : Version) → In q vs → q.key ≡ k → (r < q.ts.0) ⊎ (q.ts.0 ≤ v.ts.0)
 
 pub visible_one : (vs : List Version) (k : KeyId) (r : ℕ) (v : Version) → InTime vs → visible vs k r ≡ Some v → IsVisible vs k r v
-visible_one vs k r v h e = elim (last_is_in None (filter test vs) v e) [ inl q ↦ absurd (cc q) | inr m ↦ is m ]
+visible_one vs k r v h e = elim (in_last None (filter test vs) v e) [ inl q ↦ absurd (cc q) | inr m ↦ is m ]
   where
     test : Version → Bool
     test x = same_key x.key k && nat_le x.ts.0 r

@@ -1,5 +1,4 @@
 -- What a single change does to the versions of a pair of another node's transaction.
-use Rattle.si_laws.proofs.Homes.{filter_keeps}
 use Rattle.si_laws.proofs.Pairs.{Is, one_pair}
 use Rattle.si_laws.proofs.Stages.{Has, has_at, joined_pair, keep_without, not_both, pair_same}
 use Rattle.std.proofs.Common.{Bool, List, [], ap, eqb-true, false, filter, inl, inr, map, not, refl, subst₂, sym, true, ℕ, ◌&&◌, ◌++◌, ◌+◌, ◌==◌, ◌∙◌, ◌∷◌, ◌≡◌, ◌≢◌}
@@ -21,6 +20,7 @@ use Rattle.str_model.specs.declared.messages.Body.TheVariants.{Abort, Commit}
 use Rattle.str_model.specs.declared.messages.Input.{Input}
 use Rattle.str_model.specs.declared.names.KeyMark.{KeyMark}
 use Rattle.str_scene.specs.Scenes.{Here, hosts}
+use Rattle.str_model.proofs.Meeting.{filter_in}
 
 module _ (here : Here) (input : Input) (w : Where) (tx : TxId) (p : PartId) where
   abbrev pub IsDone : View → Type 0
@@ -93,7 +93,7 @@ module _ (here : Here) (input : Input) (w : Where) (tx : TxId) (p : PartId) wher
         by_test : (b : Bool) → (same_tx t tx && same_part q p) ≡ b → PairStep d' (commit_came t q fc.0 ms d')
         by_test true s = ps_commits from t q fc ms c s (not_done d' t q s h) (is_last d'.view.done t q s)
             (λ v o k. in_all_new (map (settled fc.0) (filter (of_pair t q) d'.view.versions)) (without (of_pair t q) d'.view.versions) (settled fc.0 v)
-            (map_in (settled fc.0) (filter (of_pair t q) d'.view.versions) v (filter_keeps (of_pair t q) d'.view.versions v k (of_same t q v s o))))
+            (map_in (settled fc.0) (filter (of_pair t q) d'.view.versions) v (filter_in (of_pair t q) d'.view.versions v k (of_same t q v s o))))
         by_test false s = ps_rests (none_more d'.view.done t q s)
             (λ v o k. in_all_old (map (settled fc.0) (filter (of_pair t q) d'.view.versions)) (without (of_pair t q) d'.view.versions) v (keep_without (of_pair t q) d'.view.versions v k (of_other t q v s o)))
     pair_step d e (act_abort_came from t q d' c h) = by_test (same_tx t tx && same_part q p) refl

@@ -14,7 +14,7 @@ use Rattle.str_model.specs.Turns.{Away, Give, Plain, ReadTurn, ServeTurn, ServeW
 use Rattle.str_model.specs.Turns
 use Rattle.str_model.specs.Views.{Own, View}
 use Rattle.str_scene.specs.Scenes.{Here, first_or, hosts_key, part_of, replicas}
-use Rattle.str_model.proofs.Gaining.{Names, and_right, visible-is}
+use Rattle.str_model.proofs.Gaining.{Names, and_right, in_last, visible-is}
 use Rattle.str_model.proofs.Meeting.{filter_in, over_names}
 use Rattle.str_model.proofs.Members.{In, in_filter}
 
@@ -84,10 +84,6 @@ none_last (y ∷ xs) o x e (inl q) = some_last xs y e
     some_last [] z e = cc e
     some_last (y ∷ zs) z e = some_last zs y e
 none_last (y ∷ xs) o x e (inr h) = none_last xs (Some y) x e h
-
-in_last : (o : Option Version) (xs : List Version) (v : Version) → last_or o xs ≡ Some v → (o ≡ Some v) ⊎ In v xs
-in_last o [] v e = inl e
-in_last o (x ∷ xs) v e = elim (in_last (Some x) xs v e) [ inl q ↦ inr (inl cc) | inr h ↦ inr (inr h) ]
 
 -- of a Final version at or below the timestamp, or of nothing
 pub give-is : (vs : List Version) (k : KeyId) (rs : ℕ) (a : Value) (by : Option TxId) (fc : ℕ) → serve_turn vs k rs ≡ Give a by fc

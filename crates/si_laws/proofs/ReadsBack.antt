@@ -27,6 +27,7 @@ use Rattle.str_model.proofs.Members.{In, in_append}
 use Rattle.si_laws.proofs.AroundActs.{cert_rs}
 use Rattle.si_laws.proofs.Marking.{finish-looks, finish_next-looks}
 use Rattle.si_laws.proofs.ReadTurns.{local-is, plain-is, reply-is}
+use Rattle.si_laws.proofs.Sources.{finish_reply}
 
 -- where a read comes from
 pub data ReadBack (d : Doing) (i : ℕ) (y : Own) (r : ReadDone) : Type 0 where
@@ -58,22 +59,9 @@ finish_next-snap : (o : Option Op) (a : Value) (x : Own) → (finish_next o a x)
 finish_next-snap None a x = refl
 finish_next-snap (Some op) a x = finish-snap op a x
 
-finish-reply : (op : Op) (b : Value) (x : Own) (k : KeyId) (a : Value) (by : Option TxId) (fc : ℕ) → (finish op b x).phase ≡ Reply k a by fc → x.phase ≡ Reply k a by fc
-finish-reply (Get l) b x k a by fc e = absurd (cc e)
-finish-reply (Put l n) b x k a by fc e = absurd (cc e)
-finish-reply (Puts l t) b x k a by fc e = absurd (cc e)
-finish-reply (Add l n) b x k a by fc e = absurd (cc e)
-finish-reply (Del l) b x k a by fc e = absurd (cc e)
-finish-reply (Need l n) b x k a by fc e = by_test (is_below b n) e
-  where
-    by_test : (t : Bool) → (if t then record x { phase = Closing true } else record x { next = x.next + 1; phase = Active }).phase ≡ Reply k a by fc → x.phase ≡ Reply k a by fc
-    by_test true q = absurd (cc q)
-    by_test false q = absurd (cc q)
-finish-reply Stop b x k a by fc e = e
-
 finish_next-reply : (o : Option Op) (b : Value) (x : Own) (k : KeyId) (a : Value) (by : Option TxId) (fc : ℕ) → (finish_next o b x).phase ≡ Reply k a by fc → x.phase ≡ Reply k a by fc
 finish_next-reply None b x k a by fc e = e
-finish_next-reply (Some op) b x k a by fc e = finish-reply op b x k a by fc e
+finish_next-reply (Some op) b x k a by fc e = finish_reply op b x k a by fc e
 
 module _ (here : Here) (input : Input) where
   same_back : (d : Doing) (i : ℕ) (x y : Own) (r : ReadDone) → Owns d.view i x → y.reads ≡ x.reads → y.snap.rs ≡ x.snap.rs → In r y.reads → ReadBack d i y r
@@ -113,8 +101,8 @@ module _ (here : Here) (input : Input) where
   changed_reply : (d : Doing) (i : ℕ) (x y : Own) (k : KeyId) (a : Value) (by : Option TxId) (fc : ℕ) → Owns d.view i x → GoesOn d.view x y → Change here input d i x y → y.phase ≡ Reply k a by fc
       → ReplyBack here input d i y k a by fc
   changed_reply d i x y k a by fc own g (ch_resolve t e) h = pb_old x own g.snap.rs h
-  changed_reply d i x y k a by fc own g (ch_known op l b p e n q) h = pb_old x own g.snap.rs (finish-reply op b x k a by fc h)
-  changed_reply d i x y k a by fc own g (ch_blind op b p e n) h = pb_old x own g.snap.rs (finish-reply op b x k a by fc h)
+  changed_reply d i x y k a by fc own g (ch_known op l b p e n q) h = pb_old x own g.snap.rs (finish_reply op b x k a by fc h)
+  changed_reply d i x y k a by fc own g (ch_blind op b p e n) h = pb_old x own g.snap.rs (finish_reply op b x k a by fc h)
   changed_reply d i x y k a by fc own g (ch_read l b u snap s m t) h = pb_old x own g.snap.rs (finish_next-reply (own_op here x) b (noted l b u snap x) k a by fc h)
   changed_reply d i x y k a by fc own g (ch_wait l u s m e) h = absurd (cc h)
   changed_reply d i x y k a by fc own g (ch_away l n s m e) h = absurd (cc h)

@@ -34,7 +34,7 @@ use Rattle.str_model.proofs.Tracing.{ends_slice}
 use Rattle.si_laws.specs.Laws.Reasons.{ReasonsHold}
 use Rattle.si_laws.specs.TrueCause.{AbortsAt, IsReason, IsTrue, TrueConflict}
 use Rattle.si_laws.proofs.Carrying.{same_part-is}
-use Rattle.si_laws.proofs.Causes.{Aborts, aborts_by, found_in, late_true, lost_true, wish_true}
+use Rattle.si_laws.proofs.Causes.{Aborts, aborts_by, late_true, lost_true, wish_true}
 use Rattle.si_laws.proofs.Conflicts.{RefuseHere, conflict_true, wrote_final, wrote_is, written_moment}
 use Rattle.si_laws.proofs.Linked.{AreWrites, IsCertified, Linked, certified-lasts}
 use Rattle.si_laws.proofs.LinkingAll.{linked, linked_step}
@@ -43,6 +43,7 @@ use Rattle.si_laws.proofs.Owners.{same_own}
 use Rattle.si_laws.proofs.SentBy.{SentBy, Sending, sending, sent_by}
 use Rattle.si_laws.proofs.Turning.{own_change}
 use Rattle.si_laws.proofs.WritersFirst.{gate_law}
+use Rattle.si_laws.proofs.Evaluating.{find_is}
 
 -- ---- what the master has found
 
@@ -74,7 +75,7 @@ refused_found v a u k e = by_found (find (refuses a) (met a.writes v.versions)) 
     by_found (Some x) f q =
         let tx : x.tx ≡ u = cc q in
         let key : x.key ≡ k = cc q in
-        let g = found_in (refuses a) (met a.writes v.versions) x f in
+        let g = find_is (refuses a) (met a.writes v.versions) x f in
         let r = in_flat_map (λ (w : Write). chain w.key v.versions) a.writes x g.0 in
         let c = in_filter (λ (y : Version). Rattle.str_base.specs.Versions.same_key y.key r.0.key) v.versions x r.2 in
         record { version = x; member = c.0; tx = tx; key = key; reason = g.1; write = r.0; written = r.1; of_key = sym (same_key-is x.key r.0.key c.1) ∙ key }

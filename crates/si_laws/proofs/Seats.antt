@@ -1,6 +1,6 @@
 -- Who takes part in a transaction: the replicas, but its origin, of each partition that it wrote in.
 use Rattle.partition_map.specs.declared.rows.Asked.{Asked}
-use Rattle.si_laws.proofs.Homes.{OwnGood, filter_keeps, seats}
+use Rattle.si_laws.proofs.Homes.{OwnGood, seats}
 use Rattle.si_laws.proofs.Stages.{any_has, has_at, not_both}
 use Rattle.std.proofs.Common.{List, None, Option, Some, [], add-one, ap, arith, eq-eqb, eqb-true, flat_map, inl, inr, length, map, not, refl, slice_get, subst, subst₂, suc, sym, true, zero, ℕ, ◌+◌, ◌<◌, ◌∙◌, ◌∷◌, ◌≡◌, ◌≢◌, ◌≤◌, ◌⊎◌}
 use Rattle.std.proofs.lemmas.Option.{slice_get_within}
@@ -14,6 +14,7 @@ use Rattle.str_model.proofs.Lists.{same_or_not}
 use Rattle.str_model.proofs.Members.{In, in_filter, in_flat_map, in_left, in_map, in_right, map_in}
 use Rattle.str_model.specs.Views.{Own, lc_of}
 use Rattle.str_scene.specs.Scenes.{Here, Scene, all_parts, hosts, in_part, nth, or_none, others, part_of, participants, replicas, unasked, written_parts}
+use Rattle.str_model.proofs.Meeting.{filter_in}
 
 pub of_nth : {A : Type 0} (xs : List A) (n : ℕ) (x : A) → nth xs n ≡ Some x → (i : ℕ) × (n ≡ i + 1) × (slice_get xs i ≡ Some x)
 of_nth xs zero x e = absurd (cc e)
@@ -59,11 +60,11 @@ takes_part scene origin r ws w h k other =
     let e = part_exists scene r p k in
     let all : In p (all_parts scene) = map_in (λ (n : ℕ). record { 0 = n }) (range_with_len 1 (length scene.parts)) p.0 (range_in 1 (length scene.parts) p.0 e.0 e.1) in
     let own : list_any (in_part scene p) ws ≡ true = has_at (in_part scene p) ws w h (eq-eqb p.0 p.0 refl) in
-    let written : In p (written_parts scene ws) = filter_keeps (λ (q : PartId). list_any (in_part scene q) ws) (all_parts scene) p all own in
+    let written : In p (written_parts scene ws) = filter_in (λ (q : PartId). list_any (in_part scene q) ws) (all_parts scene) p all own in
     let host = any_has (λ (n : NodeId). same_node n r) (replicas scene p) k in
     let is : host.0 ≡ r = λ j. record { 0 = eqb-true host.0.0 r.0 host.2 j } in
     let not_origin : not (same_node host.0 origin) ≡ true = ap not (not_both (same_node host.0 origin) (λ q. other (ap (λ (z : NodeId). z.0) (sym is) ∙ eqb-true host.0.0 origin.0 q))) in
-    let there : In host.0 (others origin (replicas scene p)) = filter_keeps (λ (n : NodeId). not (same_node n origin)) (replicas scene p) host.0 host.1 not_origin in (
+    let there : In host.0 (others origin (replicas scene p)) = filter_in (λ (n : NodeId). not (same_node n origin)) (replicas scene p) host.0 host.1 not_origin in (
       unasked p host.0,
       flat_map_in (λ (q : PartId). map (unasked q) (others origin (replicas scene q))) (written_parts scene ws) p (unasked p host.0) written (map_in (unasked p) (others origin (replicas scene p)) host.0 there),
       refl,

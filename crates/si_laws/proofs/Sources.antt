@@ -26,6 +26,7 @@ use Rattle.str_model.specs.Views.{Active, Closing, Doing, Own, Reply, View}
 use Rattle.str_scene.specs.declared.names.Op.TheVariants.{Abort as Stop, Add, Del, Get, Need, Put, Puts}
 use Rattle.str_scene.specs.declared.names.Op.{Op}
 use Rattle.str_scene.specs.Scenes.{Here, first_or, hosts_key, part_of, replicas}
+use Rattle.si_laws.proofs.ReadTurns.{reply-is}
 
 -- the writer is that of a version of the key
 abbrev pub FromVersion : List Version → KeyId → Option TxId → Type 0
@@ -81,14 +82,6 @@ serve_from vs k rs a by fc e = by_undecided (last_undecided vs k rs) e
     by_undecided (Some q) e = absurd (cc e)
     by_undecided None e = by_visible (visible vs k rs) (λ q e. visible_from vs k rs q e) e
 
-reply_same : (here : Here) (snap : Snap) (a b : Value) (by of : Option TxId) (fc gc : ℕ) (new : Snap) → reply_turn here snap a by fc ≡ Plain b of gc new → by ≡ of
-unfolding reply_turn
-reply_same here snap a b by of fc gc new e = by_gate (holds (accept_final snap fc)) e
-  where
-    by_gate : (t : Bool) → (if t then Plain a by fc (accept_final snap fc) else Wait (Turns.waits_for here (oldest (accept_final snap fc).deps))) ≡ Plain b of gc new → by ≡ of
-    by_gate true q = cc q
-    by_gate false q = absurd (cc q)
-
 -- ---- own transactions
 
 -- each writer that was read from, or is held in a reply, satisfies P
@@ -96,7 +89,7 @@ pub record OwnFrom (P : TxId → KeyId → Type 0) (x : Own) : Type 0 where
   pub reads : (r : ReadDone) (u : TxId) → In r x.reads → r.by ≡ Some u → P u r.key
   pub phase : (k : KeyId) (a : Value) (u : TxId) (fc : ℕ) → x.phase ≡ Reply k a (Some u) fc → P u k
 
-finish_reply : (op : Op) (b : Value) (x : Own) (k : KeyId) (a : Value) (by : Option TxId) (fc : ℕ) → (finish op b x).phase ≡ Reply k a by fc → x.phase ≡ Reply k a by fc
+pub finish_reply : (op : Op) (b : Value) (x : Own) (k : KeyId) (a : Value) (by : Option TxId) (fc : ℕ) → (finish op b x).phase ≡ Reply k a by fc → x.phase ≡ Reply k a by fc
 finish_reply (Get l) b x k a by fc e = absurd (cc e)
 finish_reply (Put l n) b x k a by fc e = absurd (cc e)
 finish_reply (Puts l t) b x k a by fc e = absurd (cc e)
@@ -152,7 +145,7 @@ module _ (here : Here) (input : Input) (P : TxId → KeyId → Type 0) (d : Doin
     phase = λ m b u gc t. (let key : k ≡ m = cc t in let writer : by ≡ Some u = cc t in subst (λ (z : KeyId). P u z) key (replies from tx k a by fc u c writer));
   }
   change_from i x y (ch_take k a b by of fc gc snap e q) h =
-      let same = reply_same here x.snap a b by of fc gc snap q in
+      let same = reply-is here x.snap a b by of fc gc snap q in
       next_from P (own_op here x) b (noted k b of snap x) (noted_from P k b of snap x h (λ u t. h.phase k a u fc (e ∙ ap (λ (z : Option TxId). Reply k a z fc) (same ∙ t))))
   change_from i x y (ch_close p e q) h = record { reads = h.reads; phase = λ k a u fc e. absurd (cc e) }
   change_from i x y (ch_gate a) h = record { reads = h.reads; phase = λ k a u fc e. absurd (cc e) }
