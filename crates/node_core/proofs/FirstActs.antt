@@ -32,9 +32,11 @@ use Rattle.str_scene.specs.Scenes.{Scene, Session, nth, script_at}
 use Rattle.node_core.proofs.FirstCounts.{in_session_is}
 use Rattle.node_core.proofs.FirstHere.{first_here}
 use Rattle.node_core.proofs.FirstScripts.{HasScript, script_op}
-use Rattle.node_core.proofs.Members.{at_in, in_at, in_last}
-use Rattle.node_core.proofs.Places.{count-cons, got_below, got_set, one_if, set_length}
+use Rattle.node_core.proofs.Members.{in_last}
+use Rattle.node_core.proofs.Places.{count-cons, got_below, one_if, set_length}
 use Rattle.node_core.proofs.Writes.{in_set_write, set_write-distinct, set_write-length}
+use Rattle.str_model.proofs.Members.{at_in, in_at}
+use Rattle.str_model.proofs.Lists.{got_set}
 
 -- ---- the session's last transaction
 

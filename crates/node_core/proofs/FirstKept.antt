@@ -22,11 +22,13 @@ use Rattle.str_scene.specs.Scenes.{Scene, nth}
 use Rattle.node_core.proofs.FirstActs.{AreMarks, Does, Goes, begins, closes, commits, conflicts_, does, goes_on, mark_within, next_time, went_on}
 use Rattle.node_core.proofs.FirstHere.{first_here}
 use Rattle.node_core.proofs.FirstScripts.{HasScript, script_good, script_read}
-use Rattle.node_core.proofs.Members.{In, at_in, in_at, in_insert_all, in_last, in_map}
+use Rattle.node_core.proofs.Members.{in_last}
 use Rattle.node_core.proofs.Ordered.{Apart, and_cases, in_order_sorted, sorted_in_order}
-use Rattle.node_core.proofs.Places.{count_push, count_set, count_take_set, get_set, get_set_other, got_below, got_push, got_set, one_if, take_push, take_whole}
+use Rattle.node_core.proofs.Places.{count_push, count_set, count_take_set, got_below, one_if, take_push, take_whole}
 use Rattle.node_core.proofs.Settling.{AllApart, Differ, insert_all_sorted}
 use Rattle.node_core.proofs.Writes.{not_false, or_neither}
+use Rattle.str_model.proofs.Members.{In, at_in, in_at, in_insert_all, in_map}
+use Rattle.str_model.proofs.Lists.{get_set, get_set_other, got_push, got_set}
 
 -- ---- what is carried over to another view
 

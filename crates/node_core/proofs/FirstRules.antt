@@ -34,8 +34,9 @@ use Rattle.node_core.proofs.FirstHere.{first_here}
 use Rattle.node_core.proofs.FirstIdle.{and_right_false, deliver_idle}
 use Rattle.node_core.proofs.FirstKept.{first_kept}
 use Rattle.node_core.proofs.FirstScripts.{key_hosted, script_op}
-use Rattle.node_core.proofs.Members.{In, at_in, in_filter, in_flat_map, in_last}
+use Rattle.node_core.proofs.Members.{in_last}
 use Rattle.node_core.proofs.Settling.{filter_none}
+use Rattle.str_model.proofs.Members.{In, at_in, in_filter, in_flat_map}
 
 -- ---- Final versions
 

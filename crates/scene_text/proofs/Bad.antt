@@ -1,26 +1,24 @@
 -- The first line that is refused is the first bad line, and bad for that reason.
-use Rattle.std.proofs.Common.{Bool, List, None, Option, Some, [], ap, append_assoc, arith, false, inl, inr, length, length-append, map, nat_lt, not, refl, slice_get, subst, suc, sym, take, true, ℕ, ◌&&◌, ◌++◌, ◌+◌, ◌<◌, ◌∙◌, ◌∷◌, ◌≡◌, ◌≢◌, ◌≤◌, ◌⊎◌}
+use Rattle.std.proofs.Common.{Bool, List, None, Option, Some, [], ap, append_assoc, arith, false, length, length-append, map, nat_lt, refl, subst, sym, take, true, ℕ, ◌++◌, ◌+◌, ◌<◌, ◌∙◌, ◌∷◌, ◌≡◌}
 use Rattle.std.proofs.Math.Seq.{take-append_seam}
 use Rattle.std.proofs.lemmas.Bool.Decides.{nat_tests}
 use Rattle.std.proofs.lemmas.List.{length-map, map-append}
 use Rattle.std.proofs.lemmas.List.Sums.{count_by-le-length}
 use Rattle.std.proofs.lemmas.Option.{none-some}
-use Rattle.std.specs.Prelude.{flat_map, ⊤}
-use Rattle.scene_text.proofs.Ends.{AreTaken}
 use Rattle.scene_text.proofs.Kept.{count_at, tx_count}
 use Rattle.scene_text.proofs.Places.{place_next}
 use Rattle.scene_text.proofs.SessionRuns.{taken-append, taken_on}
 use Rattle.scene_text.proofs.Starts.{TextsTaken, in_range_taken, one_state, parted, start_taken, taken_in_range, taken_start, texts_same}
-use Rattle.scene_text.proofs.Steps.{IsTaken, goes_on_from, is_taken, taken}
+use Rattle.scene_text.proofs.Steps.{goes_on_from, is_taken, taken}
 use Rattle.scene_text.proofs.Tests.{both}
 use Rattle.scene_text.proofs.Wider.{lines_more, past, wider, within_first}
-use Rattle.scene_text.specs.FirstBad.{IsBadFor, IsCut, IsFirstBadLine, IsFormed, IsInRange, IsStart, IsWhole}
+use Rattle.scene_text.specs.FirstBad.{IsBadFor, IsFirstBadLine, IsFormed, IsInRange, IsStart}
 use Rattle.scene_text.specs.LineOrder.{Place, follows, place_after}
 use Rattle.scene_text.specs.LineTexts.{IsForm, line_text}
-use Rattle.scene_text.specs.Taking.{Limits, State, Taken, after, at_start, goes_on, has_room, in_range, judged, placed, scene_limits, settled, take_line, take_lines}
+use Rattle.scene_text.specs.Taking.{Limits, State, after, at_start, goes_on, has_room, in_range, judged, placed, scene_limits, settled, take_line, take_lines}
 use Rattle.scene_text.specs.Taking.Taken.{Now, Refused}
 use Rattle.scene_text.specs.declared.lines.Line.{Line}
-use Rattle.scene_text.specs.declared.lines.Line.TheVariants.{Abort as LAbort, Add as LAdd, Client as LClient, Del as LDel, Deliver as LDeliver, Drain as LDrain, End as LEnd, Get as LGet, Need as LNeed, Nodes as LNodes, Part as LPart, Put as LPut, Puts as LPuts, Schedule as LSchedule, Session as LSession, Tx as LTx, Version as LVersion}
+use Rattle.scene_text.specs.declared.lines.Line.TheVariants.{Abort as LAbort, Add as LAdd, Client as LClient, Del as LDel, Deliver as LDeliver, Get as LGet, Need as LNeed, Part as LPart, Put as LPut, Puts as LPuts, Session as LSession, Tx as LTx}
 use Rattle.str_base.specs.Versions.{same_node}
 use Rattle.str_scene.proofs.Each.{each_append, each_at, each_from}
 use Rattle.str_scene.specs.Lists.{Each}

@@ -1,31 +1,28 @@
 -- The lines of a scene within limits are taken to the end, and give that scene.
-use Rattle.std.proofs.Common.{Bool, List, None, Option, Some, [], add-one, ap, append-nil, append_assoc, arith, eqb, false, length, length-append, map, nat_le, nat_lt, refl, subst, sym, take, take_all, true, ℕ, ◌&&◌, ◌++◌, ◌+◌, ◌<◌, ◌==◌, ◌^◌, ◌∙◌, ◌∷◌, ◌≡◌, ◌≤◌}
+use Rattle.std.proofs.Common.{Bool, List, Some, [], ap, append-nil, append_assoc, arith, false, length, length-append, map, nat_le, nat_lt, refl, sym, take, take_all, true, ℕ, ◌&&◌, ◌++◌, ◌+◌, ◌<◌, ◌==◌, ◌^◌, ◌∙◌, ◌∷◌, ◌≡◌, ◌≤◌}
 use Rattle.std.proofs.lemmas.Bool.Decides.{Decides-eqb, nat_tests}
 use Rattle.std.specs.Prelude.{flat_map}
 use Rattle.scene_text.proofs.HeadSteps.{mk}
-use Rattle.scene_text.proofs.Kept.{CountsKept, GoodEvent, Headed, IsVersion, Kept, TableKept, tx_count}
+use Rattle.scene_text.proofs.Kept.{GoodEvent}
 use Rattle.scene_text.proofs.OpRuns.{TableGood, body, upto}
-use Rattle.scene_text.proofs.SessionRuns.{Leads, Open, sessions_taken, taken_on}
+use Rattle.scene_text.proofs.SessionRuns.{sessions_taken, taken_on}
 use Rattle.scene_text.proofs.Settling.{session_ops}
 use Rattle.scene_text.proofs.Steps.{taken}
 use Rattle.scene_text.proofs.Tests.{both, row_holds, up_to_holds}
 use Rattle.scene_text.proofs.Wholes.{Whole}
-use Rattle.scene_text.specs.LineOrder.{Place}
-use Rattle.scene_text.specs.LineOrder.Place.{AfterDrain, AfterEnd, AfterNodes, AfterPart, AfterVersion, AtStart, InSchedule}
-use Rattle.scene_text.specs.SceneLines.{body_lines, drain_line, entry_line, lines_of, one_session_lines, row_lines}
-use Rattle.scene_text.specs.Taking.{Limits, State, at_start, closed, goes_on, is_row, is_up_to, take_line, take_lines}
+use Rattle.scene_text.specs.LineOrder.Place.{AfterEnd, AfterNodes, AfterPart, AfterVersion, InSchedule}
+use Rattle.scene_text.specs.SceneLines.{drain_line, entry_line, lines_of, one_session_lines, row_lines}
+use Rattle.scene_text.specs.Taking.{Limits, State, at_start, closed, goes_on, is_row, take_line, take_lines}
 use Rattle.scene_text.specs.Taking.Taken.{Now}
 use Rattle.scene_text.specs.declared.lines.Line.{Line}
-use Rattle.scene_text.specs.declared.lines.Line.TheVariants.{Drain as LDrain, End as LEnd, Nodes as LNodes, Part as LPart, Schedule as LSchedule, Version as LVersion}
+use Rattle.scene_text.specs.declared.lines.Line.TheVariants.{End as LEnd, Nodes as LNodes, Part as LPart, Schedule as LSchedule, Version as LVersion}
 use Rattle.str_base.specs.declared.names.NodeId.{NodeId}
-use Rattle.str_base.specs.declared.names.PartId.{PartId}
 use Rattle.str_scene.specs.Lists.{Each}
-use Rattle.str_scene.specs.Drafts.{drained, empty_draft, with_entry, with_nodes, with_row}
+use Rattle.str_scene.specs.Drafts.{empty_draft, with_entry, with_nodes}
 use Rattle.str_scene.specs.SceneLimits.{IsRow, all_ops, counted, key_of, text_of}
-use Rattle.str_scene.specs.Scenes.{KeyTable, Scene, Session}
+use Rattle.str_scene.specs.Scenes.{KeyTable, Scene}
 use Rattle.str_scene.specs.declared.names.Event.{Event}
 use Rattle.str_scene.specs.declared.names.Event.TheVariants.{Client, Deliver}
-use Rattle.str_scene.specs.declared.names.Op.{Op}
 
 -- less, as a test
 room_is : (n m : ℕ) → n < m → nat_lt n m ≡ true

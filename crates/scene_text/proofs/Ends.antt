@@ -1,10 +1,10 @@
 -- Each state can be led to the end, and at the end its lines are those of a scene.
-use Rattle.std.proofs.Common.{Bool, List, None, Option, Some, [], ap, append_assoc, arith, eqb, length, map, nat_lt, refl, subst, sym, true, ℕ, ◌&&◌, ◌++◌, ◌+◌, ◌<◌, ◌==◌, ◌∙◌, ◌∷◌, ◌≡◌, ◌≤◌, inl}
+use Rattle.std.proofs.Common.{List, Some, [], ap, append_assoc, arith, length, map, nat_lt, refl, subst, sym, true, ℕ, ◌++◌, ◌+◌, ◌==◌, ◌∙◌, ◌∷◌, ◌≡◌, ◌≤◌, inl}
 use Rattle.std.proofs.lemmas.Bool.Decides.{Decides-eqb, nat_tests}
 use Rattle.scene_text.proofs.HeadSteps.{extends_self, mk}
-use Rattle.scene_text.proofs.Kept.{At, Kept, Stands, entry_lines, lines_at}
+use Rattle.scene_text.proofs.Kept.{At, Kept, Stands, lines_at}
 use Rattle.scene_text.proofs.SessionRuns.{taken-append}
-use Rattle.scene_text.proofs.Steps.{Steps, goes_on_from, start_stands, steps, taken}
+use Rattle.scene_text.proofs.Steps.{goes_on_from, start_stands, steps, taken}
 use Rattle.scene_text.proofs.Tests.{both, up_to_holds}
 use Rattle.scene_text.proofs.Wholes.{Whole}
 use Rattle.scene_text.proofs.Complete.{complete}
@@ -12,7 +12,7 @@ use Rattle.scene_text.specs.LineOrder.{Place, section_follows}
 use Rattle.scene_text.specs.LineOrder.Place.{AfterDrain, AfterEnd, AfterNodes, AfterOp, AfterPart, AfterSession, AfterTx, AfterVersion, AtStart, InSchedule}
 use Rattle.scene_text.specs.LineTexts.{IsForm}
 use Rattle.scene_text.specs.SceneLines.{body_lines, drain_line, entry_line, lines_of}
-use Rattle.scene_text.specs.Taking.{Limits, State, Taken, after, at_start, goes_on, is_row, take_line, take_lines}
+use Rattle.scene_text.specs.Taking.{Limits, State, after, at_start, goes_on, is_row, take_line, take_lines}
 use Rattle.scene_text.specs.Taking.Taken.{Now}
 use Rattle.scene_text.specs.declared.lines.Line.{Line}
 use Rattle.scene_text.specs.declared.lines.Line.TheVariants.{Abort as LAbort, End as LEnd, Nodes as LNodes, Part as LPart, Schedule as LSchedule, Version as LVersion}

@@ -1,14 +1,13 @@
 -- The lines of the schedule are taken.
-use Rattle.std.proofs.Common.{List, None, Option, Some, [], ap, append-nil, append_assoc, arith, false, length, length-append, map, refl, subst, sym, true, ℕ, ◌++◌, ◌+◌, ◌<◌, ◌∙◌, ◌∷◌, ◌≡◌, ◌≤◌}
+use Rattle.std.proofs.Common.{List, Some, [], ap, append_assoc, arith, length, length-append, map, refl, subst, sym, ◌++◌, ◌<◌, ◌∙◌, ◌∷◌, ◌≡◌}
 use Rattle.std.proofs.lemmas.List.{map-append}
 use Rattle.std.proofs.lemmas.Option.{none-some, same_Some}
 use Rattle.scene_text.proofs.HeadSteps.{extends_self, mk}
-use Rattle.scene_text.proofs.Kept.{At, CountsKept, GoodEvent, Headed, Kept, Stands, Step, entry_lines}
+use Rattle.scene_text.proofs.Kept.{At, GoodEvent, Kept, Step, entry_lines}
 use Rattle.scene_text.specs.LineOrder.{Place, end_follows, entry_follows}
-use Rattle.scene_text.specs.LineOrder.Place.{AfterDrain, AfterEnd, InSchedule}
+use Rattle.scene_text.specs.LineOrder.Place.{AfterDrain, InSchedule}
 use Rattle.scene_text.specs.SceneLines.{body_lines, drain_line, entry_line}
 use Rattle.scene_text.specs.Taking.{Limits}
-use Rattle.scene_text.specs.declared.lines.Line.{Line}
 use Rattle.scene_text.specs.declared.lines.Line.TheVariants.{Drain as LDrain, End as LEnd, Schedule as LSchedule}
 use Rattle.str_scene.proofs.Each.{each_push}
 use Rattle.str_scene.specs.Drafts.{drained, with_entry}

@@ -1,8 +1,8 @@
 -- The first line of a text, and the faults of a text.
-use Rattle.std.proofs.Common.{Bool, List, None, Option, Some, [], ap, arith, drop, inl, inr, length, refl, subst, sym, take, true, ℕ, ◌++◌, ◌+◌, ◌<◌, ◌∙◌, ◌∷◌, ◌≡◌, ◌≤◌, ◌⊎◌, take_all}
+use Rattle.std.proofs.Common.{List, None, Option, Some, [], ap, arith, drop, inl, inr, length, refl, subst, sym, take, true, ℕ, ◌++◌, ◌+◌, ◌∙◌, ◌∷◌, ◌≡◌, ◌≤◌, ◌⊎◌, take_all}
 use Rattle.std.proofs.lemmas.Option.{none-some, same_Some}
 use Rattle.std.specs.Option.{SomeIff}
-use Rattle.scene_text.proofs.ReaderLemmas.{bad_end, bad_form, bad_line, bad_tail, out_of_place, reached_line, reached_start}
+use Rattle.scene_text.proofs.ReaderLemmas.{bad_end, bad_form, bad_line, bad_tail, reached_line, reached_start}
 use Rattle.scene_text.specs.FirstBad.{FirstBad}
 use Rattle.scene_text.specs.LineOrder.Place.{AfterVersion}
 use Rattle.scene_text.specs.LineReading.{IsReadAs, is_without}
@@ -10,7 +10,7 @@ use Rattle.scene_text.specs.LineTexts.{Fits, IsForm, line_text}
 use Rattle.scene_text.specs.Reaching.{Reached}
 use Rattle.scene_text.specs.Reading.{IsBadText, IsFaultOf, TakesText, fault_at, version_given}
 use Rattle.scene_text.specs.Taking.{State, at_start, scene_limits, take_line}
-use Rattle.scene_text.specs.Taking.Taken.{Now, Refused}
+use Rattle.scene_text.specs.Taking.Taken.{Refused}
 use Rattle.scene_text.specs.declared.lines.Line.{Line}
 use Rattle.scene_text.specs.declared.lines.Line.TheVariants.{Version as LVersion}
 use Rattle.scene_text.specs.declared.lines.ReadLine.{ReadLine}

@@ -1,8 +1,8 @@
 -- A line whose numbers do not fit their types is out of range.
-use Rattle.std.proofs.Common.{Bool, List, None, Option, Some, [], ap, arith, false, length, nat_le, nat_lt, refl, subst, sym, true, ℕ, ℤ, ◌&&◌, ◌+◌, ◌<◌, ◌==◌, ◌^◌, ◌∙◌, ◌∷◌, ◌≡◌, ◌≤◌}
+use Rattle.std.proofs.Common.{Bool, List, Some, [], ap, arith, false, length, nat_le, nat_lt, refl, true, ℕ, ◌&&◌, ◌+◌, ◌<◌, ◌==◌, ◌^◌, ◌∙◌, ◌∷◌, ◌≡◌, ◌≤◌}
 use Rattle.std.proofs.lemmas.Bool.Decides.{Decides-eqb, nat_tests}
 use Rattle.std.specs.List.{list_all}
-use Rattle.scene_text.proofs.Kept.{At, CountsKept, Kept, Stands}
+use Rattle.scene_text.proofs.Kept.{At, Stands}
 use Rattle.scene_text.proofs.Steps.{start_stands, steps}
 use Rattle.scene_text.proofs.Tests.{both, number_tells, parts, up_to_tells}
 use Rattle.scene_text.specs.LineOrder.{Place, follows}

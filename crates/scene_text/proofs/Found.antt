@@ -1,5 +1,5 @@
 -- The elements of a table come in the order of their numbers.
-use Rattle.std.proofs.Common.{List, None, Option, Some, [], add-one, ap, arith, inl, inr, length, length-take, refl, slice_get, subst, suc, sym, take, zero, ℕ, ◌++◌, ◌+◌, ◌<◌, ◌∙◌, ◌∷◌, ◌≡◌, ◌≤◌}
+use Rattle.std.proofs.Common.{List, None, Option, Some, [], add-one, ap, arith, inl, inr, length-take, refl, slice_get, subst, suc, sym, take, zero, ℕ, ◌++◌, ◌+◌, ◌<◌, ◌∙◌, ◌∷◌, ◌≡◌}
 use Rattle.std.proofs.lemmas.Option.{none-some, same_Some, slice_get_within}
 use Rattle.std.specs.Prelude.{option_and_then}
 use Rattle.scene_text.proofs.Growing.{Comes, Distinct}

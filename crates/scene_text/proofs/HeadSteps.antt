@@ -1,13 +1,12 @@
 -- The lines of the head are taken.
-use Rattle.std.proofs.Common.{List, None, Option, Some, [], ap, append-nil, append_assoc, arith, length, length-append, refl, slice_get, subst, sym, ℕ, ◌++◌, ◌+◌, ◌<◌, ◌∙◌, ◌∷◌, ◌≡◌, ◌≤◌, false}
+use Rattle.std.proofs.Common.{List, Some, [], ap, append-nil, arith, length, length-append, refl, subst, sym, ℕ, ◌++◌, ◌+◌, ◌<◌, ◌∙◌, ◌∷◌, ◌≡◌, false}
 use Rattle.std.proofs.lemmas.Option.{none-some, same_Some}
 use Rattle.std.specs.Prelude.{flat_map}
-use Rattle.scene_text.proofs.Kept.{At, Bodied, CountsKept, Extends, Headed, IsVersion, Kept, Stands, Step, TableKept, lines_at}
+use Rattle.scene_text.proofs.Kept.{At, Extends, IsVersion, Kept, Stands, Step}
 use Rattle.scene_text.specs.LineOrder.{Place, nodes_follow, part_follows, version_follows}
 use Rattle.scene_text.specs.LineOrder.Place.{AfterNodes, AfterPart, AfterVersion, AtStart}
 use Rattle.scene_text.specs.SceneLines.{body_lines, one_session_lines, row_lines}
-use Rattle.scene_text.specs.Taking.{Limits, State, after}
-use Rattle.scene_text.specs.declared.lines.Line.{Line}
+use Rattle.scene_text.specs.Taking.{Limits, State}
 use Rattle.scene_text.specs.declared.lines.Line.TheVariants.{Nodes as LNodes, Part as LPart, Version as LVersion}
 use Rattle.str_base.specs.declared.names.NodeId.{NodeId}
 use Rattle.str_base.specs.declared.names.PartId.{PartId}

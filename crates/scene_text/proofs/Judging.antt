@@ -1,26 +1,24 @@
 -- What the calls by which a scene is built say of the lines that are taken.
-use Rattle.std.proofs.Common.{Bool, Err, IfErr, List, None, Ok, Result, Option, Some, [], ap, arith, eqb, false, inl, inr, length, length-append, nat_le, nat_lt, not, refl, slice_get, subst, suc, sym, true, ℕ, ℤ, ◌&&◌, ◌*◌, ◌++◌, ◌+◌, ◌<◌, ◌==◌, ◌||◌, ◌^◌, ◌∙◌, ◌∷◌, ◌≡◌, ◌≤◌, ◌⊎◌, ◌≢◌}
+use Rattle.std.proofs.Common.{Bool, Err, IfErr, List, None, Ok, Result, Option, Some, [], ap, arith, false, inl, inr, length, nat_le, nat_lt, not, refl, subst, sym, true, ℕ, ◌&&◌, ◌+◌, ◌<◌, ◌==◌, ◌||◌, ◌^◌, ◌∙◌, ◌∷◌, ◌≡◌, ◌≤◌}
 use Rattle.std.proofs.lemmas.Bool.Decides.{Decides-eqb, nat_tests}
 use Rattle.std.proofs.lemmas.Option.{none-some, same_Some}
 use Rattle.std.specs.List.{list_all, list_any}
-use Rattle.std.specs.Prelude.{flat_map}
 use Rattle.scene_text.proofs.Fitting.{reached_stands, unfit}
-use Rattle.scene_text.proofs.Kept.{At, Bodied, Headed, InBody, Kept, Stands, tx_count}
+use Rattle.scene_text.proofs.Kept.{At, Bodied, InBody, Kept, Stands, tx_count}
 use Rattle.scene_text.proofs.Settling.{Settled, settled_section}
 use Rattle.scene_text.proofs.Steps.{taken}
-use Rattle.scene_text.proofs.TextsApart.{line_text-injective}
 use Rattle.scene_text.specs.LineReading.{IsReadAs, word_of}
-use Rattle.scene_text.specs.LineTexts.{Fits, IsForm}
+use Rattle.scene_text.specs.LineTexts.{Fits}
 use Rattle.scene_text.specs.declared.lines.ReadLine.{ReadLine}
 use Rattle.std.specs.Option.{SomeIff}
 use Rattle.scene_text.proofs.ReaderLemmas.{out_of_place}
 use Rattle.str_scene.specs.declared.faults.Why.{Why}
 use Rattle.str_scene.specs.declared.faults.Why.TheVariants.{Count as Many, Form as No, Range as Out}
-use Rattle.scene_text.proofs.Tests.{both, parts}
-use Rattle.scene_text.specs.LineOrder.{Place, entry_follows, follows, nodes_follow, op_follows, part_follows, section_follows, tx_follows, version_follows}
-use Rattle.scene_text.specs.LineOrder.Place.{AfterDrain, AfterEnd, AfterNodes, AfterOp, AfterPart, AfterSession, AfterTx, AfterVersion, AtStart, InSchedule}
+use Rattle.scene_text.proofs.Tests.{both}
+use Rattle.scene_text.specs.LineOrder.{Place, entry_follows, follows, nodes_follow, op_follows, part_follows, section_follows, version_follows}
+use Rattle.scene_text.specs.LineOrder.Place.{AfterDrain, AfterNodes, AfterOp, AfterPart, AfterSession, AfterTx, AfterVersion, AtStart, InSchedule}
 use Rattle.scene_text.specs.Reading.{IsBadText, IsReached, IsRefusedFor, RefusesText}
-use Rattle.scene_text.specs.Taking.{Limits, State, after, has_room, in_range, judged, placed, scene_limits, settled, take_line}
+use Rattle.scene_text.specs.Taking.{State, after, has_room, in_range, judged, placed, scene_limits, settled, take_line}
 use Rattle.scene_text.specs.Taking.Taken.{Now, Refused}
 use Rattle.scene_text.specs.declared.lines.Line.{Line}
 use Rattle.scene_text.specs.declared.lines.Line.TheVariants.{Client as LClient, Deliver as LDeliver, Drain as LDrain, Nodes as LNodes, Part as LPart, Session as LSession, Version as LVersion}
@@ -29,7 +27,7 @@ use Rattle.str_base.specs.declared.names.PartId.{PartId}
 use Rattle.str_base.specs.declared.names.SessionId.{SessionId}
 use Rattle.str_scene.specs.declared.names.Event.TheVariants.{Client, Deliver}
 use Rattle.str_scene.specs.Lists.{Each}
-use Rattle.str_scene.specs.Drafts.{empty_draft, is_none_yet, may_have_entry, may_have_nodes, may_have_part, may_have_session, may_have_tx, with_nodes, with_row, with_session}
+use Rattle.str_scene.specs.Drafts.{is_none_yet, may_have_entry, may_have_nodes, may_have_part, may_have_session, may_have_tx, with_row, with_session}
 use Rattle.str_scene.specs.Refusals.{IsRefused, drain_fault, entry_fault, first_fault, is_row as row_is, is_up_to, is_known, nodes_fault, part_fault, session_fault, sessions_at, is_puts, is_script, tx_fault}
 use Rattle.str_scene.specs.SceneLimits.{IsOp}
 use Rattle.str_scene.specs.Scenes.{KeyTable, Scene}

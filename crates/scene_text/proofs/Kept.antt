@@ -1,7 +1,7 @@
 -- What a state keeps, and the lines that it stands for.
-use Rattle.std.proofs.Common.{Bool, List, Some, [], false, length, map, slice_get, true, ℕ, ◌++◌, ◌<◌, ◌^◌, ◌∷◌, ◌≡◌, ◌≤◌, ◌⊎◌}
+use Rattle.std.proofs.Common.{List, Some, [], false, length, map, slice_get, true, ℕ, ◌++◌, ◌<◌, ◌^◌, ◌∷◌, ◌≡◌, ◌≤◌, ◌⊎◌}
 use Rattle.std.specs.List.{count_by, sum_by}
-use Rattle.std.specs.Prelude.{flat_map, ⊤}
+use Rattle.std.specs.Prelude.{flat_map}
 use Rattle.scene_text.proofs.Growing.{Distinct}
 use Rattle.scene_text.specs.LineOrder.{Place}
 use Rattle.scene_text.specs.LineOrder.Place.{AfterDrain, AfterEnd, AfterNodes, AfterOp, AfterPart, AfterSession, AfterTx, AfterVersion, AtStart, InSchedule}

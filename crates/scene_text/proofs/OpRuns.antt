@@ -1,20 +1,18 @@
 -- The lines of a scene's transactions are taken.
-use Rattle.std.proofs.Common.{Bool, List, None, Option, Some, [], ap, append-nil, append_assoc, arith, false, get_or, length, length-append, map, nat_le, nat_lt, refl, slice_get, subst, sym, take, true, ℕ, ℤ, ◌&&◌, ◌++◌, ◌+◌, ◌<◌, ◌==◌, ◌∙◌, ◌∷◌, ◌≡◌, ◌≤◌, cond}
+use Rattle.std.proofs.Common.{List, None, Some, [], ap, append-nil, append_assoc, arith, false, get_or, length, length-append, map, nat_le, nat_lt, refl, slice_get, sym, take, true, ℕ, ◌++◌, ◌+◌, ◌<◌, ◌∙◌, ◌∷◌, ◌≡◌, ◌≤◌, cond}
 use Rattle.std.proofs.lemmas.Bool.Decides.{Decides-eqb, nat_tests}
 use Rattle.std.proofs.lemmas.Option.{same_Some, slice_get-get_or}
 use Rattle.std.specs.Prelude.{flat_map}
 use Rattle.scene_text.proofs.Found.{Found, found}
-use Rattle.scene_text.proofs.Growing.{Comes, Distinct, string_comes}
+use Rattle.scene_text.proofs.Growing.{Distinct, string_comes}
 use Rattle.scene_text.proofs.HeadSteps.{mk}
-use Rattle.scene_text.proofs.Kept.{TableKept}
 use Rattle.scene_text.proofs.Steps.{taken}
 use Rattle.scene_text.proofs.Tests.{both, number_holds, up_to_holds}
 use Rattle.scene_text.specs.LineOrder.{Place, op_follows, puts_follows}
-use Rattle.scene_text.specs.LineOrder.Place.{AfterOp, AfterTx}
+use Rattle.scene_text.specs.LineOrder.Place.{AfterOp}
 use Rattle.scene_text.specs.SceneLines.{key_at, op_line, text_at}
-use Rattle.scene_text.specs.Taking.{Limits, State, Taken, after, goes_on, is_number, is_up_to, take_line, take_lines, with_op, with_puts}
-use Rattle.scene_text.specs.Taking.Taken.{Now, Refused}
-use Rattle.scene_text.specs.declared.lines.Line.{Line}
+use Rattle.scene_text.specs.Taking.{Limits, State, goes_on, take_line, take_lines, with_op, with_puts}
+use Rattle.scene_text.specs.Taking.Taken.{Now}
 use Rattle.str_base.specs.declared.names.KeyId.{KeyId}
 use Rattle.str_base.specs.declared.names.PartId.{PartId}
 use Rattle.str_base.specs.declared.names.TextId.{TextId}
@@ -22,7 +20,7 @@ use Rattle.str_scene.proofs.Each.{each_at}
 use Rattle.str_scene.proofs.Pairs.{interned}
 use Rattle.str_scene.specs.Lists.{Each}
 use Rattle.str_scene.specs.Keys.{place_of, string_place, with_pair, with_string}
-use Rattle.str_scene.specs.SceneLimits.{IsByteText, IsKey, IsKeyOf, IsNumber, IsOp, counted, key_of, text_of}
+use Rattle.str_scene.specs.SceneLimits.{IsByteText, IsKey, IsKeyOf, IsOp, counted, key_of, text_of}
 use Rattle.str_scene.specs.Scenes.{KeyTable, Scene, Session}
 use Rattle.str_scene.specs.declared.names.Op.{Op}
 use Rattle.str_scene.specs.declared.names.Op.TheVariants.{Abort, Add, Del, Get, Need, Put, Puts}

@@ -1,17 +1,17 @@
 -- The lines of operations are taken.
-use Rattle.std.proofs.Common.{Bool, List, None, Option, Some, [], ap, append-nil, append_assoc, arith, eqb, false, length, length-append, map, refl, slice_get, subst, sym, true, ℕ, ℤ, ◌++◌, ◌+◌, ◌<◌, ◌==◌, ◌∙◌, ◌∷◌, ◌≡◌, ◌≤◌, cond}
+use Rattle.std.proofs.Common.{Bool, List, None, Option, Some, [], ap, append-nil, append_assoc, arith, false, length, length-append, map, refl, slice_get, subst, sym, true, ℕ, ℤ, ◌++◌, ◌<◌, ◌==◌, ◌∙◌, ◌∷◌, ◌≡◌, ◌≤◌, cond}
 use Rattle.std.proofs.lemmas.Bool.Decides.{Decides-eqb}
 use Rattle.std.proofs.lemmas.Grind.{flat_map-append}
 use Rattle.std.proofs.lemmas.List.{map-append}
 use Rattle.std.proofs.lemmas.Option.{none-some, same_Some}
 use Rattle.std.specs.Prelude.{flat_map, option_and_then}
-use Rattle.scene_text.proofs.Growing.{Grown, Grows, grown, stays, string_comes}
-use Rattle.scene_text.proofs.HeadSteps.{extends_self, mk}
-use Rattle.scene_text.proofs.Kept.{At, CountsKept, Extends, GoodEvent, GoodScript, GoodSession, Headed, InBody, Kept, Stands, Step, TableKept, tx_count}
+use Rattle.scene_text.proofs.Growing.{Grows, grown, stays, string_comes}
+use Rattle.scene_text.proofs.HeadSteps.{mk}
+use Rattle.scene_text.proofs.Kept.{At, Extends, GoodScript, GoodSession, InBody, Kept, Stands, Step, tx_count}
 use Rattle.scene_text.specs.LineOrder.{Place, op_follows, puts_follows}
 use Rattle.scene_text.specs.LineOrder.Place.{AfterOp, AfterTx}
 use Rattle.scene_text.specs.SceneLines.{body_lines, key_at, op_line, script_lines, text_at}
-use Rattle.scene_text.specs.Taking.{Limits, State, key_number, text_number, with_op, with_puts}
+use Rattle.scene_text.specs.Taking.{Limits, key_number, text_number, with_op, with_puts}
 use Rattle.scene_text.specs.declared.lines.Line.{Line}
 use Rattle.scene_text.specs.declared.lines.Line.TheVariants.{Abort as LAbort, Add as LAdd, Del as LDel, Get as LGet, Need as LNeed, Put as LPut, Puts as LPuts, Tx as LTx}
 use Rattle.str_base.specs.declared.names.KeyId.{KeyId}
@@ -20,8 +20,7 @@ use Rattle.str_base.specs.declared.names.TextId.{TextId}
 use Rattle.str_scene.proofs.Counts.{counted-append}
 use Rattle.str_scene.proofs.Each.{each_push, each_weaker}
 use Rattle.str_scene.proofs.Pairs.{interned}
-use Rattle.str_scene.specs.Drafts.{with_key, with_text}
-use Rattle.str_scene.specs.Keys.{place_of, string_place, with_pair, with_string}
+use Rattle.str_scene.specs.Keys.{with_pair, with_string}
 use Rattle.str_scene.specs.SceneLimits.{IsByteText, IsKey, IsKeyOf, IsNumber, IsOp, all_ops, counted, key_of, text_of}
 use Rattle.str_scene.specs.Scenes.{KeyTable, Scene, Session}
 use Rattle.str_scene.specs.declared.names.Op.{Op}

@@ -3,8 +3,8 @@ use Rattle.std.proofs.Common.{Bool, List, None, Option, Some, [], ap, cond, fals
 use Rattle.std.proofs.lemmas.Option.{none-some, same_Some}
 use Rattle.scene_text.proofs.HeadSteps.{mk}
 use Rattle.scene_text.proofs.Steps.{goes_on_from, is_taken}
-use Rattle.scene_text.specs.LineOrder.{Place, end_follows, entry_follows, follows, lead, nodes_follow, op_follows, part_follows, place_after, puts_follows, section_follows, tx_follows, version_follows, version_of}
-use Rattle.scene_text.specs.LineOrder.Place.{AfterDrain, AfterEnd, AfterNodes, AfterOp, AfterPart, AfterSession, AfterTx, AfterVersion, AtStart, InSchedule}
+use Rattle.scene_text.specs.LineOrder.{Place, end_follows, entry_follows, follows, lead, nodes_follow, op_follows, part_follows, place_after, section_follows, tx_follows, version_follows, version_of}
+use Rattle.scene_text.specs.LineOrder.Place.{AfterDrain, AfterNodes, AfterOp, AfterPart, AfterSession, AfterTx, AfterVersion, AtStart, InSchedule}
 use Rattle.scene_text.specs.Taking.{Limits, State, after, at_start, settle, take_line, take_lines}
 use Rattle.scene_text.specs.Taking.Taken.{Now}
 use Rattle.scene_text.specs.declared.lines.Line.{Line}

@@ -1,15 +1,15 @@
 -- What a reader knows of a text, line by line: the first bad line, or the scene.
-use Rattle.std.proofs.Common.{Bool, List, None, Option, Some, [], ap, append-nil, append_assoc, arith, drop, false, inl, inr, length, length-append, length-drop, map, refl, subst, sym, take, true, ℕ, ◌++◌, ◌+◌, ◌<◌, ◌∙◌, ◌∷◌, ◌≡◌, ◌≢◌, ◌≤◌}
+use Rattle.std.proofs.Common.{List, None, [], ap, append-nil, append_assoc, arith, drop, inl, inr, length, length-append, length-drop, map, refl, subst, sym, take, true, ℕ, ◌++◌, ◌+◌, ◌<◌, ◌∙◌, ◌∷◌, ◌≡◌}
 use Rattle.std.proofs.lemmas.List.{length-map, map-append, take-append-drop}
 use Rattle.std.proofs.lemmas.Grind.{flat_map-append}
 use Rattle.std.specs.Prelude.{flat_map}
 use Rattle.scene_text.proofs.Bad.{misspelled, refused, taken_is_start}
 use Rattle.scene_text.proofs.SessionRuns.{taken_on}
 use Rattle.scene_text.proofs.Splits.{Split, split, split_more, split_none}
-use Rattle.scene_text.proofs.Starts.{TextsTaken, end_scene, whole_at_end}
+use Rattle.scene_text.proofs.Starts.{end_scene, whole_at_end}
 use Rattle.scene_text.proofs.TextsApart.{line_text-no_feed}
 use Rattle.scene_text.specs.FirstBad.{FirstBad, IsBadFor, IsSplit, IsStart, IsWhole}
-use Rattle.scene_text.specs.LineOrder.{Place, follows}
+use Rattle.scene_text.specs.LineOrder.{follows}
 use Rattle.scene_text.specs.LineOrder.Place.{AfterEnd}
 use Rattle.scene_text.specs.LineTexts.{IsForm, line_text}
 use Rattle.scene_text.specs.Reaching.{Reached}
@@ -19,10 +19,10 @@ use Rattle.scene_text.specs.declared.lines.Line.{Line}
 use Rattle.str_scene.proofs.Each.{each_append, each_at, each_from}
 use Rattle.str_scene.specs.Lists.{Each}
 use Rattle.str_scene.specs.SceneLimits.{IsScene}
-use Rattle.str_scene.specs.Spelling.{IsText, ended, scene_lines, spelling}
+use Rattle.str_scene.specs.Spelling.{IsText, ended, spelling}
 use Rattle.str_scene.specs.Lists.{is_without}
 use Rattle.str_scene.specs.declared.faults.Why.{Why}
-use Rattle.str_scene.specs.declared.faults.Why.TheVariants.{Count, Cut, Form, Range}
+use Rattle.str_scene.specs.declared.faults.Why.TheVariants.{Cut, Form}
 
 -- nothing is read
 pub reached_start : Reached [] 0 at_start

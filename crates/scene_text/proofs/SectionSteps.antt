@@ -1,18 +1,17 @@
 -- The lines that begin a session, a transaction or the schedule are taken.
-use Rattle.std.proofs.Common.{Bool, List, None, Option, Some, [], ap, append-nil, append_assoc, arith, cond, false, length, length-append, map, refl, subst, sym, true, ℕ, ◌++◌, ◌+◌, ◌<◌, ◌∙◌, ◌∷◌, ◌≡◌, ◌≤◌}
+use Rattle.std.proofs.Common.{Bool, List, Some, [], ap, append-nil, append_assoc, arith, cond, false, length, length-append, map, refl, subst, sym, true, ℕ, ◌++◌, ◌<◌, ◌∙◌, ◌∷◌, ◌≡◌, ◌≤◌}
 use Rattle.std.proofs.lemmas.Bool.Decides.{Decides-eqb}
 use Rattle.std.proofs.lemmas.Grind.{flat_map-append}
 use Rattle.std.proofs.lemmas.List.Sums.{sum_by-append}
 use Rattle.std.proofs.lemmas.Option.{none-some, same_Some}
 use Rattle.std.specs.Prelude.{flat_map}
 use Rattle.scene_text.proofs.HeadSteps.{extends_self, mk}
-use Rattle.scene_text.proofs.Kept.{At, Bodied, CountsKept, Extends, GoodEvent, GoodSession, Headed, InBody, Kept, Stands, Step, TableKept, count_at, lines_at, tx_count}
-use Rattle.scene_text.proofs.Settling.{Settled, session_ops, settled_section, tx_is_section}
+use Rattle.scene_text.proofs.Kept.{At, Extends, GoodEvent, GoodSession, Kept, Step, TableKept, count_at, tx_count}
+use Rattle.scene_text.proofs.Settling.{settled_section, tx_is_section}
 use Rattle.scene_text.specs.LineOrder.{Place, section_follows, tx_follows}
 use Rattle.scene_text.specs.LineOrder.Place.{AfterOp, AfterPart, AfterSession, AfterTx, InSchedule}
 use Rattle.scene_text.specs.SceneLines.{body_lines, entry_line, one_session_lines, row_lines}
 use Rattle.scene_text.specs.Taking.{Limits, closed, settle}
-use Rattle.scene_text.specs.declared.lines.Line.{Line}
 use Rattle.scene_text.specs.declared.lines.Line.TheVariants.{Nodes as LNodes, Schedule as LSchedule, Session as LSession, Tx as LTx, Version as LVersion}
 use Rattle.str_base.specs.Versions.{same_node}
 use Rattle.str_base.specs.declared.names.NodeId.{NodeId}

@@ -1,5 +1,5 @@
 -- The lines of a scene's sessions are taken.
-use Rattle.std.proofs.Common.{Bool, List, None, Option, Some, [], ap, append-nil, append_assoc, arith, cond, false, length, length-append, nat_lt, refl, subst, sym, take, true, ℕ, ◌&&◌, ◌++◌, ◌+◌, ◌<◌, ◌∙◌, ◌∷◌, ◌≡◌, ◌≤◌}
+use Rattle.std.proofs.Common.{List, Some, [], ap, append-nil, append_assoc, arith, cond, length, length-append, nat_lt, refl, subst, sym, true, ℕ, ◌++◌, ◌+◌, ◌<◌, ◌∙◌, ◌∷◌, ◌≡◌, ◌≤◌}
 use Rattle.std.proofs.lemmas.Bool.Decides.{Decides-eqb, nat_tests}
 use Rattle.std.proofs.lemmas.Grind.{flat_map-append}
 use Rattle.std.proofs.lemmas.List.Sums.{sum_by-append}
@@ -8,24 +8,23 @@ use Rattle.std.specs.Prelude.{flat_map}
 use Rattle.scene_text.proofs.Found.{parts}
 use Rattle.scene_text.proofs.HeadSteps.{mk}
 use Rattle.scene_text.proofs.Kept.{GoodScript, GoodSession, count_at, tx_count}
-use Rattle.scene_text.proofs.OpRuns.{OpsTaken, TableGood, body, ops_taken, upto}
-use Rattle.scene_text.proofs.SectionSteps.{new_session}
+use Rattle.scene_text.proofs.OpRuns.{TableGood, body, ops_taken}
 use Rattle.scene_text.proofs.Settling.{count_at-add_tx, length-add_tx, script_ops, session_ops}
 use Rattle.scene_text.proofs.Steps.{taken}
 use Rattle.scene_text.proofs.Tests.{both, up_to_holds}
 use Rattle.scene_text.specs.LineOrder.{Place, section_follows, tx_follows}
-use Rattle.scene_text.specs.LineOrder.Place.{AfterOp, AfterPart, AfterSession, AfterTx, InSchedule}
-use Rattle.scene_text.specs.SceneLines.{one_session_lines, op_line, script_lines}
+use Rattle.scene_text.specs.LineOrder.Place.{AfterOp, AfterSession, AfterTx}
+use Rattle.scene_text.specs.SceneLines.{one_session_lines, script_lines}
 use Rattle.scene_text.specs.Taking.{Limits, State, Taken, closed, goes_on, settle, settled, take_line, take_lines}
 use Rattle.scene_text.specs.Taking.Taken.{Now, Refused}
 use Rattle.scene_text.specs.declared.lines.Line.{Line}
-use Rattle.scene_text.specs.declared.lines.Line.TheVariants.{Schedule as LSchedule, Session as LSession, Tx as LTx}
+use Rattle.scene_text.specs.declared.lines.Line.TheVariants.{Session as LSession, Tx as LTx}
 use Rattle.str_base.specs.Versions.{same_node}
 use Rattle.str_base.specs.declared.names.NodeId.{NodeId}
 use Rattle.str_scene.specs.Lists.{Each}
 use Rattle.str_scene.specs.Drafts.{add_tx, with_session, with_tx}
 use Rattle.str_scene.specs.SceneLimits.{counted, key_of, text_of}
-use Rattle.str_scene.specs.Scenes.{KeyTable, Scene, Session}
+use Rattle.str_scene.specs.Scenes.{Scene, Session}
 use Rattle.str_scene.specs.declared.names.Op.{Op}
 
 -- by what the first line comes to

@@ -1,15 +1,14 @@
 -- The open transaction becomes the last of the draft.
-use Rattle.std.proofs.Common.{Bool, List, None, Option, Some, [], ap, append-nil, append_assoc, arith, cond, false, length, length-append, map, refl, slice_get, subst, suc, sym, true, ℕ, ◌++◌, ◌+◌, ◌<◌, ◌∙◌, ◌∷◌, ◌≡◌, ◌≤◌}
+use Rattle.std.proofs.Common.{List, Some, [], ap, append-nil, append_assoc, arith, cond, length, length-append, refl, subst, suc, sym, ℕ, ◌++◌, ◌+◌, ◌<◌, ◌∙◌, ◌∷◌, ◌≡◌, ◌≤◌}
 use Rattle.std.proofs.lemmas.Grind.{flat_map-append}
 use Rattle.std.proofs.lemmas.List.Sums.{sum_by-append}
 use Rattle.std.proofs.lemmas.Option.{none-some}
 use Rattle.std.specs.Prelude.{flat_map}
-use Rattle.scene_text.proofs.Kept.{At, Bodied, CountsKept, GoodEvent, GoodScript, GoodSession, Headed, InBody, Kept, TableKept, count_at, lines_at, tx_count}
+use Rattle.scene_text.proofs.Kept.{At, Bodied, GoodEvent, GoodScript, GoodSession, Kept, TableKept, count_at, lines_at, tx_count}
 use Rattle.scene_text.specs.LineOrder.{Place, section_follows, tx_follows}
 use Rattle.scene_text.specs.LineOrder.Place.{AfterOp, AfterPart, AfterSession}
 use Rattle.scene_text.specs.SceneLines.{body_lines, one_session_lines, row_lines, script_lines}
 use Rattle.scene_text.specs.Taking.{Limits, settle}
-use Rattle.scene_text.specs.declared.lines.Line.{Line}
 use Rattle.scene_text.specs.declared.lines.Line.TheVariants.{Nodes as LNodes, Session as LSession, Version as LVersion}
 use Rattle.str_base.specs.Versions.{same_node}
 use Rattle.str_base.specs.declared.names.NodeId.{NodeId}

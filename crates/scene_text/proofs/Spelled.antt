@@ -1,7 +1,6 @@
 -- The lines of a scene are of the form, and their texts are those that the scene is spelled by.
-use Rattle.std.proofs.Common.{Bool, List, None, Option, Some, [], ap, append_assoc, arith, codes, decimal, false, length, map, negsuc, pos, refl, slice_get, subst, suc, sym, true, ℕ, ℤ, ◌++◌, ◌+◌, ◌<◌, ◌^◌, ◌∙◌, ◌∷◌, ◌≡◌, ◌≤◌, inl, inr, ◌⊎◌}
+use Rattle.std.proofs.Common.{Bool, List, Some, [], ap, append_assoc, arith, codes, decimal, false, length, map, refl, slice_get, subst, suc, sym, true, ℕ, ◌++◌, ◌+◌, ◌<◌, ◌^◌, ◌∙◌, ◌∷◌, ◌≡◌, ◌≤◌, inl, inr}
 use Rattle.std.proofs.lemmas.List.{map-append}
-use Rattle.std.specs.Fmt.{signed_decimal}
 use Rattle.std.specs.Prelude.{flat_map}
 use Rattle.scene_text.proofs.Kept.{GoodEvent, GoodScript, GoodSession, IsVersion}
 use Rattle.scene_text.proofs.NumeralLemmas.{numeral-decimal, signed_numeral-decimal}
@@ -13,14 +12,14 @@ use Rattle.scene_text.specs.Numerals.{numeral, signed_numeral}
 use Rattle.scene_text.specs.SceneLines.{drain_line, entry_line, key_at, lines_of, one_session_lines, op_line, row_lines, script_lines, text_at}
 use Rattle.scene_text.specs.Taking.{Limits, scene_limits}
 use Rattle.scene_text.specs.declared.lines.Line.{Line}
-use Rattle.scene_text.specs.declared.lines.Line.TheVariants.{End as LEnd, Nodes as LNodes, Part as LPart, Schedule as LSchedule, Version as LVersion}
+use Rattle.scene_text.specs.declared.lines.Line.TheVariants.{End as LEnd, Nodes as LNodes, Schedule as LSchedule, Version as LVersion}
 use Rattle.str_base.specs.declared.names.KeyId.{KeyId}
 use Rattle.str_base.specs.declared.names.NodeId.{NodeId}
 use Rattle.str_base.specs.declared.names.TextId.{TextId}
-use Rattle.str_scene.proofs.Each.{each_append, each_at}
+use Rattle.str_scene.proofs.Each.{each_append}
 use Rattle.str_scene.specs.Lists.{Each}
 use Rattle.str_scene.specs.SceneLimits.{Exists, IsOp, IsRow}
-use Rattle.str_scene.specs.Scenes.{KeyTable, Scene, Session}
+use Rattle.str_scene.specs.Scenes.{Scene, Session}
 use Rattle.str_scene.specs.Spelling.{drain_lines, event_spelled, head_lines, hex_byte, key_spelled, name_spelled, op_spelled, part_lines, part_spelled, scene_lines, session_lines, tail_lines, text_spelled, tx_lines}
 use Rattle.str_scene.specs.declared.names.Event.{Event}
 use Rattle.str_scene.specs.declared.names.Event.TheVariants.{Client, Deliver}

@@ -2,13 +2,13 @@
 use Rattle.std.proofs.Common.{Bool, Bor, IfSome, IsNone, List, MatchOption, None, Option, Some, [], add-one, ap, append_assoc, arith, drop, drop-cons, eqb, false, get_or, length, not, refl, sym, take, true, ℕ, ◌&&◌, ◌++◌, ◌+◌, ◌<◌, ◌==◌, ◌∙◌, ◌∷◌, ◌≡◌, ◌≤◌}
 use Rattle.std.proofs.lemmas.Bool.Decides.{Decides-eqb, nat_tests}
 use Rattle.std.proofs.lemmas.List.Edits.{between_more}
-use Rattle.std.proofs.lemmas.List.Folds.{drop_split, list_all-append}
+use Rattle.std.proofs.lemmas.List.Folds.{drop_split}
 use Rattle.std.proofs.lemmas.List.{append_cancel_right, take-append-drop}
 use Rattle.std.proofs.lemmas.Option.{get_or_from_slice_get, slice_get_within}
 use Rattle.std.proofs.lemmas.Slice.Eq.{strip_prefix_is}
 use Rattle.std.specs.Cmp.Lexicographic.{pointwise}
-use Rattle.std.specs.List.{list_all, slice_get, slice_range}
-use Rattle.str_scene.specs.SceneLimits.{in_name, is_letter, is_name}
+use Rattle.std.specs.List.{slice_get, slice_range}
+use Rattle.str_scene.specs.SceneLimits.{is_name}
 use Rattle.scene_text.specs.LineReading.{is_without}
 use Rattle.str_scene.proofs.Without.{is_without-append}
 

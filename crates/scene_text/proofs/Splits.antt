@@ -1,9 +1,9 @@
 -- Bytes have one split into lines and a tail.
-use Rattle.std.proofs.Common.{Bool, List, None, Option, Some, [], ap, append-nil, append_assoc, arith, cond, eqb, false, length, length-append, not, refl, slice_get, subst, suc, sym, true, zero, ℕ, ◌&&◌, ◌++◌, ◌+◌, ◌<◌, ◌==◌, ◌∙◌, ◌∷◌, ◌≡◌, ◌≤◌}
+use Rattle.std.proofs.Common.{Bool, List, Some, [], ap, append_assoc, arith, false, not, refl, slice_get, subst, suc, sym, true, zero, ℕ, ◌++◌, ◌==◌, ◌∙◌, ◌∷◌, ◌≡◌}
 use Rattle.std.proofs.lemmas.Bool.Decides.{nat_tests}
 use Rattle.std.specs.List.{list_all}
 use Rattle.std.specs.Prelude.{flat_map}
-use Rattle.scene_text.proofs.Tests.{both, parts}
+use Rattle.scene_text.proofs.Tests.{both}
 use Rattle.scene_text.specs.FirstBad.{IsSplit}
 use Rattle.str_scene.proofs.Without.{is_without-here, split_unique}
 use Rattle.str_scene.specs.Spelling.{ended}

@@ -1,14 +1,14 @@
 -- The first lines of a scene's text are those whose lines are taken.
-use Rattle.std.proofs.Common.{Bool, List, Some, [], ap, append_assoc, arith, length, map, refl, subst, sym, true, ℕ, ◌++◌, ◌+◌, ◌<◌, ◌∙◌, ◌∷◌, ◌≡◌, ◌≤◌, drop, take}
-use Rattle.std.proofs.lemmas.List.{append_cancel_left, map-append, take-append-drop}
+use Rattle.std.proofs.Common.{List, [], ap, append_assoc, arith, map, refl, sym, ℕ, ◌++◌, ◌∙◌, ◌∷◌, ◌≡◌, ◌≤◌, drop, take}
+use Rattle.std.proofs.lemmas.List.{map-append, take-append-drop}
 use Rattle.scene_text.proofs.Complete.{complete}
-use Rattle.scene_text.proofs.Ends.{AreTaken, Begins, Ended, begins_taken, ended, taken_begins}
+use Rattle.scene_text.proofs.Ends.{AreTaken, begins_taken, ended, taken_begins}
 use Rattle.scene_text.proofs.HeadSteps.{mk}
 use Rattle.scene_text.proofs.Spelled.{lines_form, spelled}
 use Rattle.scene_text.proofs.TextsApart.{line_text-injective}
 use Rattle.scene_text.proofs.Wholes.{Whole, limits_of, ranged_whole, scene_whole, whole_ranged, whole_scene}
 use Rattle.scene_text.proofs.Wider.{lines_more, wider, within_first, within_second}
-use Rattle.scene_text.specs.FirstBad.{IsInRange, IsRanged, IsStart, IsWhole}
+use Rattle.scene_text.specs.FirstBad.{IsInRange, IsStart, IsWhole}
 use Rattle.scene_text.specs.LineOrder.Place.{AfterEnd}
 use Rattle.scene_text.specs.LineTexts.{IsForm, line_text}
 use Rattle.scene_text.specs.SceneLines.{lines_of}

@@ -1,7 +1,6 @@
 -- Each line that is taken keeps the limits, and adds itself to the lines that the state stands for.
-use Rattle.std.proofs.Common.{Bool, List, None, Option, Some, [], ap, append-nil, append_assoc, arith, eqb, false, length, nat_le, nat_lt, refl, subst, sym, true, ℕ, ℤ, ◌&&◌, ◌++◌, ◌+◌, ◌<◌, ◌==◌, ◌^◌, ◌∙◌, ◌∷◌, ◌≡◌, ◌≤◌}
+use Rattle.std.proofs.Common.{Bool, List, None, Option, Some, [], ap, append-nil, append_assoc, arith, false, length, nat_le, nat_lt, refl, subst, sym, true, ℕ, ◌++◌, ◌+◌, ◌<◌, ◌==◌, ◌^◌, ◌∙◌, ◌∷◌, ◌≡◌, ◌≤◌}
 use Rattle.std.proofs.lemmas.Bool.Decides.{Decides-eqb, nat_tests}
-use Rattle.std.proofs.lemmas.Option.{same_Some}
 use Rattle.scene_text.proofs.EntrySteps.{step_drain, step_end, step_entry}
 use Rattle.scene_text.proofs.HeadSteps.{extends_self, kept_empty, mk, step_nodes, step_part, step_version}
 use Rattle.scene_text.proofs.Kept.{At, Extends, Kept, Stands, Step, count_at, lines_at, tx_count}
@@ -10,17 +9,14 @@ use Rattle.scene_text.proofs.SectionSteps.{step_schedule, step_session, step_tx}
 use Rattle.scene_text.proofs.Tests.{number_tells, parts, row_tells, up_to_tells}
 use Rattle.scene_text.specs.LineOrder.{Place, follows}
 use Rattle.scene_text.specs.LineTexts.{IsForm}
-use Rattle.scene_text.specs.Taking.{Limits, State, Taken, after, at_start, goes_on, has_room, in_range, is_number, is_row, is_up_to, judged, placed, settle, settled, take_line, take_lines}
+use Rattle.scene_text.specs.Taking.{Limits, State, Taken, after, at_start, goes_on, has_room, in_range, is_number, is_row, is_up_to, judged, placed, settle, take_line, take_lines}
 use Rattle.scene_text.specs.Taking.Taken.{Now, Refused}
 use Rattle.scene_text.specs.declared.lines.Line.{Line}
 use Rattle.scene_text.specs.declared.lines.Line.TheVariants.{Abort as LAbort, Add as LAdd, Client as LClient, Del as LDel, Deliver as LDeliver, Drain as LDrain, End as LEnd, Get as LGet, Need as LNeed, Nodes as LNodes, Part as LPart, Put as LPut, Puts as LPuts, Schedule as LSchedule, Session as LSession, Tx as LTx, Version as LVersion}
-use Rattle.str_base.specs.declared.names.NodeId.{NodeId}
 use Rattle.str_base.specs.declared.names.PartId.{PartId}
 use Rattle.str_scene.specs.Lists.{Each}
-use Rattle.str_scene.specs.SceneLimits.{Exists, IsKey, IsNumber, is_name}
+use Rattle.str_scene.specs.SceneLimits.{IsKey, is_name}
 use Rattle.str_scene.specs.Scenes.{KeyTable, Scene}
-use Rattle.str_scene.specs.declared.faults.Why.{Why}
-use Rattle.str_scene.specs.declared.faults.Why.TheVariants.{Count, Form, Range}
 use Rattle.str_scene.specs.declared.names.Event.TheVariants.{Client, Deliver}
 use Rattle.str_scene.specs.declared.names.Op.TheVariants.{Add, Del, Get, Need, Put}
 

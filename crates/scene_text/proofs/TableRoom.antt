@@ -1,29 +1,28 @@
 -- The table of a scene has room for the names of all its operations.
-use Rattle.std.proofs.Common.{Bool, Err, IfErr, List, None, Ok, Option, Result, Some, [], ap, arith, cond, eqb, false, inl, inr, length, length-append, nat_le, nat_lt, refl, subst, suc, sym, true, ℕ, ◌&&◌, ◌*◌, ◌++◌, ◌+◌, ◌<◌, ◌==◌, ◌∙◌, ◌∷◌, ◌≡◌, ◌≤◌, ◌⊎◌}
-use Rattle.std.proofs.lemmas.Bool.Decides.{Decides-eqb, nat_tests}
+use Rattle.std.proofs.Common.{Bool, Err, IfErr, List, None, Ok, Option, Result, Some, [], ap, arith, cond, false, inl, inr, length, length-append, nat_le, nat_lt, refl, subst, suc, sym, true, ℕ, ◌&&◌, ◌*◌, ◌++◌, ◌+◌, ◌<◌, ◌==◌, ◌∙◌, ◌∷◌, ◌≡◌, ◌≤◌}
+use Rattle.std.proofs.lemmas.Bool.Decides.{nat_tests}
 use Rattle.std.proofs.lemmas.List.Sums.{sum_by-append}
 use Rattle.std.proofs.lemmas.Option.{none-some, same_Some}
 use Rattle.std.specs.Prelude.{flat_map}
 use Rattle.std.specs.Str.{bytes_eq}
 use Rattle.scene_text.proofs.Judging.{fault_none, op_body, op_may, refused_count, refused_range, stands}
-use Rattle.scene_text.proofs.Kept.{GoodScript, GoodSession, InBody, Kept, TableKept, tx_count}
-use Rattle.scene_text.proofs.Tests.{both, parts}
+use Rattle.scene_text.proofs.Kept.{GoodScript, GoodSession, Kept, tx_count}
+use Rattle.scene_text.proofs.Tests.{parts}
 use Rattle.scene_text.specs.LineOrder.{Place, follows, op_follows, puts_follows}
 use Rattle.scene_text.specs.LineOrder.Place.{AfterOp}
 use Rattle.scene_text.specs.Reading.{IsKeyRefused, IsReached, IsRefusedFor}
 use Rattle.scene_text.specs.Taking.{State, in_range, is_up_to, key_number, scene_limits}
 use Rattle.str_base.specs.declared.names.KeyId.{KeyId}
 use Rattle.str_base.specs.declared.names.PartId.{PartId}
-use Rattle.str_base.specs.declared.names.TextId.{TextId}
 use Rattle.str_scene.specs.Lists.{Each}
 use Rattle.scene_text.specs.declared.lines.Line.TheVariants.{Puts as LPuts}
 use Rattle.str_scene.specs.Drafts.{may_have_tx, with_key}
-use Rattle.str_scene.specs.Keys.{number_of, place_of, same_pair, string_number, string_place, with_pair, with_string}
+use Rattle.str_scene.specs.Keys.{number_of, same_pair, with_pair, with_string}
 use Rattle.str_scene.specs.Refusals.{IsRefused, first_fault, key_fault, text_fault}
 use Rattle.str_scene.specs.SceneLimits.{all_ops, counted, is_name, key_of, text_of}
 use Rattle.str_scene.specs.Scenes.{KeyTable, Scene, Session}
 use Rattle.str_scene.specs.declared.faults.SceneFault.{SceneFault}
-use Rattle.str_scene.specs.declared.faults.SceneFault.TheVariants.{Count, Form, Memory, Range}
+use Rattle.str_scene.specs.declared.faults.SceneFault.TheVariants.{Count, Memory, Range}
 use Rattle.str_scene.specs.declared.names.Op.{Op}
 use Rattle.str_scene.specs.declared.names.Op.TheVariants.{Abort, Add, Del, Get, Need, Put, Puts}
 

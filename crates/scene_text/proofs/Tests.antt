@@ -1,5 +1,5 @@
 -- What the tests of a line's numbers tell.
-use Rattle.std.proofs.Common.{Bool, List, Some, [], ap, arith, eqb, false, length, nat_le, negsuc, not, pos, refl, slice_get, suc, sym, true, zero, ℕ, ℤ, ◌&&◌, ◌<◌, ◌==◌, ◌^◌, ◌∙◌, ◌∷◌, ◌≡◌, ◌≤◌, ◌||◌}
+use Rattle.std.proofs.Common.{Bool, List, Some, [], ap, arith, false, length, nat_le, negsuc, not, pos, refl, slice_get, suc, sym, true, zero, ℕ, ℤ, ◌&&◌, ◌∙◌, ◌∷◌, ◌≡◌, ◌≤◌, ◌||◌}
 use Rattle.std.proofs.lemmas.Bool.Decides.{Decides-eqb, nat_tests}
 use Rattle.std.specs.List.{list_all, list_any}
 use Rattle.scene_text.proofs.Growing.{Distinct}

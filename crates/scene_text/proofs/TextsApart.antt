@@ -1,7 +1,7 @@
 -- Each line of the form has a text of its own, in which no line feed stands.
-use Rattle.std.proofs.Common.{Bool, List, None, Option, Some, [], ap, append-nil, append_assoc, arith, codes, cond, eqb, false, get_or, length, length-append, map, negsuc, nat_lt, not, pos, refl, subst, sym, true, ℕ, ℤ, ◌%◌, ◌&&◌, ◌++◌, ◌+◌, ◌*◌, ◌/◌, ◌<◌, ◌==◌, ◌∙◌, ◌∷◌, ◌≡◌, ◌≤◌}
+use Rattle.std.proofs.Common.{List, [], ap, append_assoc, arith, codes, get_or, length, length-append, nat_lt, not, refl, sym, true, ℕ, ◌%◌, ◌++◌, ◌+◌, ◌*◌, ◌/◌, ◌<◌, ◌==◌, ◌∙◌, ◌∷◌, ◌≡◌}
 use Rattle.std.proofs.lemmas.Bool.Decides.{nat_tests}
-use Rattle.std.proofs.lemmas.List.{append_cancel_left, append_cancel_right}
+use Rattle.std.proofs.lemmas.List.{append_cancel_left}
 use Rattle.std.specs.List.{list_all}
 use Rattle.std.specs.Prelude.{flat_map}
 use Rattle.scene_text.proofs.NumeralLemmas.{numeral-injective, numeral-without, signed_numeral-injective, signed_numeral-without}
@@ -12,7 +12,6 @@ use Rattle.scene_text.specs.declared.lines.Line.TheVariants.{Abort as LAbort, Ad
 use Rattle.scene_text.proofs.Tests.{both, parts}
 use Rattle.str_base.specs.declared.names.NodeId.{NodeId}
 use Rattle.str_base.specs.declared.names.PartId.{PartId}
-use Rattle.str_base.specs.declared.names.SessionId.{SessionId}
 use Rattle.str_scene.proofs.Without.{is_without-append, is_without-name, split_unique}
 use Rattle.str_scene.specs.SceneLimits.{is_name}
 use Rattle.str_scene.specs.Spelling.{hex_byte, hex_digit}

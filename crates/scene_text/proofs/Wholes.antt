@@ -1,17 +1,14 @@
 -- A scene within limits, as a draft that is at its end.
-use Rattle.std.proofs.Common.{Bool, List, Some, [], ap, append-nil, arith, inl, inr, length, length-append, refl, slice_get, subst, sym, true, ℕ, ◌++◌, ◌+◌, ◌<◌, ◌^◌, ◌∙◌, ◌∷◌, ◌≡◌, ◌≤◌}
-use Rattle.std.proofs.lemmas.List.Sums.{count_by-le-length, sum_by-append}
-use Rattle.std.specs.Prelude.{flat_map}
-use Rattle.scene_text.proofs.Kept.{CountsKept, GoodEvent, GoodScript, GoodSession, Headed, Kept, TableKept, count_at, tx_count}
+use Rattle.std.proofs.Common.{List, [], append-nil, arith, length, length-append, subst, sym, ℕ, ◌++◌, ◌∷◌, ◌≤◌}
+use Rattle.std.proofs.lemmas.List.Sums.{count_by-le-length}
+use Rattle.scene_text.proofs.Kept.{GoodEvent, GoodScript, GoodSession, Headed, Kept, TableKept, tx_count}
 use Rattle.scene_text.proofs.Settling.{script_ops, session_ops}
-use Rattle.scene_text.specs.FirstBad.{IsRanged, IsRangedSession}
+use Rattle.scene_text.specs.FirstBad.{IsRanged}
 use Rattle.scene_text.specs.Taking.{Limits, scene_limits}
 use Rattle.str_base.specs.Versions.{same_node}
-use Rattle.str_base.specs.declared.names.NodeId.{NodeId}
-use Rattle.str_base.specs.declared.names.PartId.{PartId}
-use Rattle.str_scene.proofs.Each.{each_at, each_from, each_weaker}
+use Rattle.str_scene.proofs.Each.{each_at, each_from}
 use Rattle.str_scene.specs.Lists.{Each}
-use Rattle.str_scene.specs.SceneLimits.{Exists, IsByteText, IsEvent, IsKey, IsOp, IsRow, IsScene, IsScript, IsSession, IsTable, all_ops, counted, key_of, text_of}
+use Rattle.str_scene.specs.SceneLimits.{Exists, IsByteText, IsEvent, IsKey, IsOp, IsRow, IsScene, IsTable, all_ops}
 use Rattle.str_scene.specs.Scenes.{KeyTable, Scene, Session}
 use Rattle.str_scene.specs.declared.names.Event.{Event}
 use Rattle.str_scene.specs.declared.names.Event.TheVariants.{Client, Deliver}

@@ -1,13 +1,13 @@
 -- With greater limits no less is taken.
-use Rattle.std.proofs.Common.{Bool, List, Some, [], ap, arith, length, nat_lt, refl, subst, sym, true, ℕ, ◌&&◌, ◌+◌, ◌<◌, ◌∙◌, ◌∷◌, ◌≡◌, ◌≤◌}
+use Rattle.std.proofs.Common.{List, [], ap, arith, length, nat_lt, true, ℕ, ◌+◌, ◌∙◌, ◌∷◌, ◌≡◌, ◌≤◌}
 use Rattle.std.proofs.lemmas.Bool.Decides.{nat_tests}
 use Rattle.scene_text.proofs.Kept.{count_at, tx_count}
 use Rattle.scene_text.proofs.Steps.{goes_on_from, is_taken, taken}
 use Rattle.scene_text.proofs.Tests.{both, parts}
-use Rattle.scene_text.specs.Taking.{Limits, State, Taken, goes_on, has_room, settled, take_line, take_lines}
+use Rattle.scene_text.specs.Taking.{Limits, State, goes_on, has_room, settled, take_line, take_lines}
 use Rattle.scene_text.specs.Taking.Taken.{Now}
 use Rattle.scene_text.specs.declared.lines.Line.{Line}
-use Rattle.scene_text.specs.declared.lines.Line.TheVariants.{Abort as LAbort, Add as LAdd, Client as LClient, Del as LDel, Deliver as LDeliver, Drain as LDrain, End as LEnd, Get as LGet, Need as LNeed, Nodes as LNodes, Part as LPart, Put as LPut, Puts as LPuts, Schedule as LSchedule, Session as LSession, Tx as LTx, Version as LVersion}
+use Rattle.scene_text.specs.declared.lines.Line.TheVariants.{Abort as LAbort, Add as LAdd, Client as LClient, Del as LDel, Deliver as LDeliver, Get as LGet, Need as LNeed, Part as LPart, Put as LPut, Puts as LPuts, Session as LSession, Tx as LTx}
 
 -- no limit of the one is greater
 pub record Within (small large : Limits) : Type 0 where

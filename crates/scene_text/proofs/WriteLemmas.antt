@@ -1,14 +1,12 @@
 -- The text of a scene, part by part.
-use Rattle.std.proofs.Common.{Bool, List, [], ap, append_assoc, arith, codes, decimal, false, get_or, length, map, refl, subst, suc, sym, take, true, ℕ, ◌++◌, ◌+◌, ◌<◌, ◌∙◌, ◌∷◌, ◌≡◌}
-use Rattle.std.proofs.Math.Seq.{take-suc}
+use Rattle.std.proofs.Common.{Bool, List, [], ap, append_assoc, arith, codes, decimal, false, length, map, refl, suc, sym, true, ℕ, ◌++◌, ◌+◌, ◌∙◌, ◌∷◌, ◌≡◌}
 use Rattle.std.proofs.lemmas.Grind.{flat_map-append}
 use Rattle.std.proofs.lemmas.List.{append-nil}
 use Rattle.std.specs.Prelude.{flat_map}
 use Rattle.scene_text.specs.Writing.{end_text, event_text, head_text, session_text, tx_text}
 use Rattle.str_base.specs.declared.names.NodeId.{NodeId}
 use Rattle.str_scene.specs.Scenes.{KeyTable, Scene, Session}
-use Rattle.str_scene.specs.Spelling.{drain_lines, ended, event_spelled, head_lines, op_spelled, part_lines, part_spelled, scene_lines, session_lines, spelling, tail_lines, tx_lines}
-use Rattle.str_scene.specs.declared.names.Event.{Event}
+use Rattle.str_scene.specs.Spelling.{drain_lines, ended, event_spelled, head_lines, op_spelled, part_lines, part_spelled, session_lines, spelling, tail_lines, tx_lines}
 use Rattle.str_scene.specs.declared.names.Op.{Op}
 
 -- lists of lists of lists

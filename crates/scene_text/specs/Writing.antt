@@ -2,7 +2,7 @@
 use Rattle.std.specs.Prelude.{Bool, List, codes, decimal, false, flat_map, true, ℕ, ◌++◌}
 use Rattle.str_base.specs.declared.names.NodeId.{NodeId}
 use Rattle.str_scene.specs.Scenes.{KeyTable, Session}
-use Rattle.str_scene.specs.Spelling.{drain_lines, ended, event_spelled, op_spelled}
+use Rattle.str_scene.specs.Spelling.{ended, event_spelled, op_spelled}
 use Rattle.str_scene.specs.declared.names.Event.{Event}
 use Rattle.str_scene.specs.declared.names.Op.{Op}
 

@@ -1,5 +1,5 @@
 -- Where each read, and each reply that a transaction holds, comes from.
-use Rattle.std.proofs.Common.{Bool, None, Option, Some, [], ap, arith, false, if◌then◌else◌, inl, inr, refl, slice_get, slice_set, subst, sym, true, ℕ, ◌++◌, ◌+◌, ◌-◌, ◌∙◌, ◌∷◌, ◌≡◌, ◌≤◌}
+use Rattle.std.proofs.Common.{None, Option, Some, [], ap, arith, false, inl, inr, refl, slice_get, slice_set, subst, sym, true, ℕ, ◌++◌, ◌+◌, ◌-◌, ◌∙◌, ◌∷◌, ◌≡◌, ◌≤◌}
 use Rattle.str_base.specs.declared.names.KeyId.{KeyId}
 use Rattle.str_base.specs.declared.names.Kind.TheVariants.{Final, Local as LocalKind}
 use Rattle.str_base.specs.declared.names.NodeId.{NodeId}

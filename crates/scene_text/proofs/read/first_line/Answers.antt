@@ -1,4 +1,4 @@
-use Rattle.std.proofs.Common.{Some, refl, rules, slice_range, sym, ◌∙◌}
+use Rattle.std.proofs.Common.{rules, slice_range, sym, ◌∙◌}
 use Rattle.scene_text.proofs.FirstLine.{first_cut, first_none, first_other, first_read}
 use Rattle.scene_text.proofs.read.first_line.Goals as goal
 

@@ -1,4 +1,4 @@
-use Rattle.std.proofs.Common.{flat_map, suc, take, ◌++◌, ◌+◌, ◌≡◌}
+use Rattle.std.proofs.Common.{flat_map, take, ◌++◌, ◌+◌, ◌≡◌}
 use Rattle.str_scene.specs.Spelling.{ended, part_lines}
 use Rattle.scene_text.proofs.write.push_parts.Given as goal
 

@@ -1,4 +1,4 @@
-use Rattle.std.proofs.Common.{arith, rules, sym, ◌∙◌}
+use Rattle.std.proofs.Common.{arith}
 use Rattle.std.proofs.lemmas.Grind.{common_steps}
 use Rattle.scene_text.proofs.WriteLemmas.{scene_written}
 use Rattle.scene_text.proofs.write.write_scene.Goals as goal

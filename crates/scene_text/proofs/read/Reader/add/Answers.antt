@@ -1,5 +1,4 @@
-use Rattle.std.proofs.Common.{None, Some, ap, arith, length, sym, ◌∙◌, refl, rules}
-use Rattle.std.proofs.lemmas.Result.{err_from_is_err_and}
+use Rattle.std.proofs.Common.{ap, arith}
 use Rattle.scene_text.proofs.Judging.{never_version}
 use Rattle.scene_text.proofs.read.Reader.add.Goals as goal
 

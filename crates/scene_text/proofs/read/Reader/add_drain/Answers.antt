@@ -1,4 +1,4 @@
-use Rattle.std.proofs.Common.{ap, arith, sym, ◌∙◌, refl}
+use Rattle.std.proofs.Common.{ap}
 use Rattle.std.proofs.lemmas.Result.{err_from_is_err_and}
 use Rattle.scene_text.proofs.Judging.{drain_refused}
 use Rattle.scene_text.proofs.read.Reader.add_drain.Goals as goal

@@ -1,4 +1,4 @@
-use Rattle.std.proofs.Common.{None, Some, ap, arith, length, sym, ◌∙◌, refl, rules}
+use Rattle.std.proofs.Common.{ap, ◌∙◌}
 use Rattle.std.proofs.lemmas.Result.{err_from_is_err_and}
 use Rattle.scene_text.proofs.TableRoom.{puts_refused_as}
 use Rattle.scene_text.proofs.read.Reader.add_puts.Goals as goal

@@ -1,6 +1,5 @@
-use Rattle.std.proofs.Common.{None, Some, ap, arith, length, sym, ◌∙◌, refl, rules}
-use Rattle.std.proofs.lemmas.Result.{err_from_is_err_and}
-use Rattle.scene_text.proofs.Judging.{order_is, text_misplaced, text_unfit, texts_refused}
+use Rattle.std.proofs.Common.{Some, ap, ◌∙◌, refl, rules}
+use Rattle.scene_text.proofs.Judging.{order_is, text_unfit, texts_refused}
 use Rattle.scene_text.proofs.read.Reader.take.Goals as goal
 
 pub returns-in_default-line-clause-bad : goal.returns-in_default-line-clause-bad
