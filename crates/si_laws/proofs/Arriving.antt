@@ -3,7 +3,7 @@ use Rattle.partition_map.specs.declared.rows.Asked.{Asked}
 use Rattle.si_laws.proofs.Homes.{OwnGood, final_version}
 use Rattle.si_laws.proofs.Linked.{Acknowledged, IsDecidedAs, Kept, Linked, k_ended, k_stands, one_certified, one_decided, one_of, one_place, pre_of}
 use Rattle.si_laws.proofs.Linking.{answer_known}
-use Rattle.si_laws.proofs.Seats.{of_nth, seat_of}
+use Rattle.si_laws.proofs.Seats.{of_nth, seat_of, to_nth}
 use Rattle.si_laws.proofs.Stages.{Has}
 use Rattle.si_laws.specs.Standing.{Begun, IsCommitted}
 use Rattle.std.proofs.Common.{List, Some, ap, eq-eqb, false, filter, inl, inr, refl, slice_get, subst, subst₂, sym, true, ℕ, ◌+◌, ◌∙◌, ◌≡◌, ◌≢◌, ◌≤◌, ◌⊎◌}
@@ -23,7 +23,7 @@ use Rattle.str_model.specs.Owned.{Owns}
 use Rattle.str_model.specs.Proposals.{is_pair}
 use Rattle.str_model.specs.Runs.{World}
 use Rattle.str_model.specs.Views.{Committed, Own, View, is_decided, lc_of, name_of}
-use Rattle.str_scene.specs.Scenes.{Scene, hosts, in_part, part_of}
+use Rattle.str_scene.specs.Scenes.{Scene, hosts, in_part, nth, part_of}
 use Rattle.str_model.proofs.Meeting.{filter_in}
 
 -- the version is of the transaction, of the key, and in the key's partition
@@ -51,6 +51,22 @@ begun_at scene w t x b =
     let p = of_nth w.nodes t.node.0 b.0 b.1 in
     let q = of_nth b.0.own t.seq x b.2 in
     record { n = p.0; i = q.0; view = b.0; there = p.2; own = q.2; name = λ j. record { node = record { 0 = p.1 j }; seq = q.1 j } }
+
+-- a transaction at its place has begun
+pub begun_there : (scene : Scene) (w : World) (u : TxId) (x : Own) (n i : ℕ) (v : View) → slice_get w.nodes n ≡ Some v → Owns v i x → u ≡ name_of (at_place scene n) i → Begun w u x
+begun_there scene w u x n i v there own name = (
+  v,
+  ap (λ (t : TxId). nth w.nodes t.node.0) name ∙ to_nth w.nodes n v there,
+  ap (λ (t : TxId). nth v.own t.seq) name ∙ to_nth v.own i x own,
+)
+
+-- it stands in one way
+pub one_state : (scene : Scene) (s : Stage) (u : TxId) (x y : Own) → BegunAt scene s u x → BegunAt scene s u y → x ≡ y
+one_state scene s u x y a b =
+    let o = one_place scene a.n b.n a.i b.i (sym a.name ∙ b.name) in
+    let view : a.view ≡ b.view = one_of a.view b.view (slice_get s.nodes a.n) a.there (ap (λ (k : ℕ). slice_get s.nodes k) o.0 ∙ b.there) in
+    let own : slice_get b.view.own b.i ≡ Some x = subst₂ (λ (v : View) (k : ℕ). slice_get v.own k ≡ Some x) view o.1 a.own in
+    one_of x y (slice_get b.view.own b.i) own b.own
 
 -- a write in its partition is among those that a participant is asked for
 in_own_part : (scene : Scene) (ws : List Write) (w : Write) → In w ws → In w (filter (in_part scene (part_of scene w.key)) ws)

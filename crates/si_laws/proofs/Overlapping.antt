@@ -87,6 +87,16 @@ master_of scene ok k less =
         let m = by_row row.0 (ok.rows i row.0 row.1).some in
         (m.0, subst (λ (zs : List NodeId). leads m.0 zs ≡ true) (sym all) m.1, subst (λ (zs : List NodeId). list_any (λ n. same_node n m.0) zs ≡ true) (sym all) m.2)
 
+-- ---- versions of a committed transaction
+
+pub kinds : (v : View) (f : ℕ) (q : Version) → ArrivedAs v f q → q.kind ≢ LocalKind
+kinds v f q (a_final k t) z = cc (sym k ∙ z)
+kinds v f q (a_pre k t n) z = cc (sym k ∙ z)
+
+pub at_final : (v : View) (f : ℕ) (q : Version) → ArrivedAs v f q → q.kind ≡ Final → q.ts.0 ≡ f
+at_final v f q (a_final k t) z = t
+at_final v f q (a_pre k t n) z = absurd (cc (sym k ∙ z))
+
 -- ---- a committed answer and its transaction
 
 module _ (scene : Scene) (ok : IsScene scene) (events : List Event) where
@@ -144,14 +154,6 @@ module _ (scene : Scene) (ok : IsScene scene) (events : List Event) where
       by_row : (row : List NodeId) → leads r row ≡ true → leads t row ≡ true → r ≡ t
       by_row [] e g = absurd (cc e)
       by_row (z ∷ zs) e g = λ j. record { 0 = (sym (eqb-true z.0 r.0 e) ∙ eqb-true z.0 t.0 g) j }
-
-  kinds : (v : View) (f : ℕ) (q : Version) → ArrivedAs v f q → q.kind ≢ LocalKind
-  kinds v f q (a_final k t) z = cc (sym k ∙ z)
-  kinds v f q (a_pre k t n) z = cc (sym k ∙ z)
-
-  at_final : (v : View) (f : ℕ) (q : Version) → ArrivedAs v f q → q.kind ≡ Final → q.ts.0 ≡ f
-  at_final v f q (a_final k t) z = t
-  at_final v f q (a_pre k t n) z = absurd (cc (sym k ∙ z))
 
   pub no_overlap : NoOverlap scene (run scene events).answers
   no_overlap i j f g a b k ia ib ne ca cb wa wb =

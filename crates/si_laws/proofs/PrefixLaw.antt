@@ -1,36 +1,36 @@
 -- The law Prefix: committed answers and wishes see their snapshots, and a read of committed data is the newest.
 use Rattle.si_laws.proofs.Answering.{Answering, answering}
 use Rattle.si_laws.proofs.Apart.{stand_after}
-use Rattle.si_laws.proofs.Arriving.{BegunAt, begun_at}
+use Rattle.si_laws.proofs.Arriving.{BegunAt, begun_at, begun_there}
 use Rattle.si_laws.proofs.Grounds.{Committer, Grounds, committed_write, committer}
 use Rattle.si_laws.proofs.IsolationLaw.{isolated_run}
 use Rattle.si_laws.proofs.Newest.{newest_none, newest_some}
 use Rattle.si_laws.proofs.Origins.{HasWritten}
 use Rattle.si_laws.proofs.Owners.{WeakDep}
 use Rattle.si_laws.proofs.Reporting.{CommittedIn, ReadOk, ro_committed, ro_gone, ro_listed}
-use Rattle.si_laws.proofs.Seats.{of_nth, to_nth}
+use Rattle.si_laws.proofs.Seats.{of_nth}
 use Rattle.si_laws.proofs.Standing.{fate_open}
 use Rattle.si_laws.specs.Laws.Prefix.{FinalReads, PrefixHolds}
 use Rattle.si_laws.specs.SnapshotIsolation.{SI}
 use Rattle.si_laws.specs.SpeculativeIsolation.{OfOpenWriter, ReadCommitted, ReadNothing}
-use Rattle.si_laws.specs.Standing.{Begun, CommitOf, IsOpen}
+use Rattle.si_laws.specs.Standing.{CommitOf, IsOpen}
 use Rattle.std.proofs.Common.{List, None, Option, Some, add-sub_cancel, ap, false, inl, inr, length, refl, slice_get, subst, sym, true, ℕ, ◌+◌, ◌-◌, ◌∙◌, ◌≡◌, ◌≤◌, ◌⊎◌}
 use Rattle.std.proofs.Math.Seq.{take-length}
 use Rattle.std.proofs.lemmas.Option.{slice_get_within}
 use Rattle.str_base.specs.declared.names.KeyId.{KeyId}
 use Rattle.str_base.specs.declared.names.TxId.{TxId}
 use Rattle.str_base.specs.declared.names.Value.{Value}
-use Rattle.str_model.proofs.Everywhere.{at_place, stage_of}
+use Rattle.str_model.proofs.Everywhere.{stage_of}
 use Rattle.str_model.proofs.Gaining.{Names}
 use Rattle.str_model.proofs.Members.{In, at_in, in_at}
 use Rattle.str_model.specs.Owned.{Owns}
 use Rattle.str_model.specs.Runs.{run}
 use Rattle.str_model.specs.Turns.{CommittedAt, own_fate, phase_fate}
 use Rattle.str_model.specs.Turns
-use Rattle.str_model.specs.Views.{Own, View, is_decided, lc_of, name_of}
+use Rattle.str_model.specs.Views.{Own, View, is_decided, lc_of}
 use Rattle.str_model.specs.declared.names.ReadDone.{ReadDone}
 use Rattle.str_scene.specs.SceneLimits.{IsScene}
-use Rattle.str_scene.specs.Scenes.{Scene, nth}
+use Rattle.str_scene.specs.Scenes.{Scene}
 use Rattle.str_scene.specs.declared.names.Event.{Event}
 
 module _ (scene : Scene) (ok : IsScene scene) (es : List Event) where
@@ -39,14 +39,6 @@ module _ (scene : Scene) (ok : IsScene scene) (es : List Event) where
 
   base : Grounds scene (stage_of (run scene es))
   base = state.guarded_.grounds_
-
-  -- a transaction at its place has begun
-  begun : (u : TxId) (x : Own) (n i : ℕ) (v : View) → slice_get (run scene es).nodes n ≡ Some v → Owns v i x → u ≡ name_of (at_place scene n) i → Begun (run scene es) u x
-  begun u x n i v there own name = (
-    v,
-    ap (λ (t : TxId). nth (run scene es).nodes t.node.0) name ∙ to_nth (run scene es).nodes n v there,
-    ap (λ (t : TxId). nth v.own t.seq) name ∙ to_nth v.own i x own,
-  )
 
   -- a commit of a key, by its node
   commit_of : (k : KeyId) (fc : ℕ) → (c : CommitOf (run scene es) k fc) → CommittedIn (stage_of (run scene es)) c.0 fc × ((a : Value) × HasWritten scene (stage_of (run scene es)) c.0 k a)
@@ -88,7 +80,7 @@ module _ (scene : Scene) (ok : IsScene scene) (es : List Event) where
         let z = newest_some scene (stage_of (run scene es)) base n x.snap.rs r u f (state.guarded_.reads n v i x r there own mem) q c in
         let y : Committer scene (stage_of (run scene es)) u f = committer scene (stage_of (run scene es)) u f c in
         let w = at_in y.x.writes (record { key = r.key; value = r.value }) (committed_write scene (stage_of (run scene es)) u f r.key r.value y z.0) in
-        (u, y.x, f, q, begun u y.x y.at_.n y.at_.i y.at_.view y.at_.there y.at_.own y.at_.name, y.is, le, w, λ gc d. (let g = commit_of r.key gc d in z.1 d.0 gc g.1.0 g.0 g.1.1))
+        (u, y.x, f, q, begun_there scene (run scene es) u y.x y.at_.n y.at_.i y.at_.view y.at_.there y.at_.own y.at_.name, y.is, le, w, λ gc d. (let g = commit_of r.key gc d in z.1 d.0 gc g.1.0 g.0 g.1.1))
 
     from_open : (u : TxId) (k : ℕ) → r.by ≡ Some u → u.node.0 ≡ n + 1 → u.seq ≡ k + 1 → Names u.seq x.snap.deps → OfOpenWriter (run scene es) r
     from_open u k q node seq names =
@@ -99,7 +91,7 @@ module _ (scene : Scene) (ok : IsScene scene) (es : List Event) where
         let open_ : phase_fate d.owner.phase ≡ Turns.Open = sym (ap own_fate d.owns) ∙ at in
         let undecided : is_decided d.owner.phase ≡ false = fate_open v.floor d.lc d.owner (sa.stand.base.times.each d.place d.owner d.owns) d.is_lc open_ in
         let number : u.seq ≡ d.place + 1 = sym names.2 ∙ d.seq in
-        (u, d.owner, q, begun u d.owner n d.place v there d.owns (λ t. record { node = record { 0 = node t }; seq = number t }), undecided)
+        (u, d.owner, q, begun_there scene (run scene es) u d.owner n d.place v there d.owns (λ t. record { node = record { 0 = node t }; seq = number t }), undecided)
 
     final_read : ReadNothing (run scene es) x r ⊎ (ReadCommitted (run scene es) x r ⊎ OfOpenWriter (run scene es) r)
     final_read = by_writer r.by refl

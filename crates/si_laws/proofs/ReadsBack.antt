@@ -46,7 +46,7 @@ pub data ReplyBack (here : Here) (input : Input) (d : Doing) (i : ℕ) (y : Own)
 
 -- ---- finishing an operation
 
-finish-snap : (op : Op) (a : Value) (x : Own) → (finish op a x).snap ≡ x.snap
+pub finish-snap : (op : Op) (a : Value) (x : Own) → (finish op a x).snap ≡ x.snap
 finish-snap (Get k) a x = refl
 finish-snap (Put k n) a x = refl
 finish-snap (Puts k t) a x = refl
@@ -55,7 +55,7 @@ finish-snap (Del k) a x = refl
 finish-snap (Need k n) a x = if_elim (λ (z : Own). z.snap ≡ x.snap) (is_below a n) (record x { phase = Closing true }) (record x { next = x.next + 1; phase = Active }) (λ e. refl) (λ e. refl)
 finish-snap Stop a x = refl
 
-finish_next-snap : (o : Option Op) (a : Value) (x : Own) → (finish_next o a x).snap ≡ x.snap
+pub finish_next-snap : (o : Option Op) (a : Value) (x : Own) → (finish_next o a x).snap ≡ x.snap
 finish_next-snap None a x = refl
 finish_next-snap (Some op) a x = finish-snap op a x
 

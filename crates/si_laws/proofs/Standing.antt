@@ -45,7 +45,7 @@ resolved-open here i x (Keep ffc ds) d is e b y dep own op m =
     ap own_fate (get_set_other d.view.own i (dep.seq - 1) z (λ q. absurd (omega (arith, q, at, w.before))))
     ∙ resolve_all-open d.view.own x.snap.rs x.snap.deps x.snap.ffc ffc ds e dep in_ds
 
-of_own-open : (here : Here) (i : ℕ) (o : Option Own) (d : Doing) → slice_get d.view.own i ≡ o → Depends here (Scripts.of_own (Pass.resolve_own here i) o d).view
+pub of_own-open : (here : Here) (i : ℕ) (o : Option Own) (d : Doing) → slice_get d.view.own i ≡ o → Depends here (Scripts.of_own (Pass.resolve_own here i) o d).view
     → OpenAt (Scripts.of_own (Pass.resolve_own here i) o d).view i
 of_own-open here i None d e b = λ x dep own op m. absurd (cc (e, own))
 of_own-open here i (Some x) d e b = by_decided (is_decided x.phase) refl b
@@ -55,7 +55,7 @@ of_own-open here i (Some x) d e b = by_decided (is_decided x.phase) refl b
     by_decided false q b' = resolved-open here i x (dep_turn d.view.own x.snap) d e refl b'
 
 module _ (here : Here) (input : Input) where
-  turn_open : (i : ℕ) (d : Doing) → Below here i d.view → Below here (suc i) (Pass.turn here i d).view
+  pub turn_open : (i : ℕ) (d : Doing) → Below here i d.view → Below here (suc i) (Pass.turn here i d).view
   unfolding resolved_first
   turn_open i d h =
       let d1 : Doing = resolved_first here input (InTurn i) i d in

@@ -4,5 +4,6 @@ pub mod Dependencies
 pub mod Cascades
 pub mod Newest
 pub mod Pairs
+pub mod Speculation
 pub mod Rest
 pub mod Work

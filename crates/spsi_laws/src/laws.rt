@@ -1,7 +1,11 @@
 //! Laws of every run: functions without effect, each of which carries one law.
 ghost use Rattle.si_laws.specs.Laws.Times.{DependenciesEarlier};
+ghost use Rattle.spsi_laws.specs.Headline.{HeadlineHolds};
 ghost use Rattle.spsi_laws.specs.Laws.Cascades.{CascadesEnd};
-ghost use Rattle.spsi_laws.specs.Laws.Dependencies.{DependenciesStand};
+ghost use Rattle.spsi_laws.specs.Laws.Dependencies.{DependenciesLive, DependenciesStand};
+ghost use Rattle.spsi_laws.specs.Laws.Newest.{NewestHolds};
+ghost use Rattle.spsi_laws.specs.Laws.Pairs.{PairsHold, PairsHoldFurther};
+ghost use Rattle.spsi_laws.specs.Laws.Speculation.{SpeculationHolds};
 
 /// After each event each dependency is undecided, with a local commit timestamp at or below the snapshot.
 pub fn dependencies_stand()
@@ -17,4 +21,37 @@ pub fn dependencies_earlier()
 /// and depends on one that aborted.
 pub fn cascades_end()
     ensures { CascadesEnd }
+{}
+
+/// No writer that an undecided transaction has read from is aborted, and each of its dependencies is an undecided transaction of its node with
+/// a local commit timestamp above its own snapshot and at or below that of the one that depends on it.
+pub fn dependencies_live()
+    ensures { DependenciesLive }
+{}
+
+/// Where an undecided transaction has read from an undecided one, that one is of its node, and its Local version with the value that was read is
+/// the version that the node sees at the reader's snapshot.
+pub fn newest_holds()
+    ensures { NewestHolds }
+{}
+
+/// Of two transactions that an undecided one has read from or depends on, and that wrote one key, one is before the other.
+pub fn pairs_hold()
+    ensures { PairsHold }
+{}
+
+/// The same of any two that an undecided one or one of its dependencies has read from or depends on.
+pub fn pairs_hold_further()
+    ensures { PairsHoldFurther }
+{}
+
+/// Speculative snapshot isolation after every event: newest reads, live dependencies and ordered pairs of each undecided transaction.
+pub fn speculative_isolation_holds()
+    ensures { SpeculationHolds }
+{}
+
+/// What is promised of a run, of every one: its answers are a run of the snapshot isolation machine, after each event speculative snapshot isolation
+/// holds, nothing commits before what it depends on or has read from, and each abort has the cause that it names.
+pub fn headline_holds()
+    ensures { HeadlineHolds }
 {}

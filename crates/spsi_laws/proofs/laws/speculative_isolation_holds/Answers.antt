@@ -1,0 +1,5 @@
+use Rattle.spsi_laws.proofs.laws.speculative_isolation_holds.Goals as goal
+use Rattle.spsi_laws.proofs.Speculation.{speculation_holds}
+
+pub returns : goal.returns
+returns c = speculation_holds
