@@ -1,0 +1,15 @@
+pub mod Lists
+pub mod Numbering
+pub mod Giving
+pub mod Entering
+pub mod Numbers
+pub mod Earliest
+pub mod Running
+pub mod Ordered
+pub mod Sending
+pub mod MergeLaw
+pub mod StampLaw
+pub mod FirstOut
+pub mod Going
+pub mod Growing
+pub mod Worked

@@ -1,0 +1,6 @@
+pub mod Logs
+pub mod Replays
+pub mod Closed
+pub mod Merge
+pub mod Rounds
+pub mod Merging

@@ -1,0 +1,48 @@
+-- Logs of nodes as plain lists, and their entries with the messages and answers that are theirs.
+use Rattle.std.specs.Prelude.{List, None, Option, Some, [], drop, flat_map, take, ℕ, ◌∷◌}
+use Rattle.lamport_log.specs.declared.logs.LogEntry.{LogEntry}
+use Rattle.str_base.specs.declared.names.NodeId.{NodeId}
+use Rattle.str_model.specs.declared.messages.Answer.{Answer}
+use Rattle.str_model.specs.declared.messages.Message.{Message}
+use Rattle.str_scene.specs.Scenes.{nth}
+
+-- the log of a node: its entries, and all messages and answers of its steps
+pub record Log : Type 0 where
+  pub node : NodeId
+  pub entries : List LogEntry
+  pub messages : List Message
+  pub released : List Answer
+
+-- an entry with its node, and with the messages and answers of its step
+pub record Item : Type 0 where
+  pub node : NodeId
+  pub entry : LogEntry
+  pub sent : List Message
+  pub released : List Answer
+
+-- the entries of a node, each with as many of the messages and answers as it counts
+abbrev pub cut : NodeId → List LogEntry → List Message → List Answer → List Item
+cut n [] ms rs = []
+cut n (e ∷ es) ms rs =
+    record { node = n; entry = e; sent = take e.sent ms; released = take e.answers rs } ∷ cut n es (drop e.sent ms) (drop e.answers rs)
+
+-- the entries of a log
+abbrev pub items : Log → List Item
+items l = cut l.node l.entries l.messages l.released
+
+-- all messages of these entries
+abbrev pub letters : List Item → List Message
+letters its = flat_map (λ it. it.sent) its
+
+-- all answers of these entries
+abbrev pub replies : List Item → List Answer
+replies its = flat_map (λ it. it.released) its
+
+-- the message with a number in a log, where there is such a log
+abbrev pub letter_in : Option Log → ℕ → Option Message
+letter_in None k = None
+letter_in (Some l) k = nth l.messages k
+
+-- the message of a node with a number, counted from 1
+abbrev pub letter_of : List Log → NodeId → ℕ → Option Message
+letter_of logs n k = letter_in (nth logs n.0) k
