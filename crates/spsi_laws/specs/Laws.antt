@@ -7,3 +7,4 @@ pub mod Pairs
 pub mod Speculation
 pub mod Rest
 pub mod Work
+pub mod Drain

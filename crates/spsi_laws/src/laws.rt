@@ -3,9 +3,12 @@ ghost use Rattle.si_laws.specs.Laws.Times.{DependenciesEarlier};
 ghost use Rattle.spsi_laws.specs.Headline.{HeadlineHolds};
 ghost use Rattle.spsi_laws.specs.Laws.Cascades.{CascadesEnd};
 ghost use Rattle.spsi_laws.specs.Laws.Dependencies.{DependenciesLive, DependenciesStand};
+ghost use Rattle.spsi_laws.specs.Laws.Drain.{DrainFollows, DrainLowers, DrainRests, DrainStops};
 ghost use Rattle.spsi_laws.specs.Laws.Newest.{NewestHolds};
 ghost use Rattle.spsi_laws.specs.Laws.Pairs.{PairsHold, PairsHoldFurther};
+ghost use Rattle.spsi_laws.specs.Laws.Rest.{RestByUnderWay};
 ghost use Rattle.spsi_laws.specs.Laws.Speculation.{SpeculationHolds};
+ghost use Rattle.spsi_laws.specs.Laws.Work.{DeliveryLowers, LeftAtOpening, RepeatsRaise, StepLowers, WorkBounded};
 
 /// After each event each dependency is undecided, with a local commit timestamp at or below the snapshot.
 pub fn dependencies_stand()
@@ -54,4 +57,54 @@ pub fn speculative_isolation_holds()
 /// holds, nothing commits before what it depends on or has read from, and each abort has the cause that it names.
 pub fn headline_holds()
     ensures { HeadlineHolds }
+{}
+
+/// At the opening what is left is the work of the scene.
+pub fn left_at_opening()
+    ensures { LeftAtOpening }
+{}
+
+/// The first delivery of a message leaves less, also where it is idle.
+pub fn delivery_lowers()
+    ensures { DeliveryLowers }
+{}
+
+/// A client step that is not idle leaves less.
+pub fn step_lowers()
+    ensures { StepLowers }
+{}
+
+/// A run that gives no message twice has no more events that are not idle than there is work.
+pub fn work_bounded()
+    ensures { WorkBounded }
+{}
+
+/// Each event of the drain leaves less.
+pub fn drain_lowers()
+    ensures { DrainLowers }
+{}
+
+/// After the drain's events its rule names no event: what is left is fuel enough.
+pub fn drain_stops()
+    ensures { DrainStops }
+{}
+
+/// The drain's events are those that its rule names one after the other.
+pub fn drain_follows()
+    ensures { DrainFollows }
+{}
+
+/// The drain's rule names no event exactly where every message was given and every client step is idle.
+pub fn drain_rests()
+    ensures { DrainRests }
+{}
+
+/// A message that is given again raises what is left by less than it counts for.
+pub fn repeats_raise()
+    ensures { RepeatsRaise }
+{}
+
+/// Where every message was given and every client step is idle, every transaction is answered, if what an undecided one waits for from other nodes is under way.
+pub fn rest_by_under_way()
+    ensures { RestByUnderWay }
 {}

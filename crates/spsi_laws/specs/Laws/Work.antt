@@ -1,6 +1,6 @@
 -- The law Work: each event that does something for the first time leaves less to do.
 use Rattle.std.specs.List.{count_by}
-use Rattle.std.specs.Prelude.{List, Some, [], false, not, slice_get, take, true, ℕ, ◌++◌, ◌<◌, ◌∷◌, ◌≡◌, ◌≤◌}
+use Rattle.std.specs.Prelude.{List, Some, [], false, not, slice_get, take, true, ℕ, ◌++◌, ◌+◌, ◌<◌, ◌∷◌, ◌≡◌, ◌≤◌}
 use Rattle.str_scene.specs.declared.names.Event.{Event}
 use Rattle.str_scene.specs.declared.names.Event.TheVariants.{Client}
 use Rattle.str_scene.specs.declared.names.Event.TheVariants.{Deliver}
@@ -9,7 +9,8 @@ use Rattle.str_model.specs.Drains.{moves}
 use Rattle.str_model.specs.Runs.{opening, run}
 use Rattle.str_scene.specs.SceneLimits.{IsScene}
 use Rattle.str_scene.specs.Scenes.{Scene, nth}
-use Rattle.str_model.specs.Work.{left, work}
+use Rattle.str_model.specs.Work.{body_weight, left, work}
+use Rattle.str_model.specs.declared.messages.Message.{Message}
 
 -- no event gives a message that an earlier event gave
 abbrev pub NoRepeats : Scene → List Event → Type 0
@@ -37,3 +38,9 @@ abbrev pub StepLowers : Type 0
 StepLowers =
     (scene : Scene) → IsScene scene → (events : List Event) (s : SessionId) (t : ℕ) → moves scene (run scene events) s.0 ≡ true
     → left scene (run scene (events ++ Client s t ∷ [])) < left scene (run scene events)
+
+-- a message that is given again raises what is left by less than it counts for: by nothing but for a ReadReq, a Prepare and a Replicate
+abbrev pub RepeatsRaise : Type 0
+RepeatsRaise =
+    (scene : Scene) → IsScene scene → (events : List Event) (i : ℕ) (m : Message) → nth (run scene events).given i ≡ Some true → nth (run scene events).sent i ≡ Some m
+    → left scene (run scene (events ++ Deliver i ∷ [])) < left scene (run scene events) + body_weight scene m.body

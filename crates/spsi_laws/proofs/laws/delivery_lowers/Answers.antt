@@ -1,0 +1,5 @@
+use Rattle.spsi_laws.proofs.laws.delivery_lowers.Goals as goal
+use Rattle.spsi_laws.proofs.Work.{delivery_lowers}
+
+pub returns : goal.returns
+returns c = delivery_lowers
