@@ -1,0 +1,4 @@
+pub mod RowLemmas
+pub mod HeadLemmas
+pub mod SideLemmas
+pub mod ArenaLemmas

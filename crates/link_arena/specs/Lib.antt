@@ -1,0 +1,5 @@
+pub mod HeadLists
+pub mod Rows
+pub mod Sides
+pub mod OneSide
+pub mod Arenas
