@@ -1,3 +1,4 @@
 pub mod Leaving
 pub mod Deciding
 pub mod Dropping
+pub mod FromFacts

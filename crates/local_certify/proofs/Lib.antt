@@ -1,3 +1,4 @@
 pub mod Stepping
 pub mod Meeting
 pub mod Certifying
+pub mod FromFacts

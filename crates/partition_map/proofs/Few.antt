@@ -162,7 +162,7 @@ flat_few f n [] h = omega arith
 flat_few f n (p ∷ ps) h = omega (arith, flat_few f n ps h, h p, length-append (f p) (flat_map f ps))
 
 -- a row has at most 7 nodes but this one, also where it does not exist
-row_few : (m : PartitionMap) (o : NodeId) (p : PartId) → IsMap m → Exists o.0 8 → length (others o (row_at m.rows p)) ≤ 7
+pub row_few : (m : PartitionMap) (o : NodeId) (p : PartId) → IsMap m → Exists o.0 8 → length (others o (row_at m.rows p)) ≤ 7
 row_few m o p is there = by_row (nth m.rows p.0) (λ row e. is.rows _ row (at_nth m.rows p.0 row e))
   where
     by_row : (r : Option (List NodeId)) → ((row : List NodeId) → r ≡ Some row → IsRow 8 row) → length (others o (or_none r)) ≤ 7

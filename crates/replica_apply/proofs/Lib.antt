@@ -6,3 +6,4 @@ pub mod Agreeing
 pub mod Shown
 pub mod Ruling
 pub mod Placing
+pub mod FromFacts

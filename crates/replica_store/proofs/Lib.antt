@@ -3,3 +3,4 @@ pub mod Commuting
 pub mod Merging
 pub mod MergedReads
 pub mod MergedChanges
+pub mod OwnCommit

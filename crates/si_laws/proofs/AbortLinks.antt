@@ -30,7 +30,7 @@ use Rattle.str_model.proofs.Acting.{InRule, InTurn, Path, Touches, Where, along}
 use Rattle.str_model.proofs.Lists.{get_push, get_set_other, same_or_not}
 use Rattle.str_model.proofs.Operating.{free_at, op_or_commit-path}
 use Rattle.si_laws.proofs.Aborting.{AbortedBy, NotAborted, ab_stop, aborted_cause, certify_by, finish_open, open_not, put_open, read_now_open}
-use Rattle.si_laws.proofs.Beneath.{leaves}
+use Rattle.str_model.proofs.Beneath.{leaves}
 
 module _ (here : Here) (input : Input) (p : ℕ) where
   -- an operation, or the request to commit

@@ -6,10 +6,12 @@ use Rattle.si_laws.proofs.Repeats.{fits, map_length}
 use Rattle.si_laws.proofs.Linked.{Acknowledged, Told}
 use Rattle.si_laws.proofs.Places.{few_begin, own_total}
 use Rattle.si_laws.proofs.Proposing.{acks_in, certified_in}
-use Rattle.si_laws.proofs.Scripting.{scripts_after}
+use Rattle.str_model.proofs.Scripting.{scripts_after}
 use Rattle.si_laws.proofs.SeatCounts.{few_parts}
 use Rattle.si_laws.proofs.Seats.{seat_of}
 use Rattle.si_laws.proofs.SessionLaw.{good_everywhere}
+use Rattle.str_model.proofs.Everywhere.{Stage, at_place, stage_of}
+use Rattle.str_model.proofs.Members.{In, in_at, in_filter, in_left, in_right, map_in}
 use Rattle.si_laws.specs.Laws.Times.{TimesBounded}
 use Rattle.si_laws.specs.Numbers.{all_times, proposals}
 use Rattle.std.proofs.Common.{List, Some, [], ap, arith, eqb-true, length, length-append, map, refl, slice_get, subst, subst₂, suc, sym, true, zero, ℕ, ◌*◌, ◌++◌, ◌+◌, ◌∙◌, ◌∷◌, ◌≡◌, ◌≢◌, ◌≤◌}
@@ -21,8 +23,6 @@ use Rattle.str_base.specs.declared.names.NodeId.{NodeId}
 use Rattle.str_base.specs.declared.names.PartId.{PartId}
 use Rattle.str_base.specs.declared.names.Ts.{Ts}
 use Rattle.str_base.specs.declared.names.TxId.{TxId}
-use Rattle.str_model.proofs.Everywhere.{Stage, at_place, stage_of}
-use Rattle.str_model.proofs.Members.{In, in_at, in_filter, in_left, in_right, map_in}
 use Rattle.str_model.specs.declared.messages.Body.{Body}
 use Rattle.str_model.specs.declared.messages.Body.TheVariants.{Ack}
 use Rattle.str_model.specs.Runs.{run}

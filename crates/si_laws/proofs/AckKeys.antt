@@ -4,8 +4,13 @@ use Rattle.si_laws.proofs.Repeats.{Once, once_push}
 use Rattle.si_laws.proofs.Linked.{Linked, Told}
 use Rattle.si_laws.proofs.Linking.{kept_at, kept_known, placed_unknown}
 use Rattle.si_laws.proofs.LinkingAll.{linked_opening, linked_step}
-use Rattle.si_laws.proofs.Parts.{Placed, by_master, by_slave}
+use Rattle.str_model.proofs.Parts.{Placed, by_master, by_slave}
 use Rattle.si_laws.proofs.Proposing.{acks_in, one_for}
+use Rattle.str_model.proofs.Acting.{Act, Where, act_abort, act_abort_came, act_accept, act_ack, act_ask, act_begin, act_certify, act_close, act_commit, act_commit_came, act_mark, act_put, act_refuse, act_reply, act_request, act_take, act_unwait, act_wait, it_comes, it_waits}
+use Rattle.str_model.proofs.Everywhere.{IsSeen, Stage, at_place, during, everywhere, stage_of}
+use Rattle.str_model.proofs.Gaining.{if_elim}
+use Rattle.str_model.proofs.Lists.{get_set}
+use Rattle.str_model.proofs.Members.{In, in_append, in_right}
 use Rattle.si_laws.specs.Numbers.{is_ack}
 use Rattle.std.proofs.Common.{List, Some, [], ap, append-nil, append_assoc, arith, filter, inl, inr, length, length-append, map, refl, slice_get, slice_set, subst, sym, true, ℕ, ◌++◌, ◌∙◌, ◌∷◌, ◌≡◌}
 use Rattle.std.proofs.lemmas.List.Sums.{sum_by-cons}
@@ -16,11 +21,6 @@ use Rattle.str_base.specs.declared.names.Ts.{Ts}
 use Rattle.str_base.specs.declared.names.TxId.{TxId}
 use Rattle.str_base.specs.declared.names.Write.{Write}
 use Rattle.str_base.specs.Versions.{same_node, stamp}
-use Rattle.str_model.proofs.Acting.{Act, Where, act_abort, act_abort_came, act_accept, act_ack, act_ask, act_begin, act_certify, act_close, act_commit, act_commit_came, act_mark, act_put, act_refuse, act_reply, act_request, act_take, act_unwait, act_wait, it_comes, it_waits}
-use Rattle.str_model.proofs.Everywhere.{IsSeen, Stage, at_place, during, everywhere, stage_of}
-use Rattle.str_model.proofs.Gaining.{if_elim}
-use Rattle.str_model.proofs.Lists.{get_set}
-use Rattle.str_model.proofs.Members.{In, in_append, in_right}
 use Rattle.str_model.specs.Acts.{abort_came, aborted, accepted, acked, asked, begun, certified, closed, commit_came, committed, marked, refused, replied, requested, taken, waits}
 use Rattle.str_model.specs.Acts
 use Rattle.str_model.specs.declared.messages.Arrived.{Arrived}

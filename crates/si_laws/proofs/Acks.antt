@@ -29,8 +29,9 @@ use Rattle.str_model.proofs.Everywhere.{IsSeen, Stage, at_place, during, everywh
 use Rattle.str_model.proofs.Gaining.{and_right, if_elim}
 use Rattle.str_model.proofs.Lists.{get_set, get_set_other, got_replicate, got_set}
 use Rattle.str_model.proofs.Members.{In, in_all_new, in_append, in_at, in_left, in_map, in_right, map_in}
-use Rattle.si_laws.proofs.Parts.{wait_step}
-use Rattle.si_laws.proofs.Stages.{Has, SomeWrites, has_at, rank_two, same_pair, second-act, some_step, valid_some}
+use Rattle.str_model.proofs.Parts.{wait_step}
+use Rattle.str_model.proofs.Pairing.{Has, SomeWrites, has_at, same_pair, some_step, valid_some}
+use Rattle.si_laws.proofs.Stages.{rank_two, second-act}
 
 -- a new Ack is of this node, and its pair's versions stand
 pub record IsNew (here : Here) (e : Doing) (m : Message) : Type 0 where

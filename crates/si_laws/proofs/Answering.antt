@@ -6,14 +6,14 @@ use Rattle.si_laws.proofs.Linked.{one_of}
 use Rattle.si_laws.proofs.Preceding.{Precedes, in_event, lower_first, new_released, precedes_across, precedes_event, precedes_right}
 use Rattle.si_laws.proofs.Reporting.{CommittedIn, ReadOk, ro_committed, ro_gone, ro_listed}
 use Rattle.si_laws.proofs.WishOrigins.{HasWished, WishOrigin, wish_origin, wo_now, wo_old, wo_stop}
-use Rattle.std.proofs.Common.{List, Option, Some, ap, arith, false, inl, inr, replicate, slice_get, slice_set, subst, sym, true, ℕ, ◌++◌, ◌+◌, ◌<◌, ◌∙◌, ◌≡◌, ◌≢◌, ◌≤◌, ◌⊎◌}
-use Rattle.str_base.specs.declared.names.TxId.{TxId}
 use Rattle.str_model.proofs.Acting.{Act, Where}
 use Rattle.str_model.proofs.Along.{StepPath, step-keeps}
 use Rattle.str_model.proofs.Everywhere.{IsSeen, Stage, at_place, during, during_start, stage_of, steps_everywhere}
 use Rattle.str_model.proofs.Lists.{get_set, get_set_other, got_push, got_replicate, got_set}
 use Rattle.str_model.proofs.Members.{In, in_append, in_right}
 use Rattle.str_model.proofs.Telling.{Rising, TellStep, in_release, r_none, release-rising, t_begins, t_decides, t_goes, t_rests, tell_step, told}
+use Rattle.std.proofs.Common.{List, Option, Some, ap, arith, false, inl, inr, replicate, slice_get, slice_set, subst, sym, true, ℕ, ◌++◌, ◌+◌, ◌<◌, ◌∙◌, ◌≡◌, ◌≢◌, ◌≤◌, ◌⊎◌}
+use Rattle.str_base.specs.declared.names.TxId.{TxId}
 use Rattle.str_model.specs.Acts.{fresh}
 use Rattle.str_model.specs.Owned.{Owns}
 use Rattle.str_model.specs.Runs.{opening, opening_view, run}

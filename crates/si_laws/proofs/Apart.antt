@@ -14,11 +14,11 @@ use Rattle.str_model.specs.Views.{Doing, View, starts}
 use Rattle.str_model.proofs.Along.{StepPath, step-keeps}
 use Rattle.str_model.proofs.Everywhere.{at_each_event, at_place}
 use Rattle.str_model.proofs.Members.{in_at}
-use Rattle.si_laws.specs.Laws.Apart.{PreApartLocal}
 use Rattle.si_laws.proofs.Around.{Around, AroundAfter, EachAround, Stand, after_above, after_below, after_final, final_below, final_late, local_above, local_below, owner_at}
 use Rattle.si_laws.proofs.AroundActs.{stand-act}
-use Rattle.si_laws.proofs.Beneath.{Below}
-use Rattle.si_laws.proofs.Standing.{open_opening, step_open}
+use Rattle.str_model.proofs.Beneath.{Below}
+use Rattle.str_model.proofs.Standing.{open_opening, step_open}
+use Rattle.si_laws.specs.Laws.Apart.{PreApartLocal}
 
 -- after each event: what stands at each moment, and each dependency is undecided
 pub record StandAfter (here : Here) (v : View) : Type 0 where

@@ -1,18 +1,16 @@
 -- Around a Local version: what other versions of its key stand at its node.
-use Rattle.std.proofs.Common.{Bool, List, Some, add-sub_cancel, ap, arith, eqb-true, false, inl, inr, refl, slice_get, subst, sym, true, ℕ, ◌&&◌, ◌+◌, ◌-◌, ◌==◌, ◌∙◌, ◌≡◌, ◌≢◌, ◌≤◌, ◌⊎◌}
+use Rattle.std.proofs.Common.{List, Some, add-sub_cancel, ap, arith, false, inl, inr, refl, slice_get, subst, sym, ℕ, ◌+◌, ◌-◌, ◌∙◌, ◌≡◌, ◌≢◌, ◌≤◌, ◌⊎◌}
 use Rattle.dependency_set.specs.declared.names.Dep.{Dep}
 use Rattle.str_base.specs.declared.names.Kind.TheVariants.{Final, Local as LocalKind, Pre}
-use Rattle.str_base.specs.declared.names.TxId.{TxId}
 use Rattle.str_base.specs.declared.names.Version.{Version}
-use Rattle.str_base.specs.Versions.{same_node, same_tx}
 use Rattle.str_model.specs.Owned.{Owns}
 use Rattle.str_model.specs.Turns.{CommittedAt, own_fate}
-use Rattle.str_model.specs.Turns
 use Rattle.str_model.specs.Views.{Own, View, is_decided, lc_of}
 use Rattle.str_scene.specs.Scenes.{Here}
 use Rattle.str_model.proofs.Gaining.{Names, Settles}
 use Rattle.str_model.proofs.Members.{In}
-use Rattle.si_laws.proofs.Owners.{Depends, LocalOwner, open-fate, same_own}
+use Rattle.str_model.proofs.Owners.{Depends, LocalOwner, open-fate, same_own}
+use Rattle.str_model.specs.Turns
 
 -- At a moment: T (the i-th own transaction, x) is undecided and certified at lc with a Local version of a key, and q is a version of that key
 -- of another transaction. Then q is not Pre. If it is Final, then at or below T's snapshot, or it is of an own dependency of T that was decided in this
@@ -53,24 +51,6 @@ pub record Stand (here : Here) (v : View) : Type 0 where
   pub finals : (q : Version) → In q v.versions → q.kind ≡ Final → FinalKnown here v q
   pub around : EachAround here v (Around here v)
   pub apart : PresApart v
-
--- two names that are one by their numbers
-pub same_tx-is : (a b : TxId) → same_tx a b ≡ true → a ≡ b
-same_tx-is a b e = λ j. record { node = record { 0 = n j }; seq = s j }
-  where
-    left : (p q : Bool) → (p && q) ≡ true → p ≡ true
-    left true q h = refl
-    left false q h = absurd cc
-
-    right : (p q : Bool) → (p && q) ≡ true → q ≡ true
-    right true q h = h
-    right false q h = absurd cc
-
-    n : a.node.0 ≡ b.node.0
-    n = eqb-true a.node.0 b.node.0 (left (same_node a.node b.node) (a.seq == b.seq) e)
-
-    s : a.seq ≡ b.seq
-    s = eqb-true a.seq b.seq (right (same_node a.node b.node) (a.seq == b.seq) e)
 
 -- the owner of a Local version by its number
 pub owner_at : (here : Here) (v : View) (p : Version) (o : LocalOwner here v p) (i : ℕ) (x : Own) → Owns v i x → p.tx.seq ≡ i + 1

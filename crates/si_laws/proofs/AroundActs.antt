@@ -24,9 +24,10 @@ use Rattle.str_model.proofs.Lists.{get_set, got_set}
 use Rattle.str_model.proofs.Meeting.{accept_met, cert_met}
 use Rattle.str_model.proofs.Members.{In, in_filter, in_insert_all, in_map, in_without}
 use Rattle.si_laws.proofs.Around.{Around, EachAround, FinalKnown, PresApart, Stand, far_final, final_below, final_late, local_above, local_below, own_final, owner_at}
-use Rattle.si_laws.proofs.Depending.{depends-act}
-use Rattle.si_laws.proofs.Carrying.{decides_far, finals-act, hosted_name, not_done, old_around, pair-is}
-use Rattle.si_laws.proofs.Owners.{LocalOwner, decided_old, final_old, open-fate, placed_old, same_own}
+use Rattle.str_model.proofs.Depending.{depends-act}
+use Rattle.str_model.proofs.Pairing.{decides_far, hosted_name, not_done, pair-is}
+use Rattle.si_laws.proofs.Carrying.{finals-act, old_around}
+use Rattle.str_model.proofs.Owners.{LocalOwner, decided_old, final_old, open-fate, placed_old, same_own}
 
 -- ---- around
 

@@ -1,10 +1,14 @@
 -- Where the versions of a certified transaction stand: at its origin, and at each participant that has answered.
 use Rattle.partition_map.specs.declared.rows.Asked.{Asked}
-use Rattle.si_laws.proofs.Homes.{OwnGood, final_version}
+use Rattle.str_model.proofs.Homes.{OwnGood, final_version}
 use Rattle.si_laws.proofs.Linked.{Acknowledged, IsDecidedAs, Kept, Linked, k_ended, k_stands, one_certified, one_decided, one_of, one_place, pre_of}
 use Rattle.si_laws.proofs.Linking.{answer_known}
 use Rattle.si_laws.proofs.Seats.{of_nth, seat_of, to_nth}
-use Rattle.si_laws.proofs.Stages.{Has}
+use Rattle.str_model.proofs.Pairing.{Has}
+use Rattle.str_model.proofs.Everywhere.{Stage, at_place, stage_of}
+use Rattle.str_model.proofs.Lists.{same_or_not}
+use Rattle.str_model.proofs.Members.{In}
+use Rattle.str_model.proofs.Meeting.{filter_in}
 use Rattle.si_laws.specs.Standing.{Begun, IsCommitted}
 use Rattle.std.proofs.Common.{List, Some, ap, eq-eqb, false, filter, inl, inr, refl, slice_get, subst, subst₂, sym, true, ℕ, ◌+◌, ◌∙◌, ◌≡◌, ◌≢◌, ◌≤◌, ◌⊎◌}
 use Rattle.str_base.specs.Versions.{settled}
@@ -16,15 +20,11 @@ use Rattle.str_base.specs.declared.names.Ts.{Ts}
 use Rattle.str_base.specs.declared.names.TxId.{TxId}
 use Rattle.str_base.specs.declared.names.Version.{Version}
 use Rattle.str_base.specs.declared.names.Write.{Write}
-use Rattle.str_model.proofs.Everywhere.{Stage, at_place, stage_of}
-use Rattle.str_model.proofs.Lists.{same_or_not}
-use Rattle.str_model.proofs.Members.{In}
 use Rattle.str_model.specs.Owned.{Owns}
 use Rattle.str_model.specs.Proposals.{is_pair}
 use Rattle.str_model.specs.Runs.{World}
 use Rattle.str_model.specs.Views.{Committed, Own, View, is_decided, lc_of, name_of}
 use Rattle.str_scene.specs.Scenes.{Scene, hosts, in_part, nth, part_of}
-use Rattle.str_model.proofs.Meeting.{filter_in}
 
 -- the version is of the transaction, of the key, and in the key's partition
 pub record IsOf (scene : Scene) (tx : TxId) (k : KeyId) (q : Version) : Type 0 where

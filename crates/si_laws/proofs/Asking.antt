@@ -13,7 +13,8 @@ use Rattle.str_model.specs.declared.messages.Message.{Message}
 use Rattle.str_model.specs.declared.messages.Waiter.{Waiter}
 use Rattle.str_model.specs.declared.messages.Waiter.TheVariants.{Held}
 use Rattle.str_model.specs.Acts.{is_hosted_of, local_version, pre_version}
-use Rattle.si_laws.specs.Laws.Asking.{Asks, HasAsked, PresAsked}
+use Rattle.si_laws.specs.Laws.Asking.{HasAsked, PresAsked}
+use Rattle.str_model.specs.Owned.{Asks}
 use Rattle.str_model.specs.Runs.{opening, opening_view}
 use Rattle.str_scene.specs.Scenes.{Here, Scene}
 use Rattle.str_base.specs.Versions.{of_pair, of_tx, settled, without}
@@ -22,7 +23,7 @@ use Rattle.str_model.proofs.Acting.{Act, Arrives, IsHere, Where, a_prepare, a_re
 use Rattle.str_model.proofs.Everywhere.{IsSeen, Sent, Stage, at_place, during, everywhere, stage_of}
 use Rattle.str_model.proofs.Lists.{get_set, get_set_other, got_replicate, got_set}
 use Rattle.str_model.proofs.Members.{In, at_in, in_append, in_at, in_insert_all, in_left, in_map, in_right, in_without}
-use Rattle.si_laws.proofs.Parts.{Letter, Placed, SentStep, VersionStep, WaitStep, by_master, by_slave, l_ask, l_copy, l_other, sent_step, v_decided, v_finals, v_locals, v_pres, v_rests, v_without, version_step, w_fewer, w_more, wait_step}
+use Rattle.str_model.proofs.Parts.{Letter, Placed, SentStep, VersionStep, WaitStep, by_master, by_slave, l_ask, l_copy, l_other, sent_step, v_decided, v_finals, v_locals, v_pres, v_rests, v_without, version_step, w_fewer, w_more, wait_step}
 
 -- what is kept
 record Kept (s : Stage) : Type 0 where

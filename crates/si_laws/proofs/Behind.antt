@@ -3,14 +3,18 @@ use Rattle.si_laws.proofs.Answering.{Answering, IsKept, answering, kept_reads}
 use Rattle.si_laws.proofs.Preceding.{Precedes}
 use Rattle.si_laws.proofs.Grounds.{Committer, Grounds, committer}
 use Rattle.si_laws.proofs.Linked.{one_certified, one_of}
-use Rattle.si_laws.proofs.Mastering.{AreDistinct, one_write}
+use Rattle.str_model.proofs.Mastering.{AreDistinct, one_write}
 use Rattle.si_laws.proofs.Newest.{NoneBetween, newest_some}
 use Rattle.si_laws.proofs.Origins.{HasWritten}
 use Rattle.si_laws.proofs.Reporting.{CommittedIn}
 use Rattle.si_laws.proofs.SessionAnswers.{entry, session_holds}
 use Rattle.si_laws.proofs.SessionLaw.{good_everywhere}
-use Rattle.si_laws.proofs.Stages.{any_has}
-use Rattle.si_laws.specs.Commits.{wrote_key}
+use Rattle.str_model.proofs.Pairing.{any_has}
+use Rattle.str_model.proofs.Everywhere.{Stage, at_place, stage_of}
+use Rattle.str_model.proofs.Gaining.{find_none}
+use Rattle.str_model.proofs.Members.{In, at_in}
+use Rattle.str_model.proofs.Telling.{outcome_of, told}
+use Rattle.si_laws.proofs.Evaluating.{find_is}
 use Rattle.si_laws.specs.SnapshotIsolation.{IsAnswer, IsCommittedAt}
 use Rattle.std.proofs.Common.{List, None, Option, Some, [], ap, arith, eq-eqb, eqb-true, find, inl, inr, option_map, refl, slice_get, subst, subst₂, suc, sym, take, true, zero, ℕ, ◌<◌, ◌∙◌, ◌∷◌, ◌≡◌, ◌≤◌}
 use Rattle.str_base.specs.Versions.{same_key, stamp}
@@ -19,11 +23,7 @@ use Rattle.str_base.specs.declared.names.Ts.{Ts}
 use Rattle.str_base.specs.declared.names.TxId.{TxId}
 use Rattle.str_base.specs.declared.names.Value.{Value}
 use Rattle.str_base.specs.declared.names.Write.{Write}
-use Rattle.str_model.proofs.Everywhere.{Stage, at_place, stage_of}
-use Rattle.str_model.proofs.Gaining.{find_none}
-use Rattle.str_model.proofs.Members.{In, at_in}
-use Rattle.str_model.proofs.Telling.{outcome_of, told}
-use Rattle.str_model.specs.Owned.{Owns}
+use Rattle.str_model.specs.Owned.{Owns, wrote_key}
 use Rattle.str_model.specs.Runs.{run}
 use Rattle.str_model.specs.Turns.{own_fate, phase_fate}
 use Rattle.str_model.specs.Views.{Aborted, Active, CertWait, Closing, Committed, Global, Local, Own, Phase, ReadWait, Remote, Reply, View, is_decided, lc_of, name_of}
@@ -34,7 +34,6 @@ use Rattle.str_model.specs.declared.names.ReadDone.{ReadDone}
 use Rattle.str_scene.specs.SceneLimits.{IsScene}
 use Rattle.str_scene.specs.Scenes.{Scene}
 use Rattle.str_scene.specs.declared.names.Event.{Event}
-use Rattle.si_laws.proofs.Evaluating.{find_is}
 
 -- ---- lists
 

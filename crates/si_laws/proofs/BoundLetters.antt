@@ -1,16 +1,17 @@
 -- What a single change sends has times below the bound.
 use Rattle.partition_map.specs.declared.rows.Asked.{Asked}
-use Rattle.si_laws.proofs.BoundActs.{accept_is, arrived_below, came_below, proposed_below, rise}
-use Rattle.si_laws.proofs.BoundParts.{gate_below}
-use Rattle.si_laws.proofs.Bounds.{BodyBelow, ServeBelow, ViewBelow, body_higher, mark_below, own_at, serve_below}
-use Rattle.std.proofs.Common.{List, [], ap, arith, filter, inl, inr, map, subst, ℕ, ◌++◌, ◌+◌, ◌<◌, ◌∷◌, ◌≡◌, ◌≤◌}
+use Rattle.str_model.proofs.BoundActs.{accept_is, arrived_below, came_below, proposed_below, rise}
+use Rattle.str_model.proofs.BoundParts.{gate_below}
+use Rattle.str_model.proofs.Bounds.{BodyBelow, ServeBelow, ViewBelow, body_higher, mark_below, own_at, serve_below}
+use Rattle.str_model.proofs.Acting.{Act, Where, act_abort, act_abort_came, act_accept, act_ack, act_ask, act_begin, act_certify, act_close, act_commit, act_commit_came, act_mark, act_put, act_refuse, act_reply, act_request, act_take, act_unwait, act_wait}
+use Rattle.str_model.proofs.Gaining.{if_elim}
+use Rattle.str_model.proofs.Members.{In, in_append, in_map}
+use Rattle.std.proofs.Common.{true, List, [], ap, arith, filter, inl, inr, map, subst, ℕ, ◌++◌, ◌+◌, ◌<◌, ◌∷◌, ◌≡◌, ◌≤◌}
 use Rattle.str_base.specs.declared.names.NodeId.{NodeId}
 use Rattle.str_base.specs.declared.names.PartId.{PartId}
 use Rattle.str_base.specs.declared.names.Write.{Write}
 use Rattle.str_base.specs.Versions.{mark_of, stamp}
-use Rattle.str_model.proofs.Acting.{Act, Where, act_abort, act_abort_came, act_accept, act_ack, act_ask, act_begin, act_certify, act_close, act_commit, act_commit_came, act_mark, act_put, act_refuse, act_reply, act_request, act_take, act_unwait, act_wait}
-use Rattle.str_model.proofs.Gaining.{if_elim}
-use Rattle.str_model.proofs.Members.{In, in_append, in_map}
+use Rattle.str_model.specs.Strange.{is_valid}
 use Rattle.str_model.specs.Acts.{abort_came, aborted, accepted, acked, asked, begun, certified, closed, commit_came, committed, marked, refused, replied, requested, taken, waits}
 use Rattle.str_model.specs.Acts
 use Rattle.str_model.specs.Clients.{reading_limit}
@@ -33,7 +34,7 @@ one_below b l h m (inr k) = absurd k
 map_below : {A : Type 0} (b : ℕ) (f : A → Message) (xs : List A) → ((x : A) → In x xs → BodyBelow b (f x).body) → AllBelow b (map f xs)
 map_below b f xs h m k = let r = in_map f xs m k in subst (λ (z : Message). BodyBelow b z.body) r.2 (h r.0 r.1)
 
-module _ (here : Here) (input : Input) (w : Where) (b : ℕ) (big : reading_limit < b) (comes : (m : Message) → input ≡ Deliver m → BodyBelow b m.body) (c : ℕ) (le : b ≤ c) where
+module _ (here : Here) (input : Input) (w : Where) (b : ℕ) (big : reading_limit < b) (comes : (m : Message) → input ≡ Deliver m → is_valid here m ≡ true → BodyBelow b m.body) (c : ℕ) (le : b ≤ c) where
   older : (old new : List Message) → AllBelow b old → AllBelow c new → AllBelow c (old ++ new)
   older old new f g m k = elim (in_append old new m k) [ inl j ↦ body_higher b c m.body le (f m j) | inr j ↦ g m j ]
 

@@ -1,19 +1,20 @@
 -- Every timestamp of a run is below 2 ^ 62 and the number of proposals.
 use Rattle.partition_map.specs.declared.rows.Asked.{Asked}
 use Rattle.dependency_set.specs.declared.names.Dep.{Dep}
-use Rattle.si_laws.proofs.BoundActs.{rise, view_act}
+use Rattle.str_model.proofs.BoundActs.{rise, view_act}
 use Rattle.si_laws.proofs.BoundLetters.{AllBelow, sent_act}
-use Rattle.si_laws.proofs.Bounds.{BodyBelow, OwnBelow, ViewBelow, WaiterBelow, body_higher, view_higher}
+use Rattle.str_model.proofs.Bounds.{BodyBelow, OwnBelow, ViewBelow, WaiterBelow, body_higher, view_higher}
 use Rattle.si_laws.proofs.Proposing.{acks_append, acks_in, certified_in, rise_act, sum_set}
-use Rattle.si_laws.specs.Numbers.{ack_times, all_times, body_times, final_times, or_nothing, own_times, proposals, view_times, waiter_times}
-use Rattle.std.proofs.Common.{List, None, Option, Some, [], ap, arith, flat_map, inl, inr, length, map, refl, replicate, slice_get, subst, suc, sym, zero, ℕ, ◌++◌, ◌+◌, ◌<◌, ◌^◌, ◌∙◌, ◌∷◌, ◌≡◌, ◌≤◌}
-use Rattle.std.specs.List.{sum_by}
-use Rattle.str_base.specs.declared.names.Ts.{Ts}
-use Rattle.str_base.specs.declared.names.Version.{Version}
 use Rattle.str_model.proofs.Acting.{Act, Where}
 use Rattle.str_model.proofs.Everywhere.{IsSeen, Sent, Stage, at_place, during, everywhere, stage_of}
 use Rattle.str_model.proofs.Lists.{get_set, get_set_other, got_replicate, got_set}
 use Rattle.str_model.proofs.Members.{In, at_in, in_append, in_at, in_flat_map, in_left, in_map, in_right}
+use Rattle.si_laws.specs.Numbers.{ack_times, all_times, body_times, own_times, proposals, view_times, waiter_times}
+use Rattle.str_model.specs.Owned.{final_times, or_nothing}
+use Rattle.std.proofs.Common.{List, None, Option, Some, [], ap, arith, flat_map, inl, inr, length, map, refl, replicate, slice_get, subst, suc, sym, zero, ℕ, ◌++◌, ◌+◌, ◌<◌, ◌^◌, ◌∙◌, ◌∷◌, ◌≡◌, ◌≤◌}
+use Rattle.std.specs.List.{sum_by}
+use Rattle.str_base.specs.declared.names.Ts.{Ts}
+use Rattle.str_base.specs.declared.names.Version.{Version}
 use Rattle.str_model.specs.Clients.{reading_limit}
 use Rattle.str_model.specs.declared.messages.Body.{Body}
 use Rattle.str_model.specs.declared.messages.Body.TheVariants.{Abort, Ack, Commit, Prepare, ReadReply, ReadReq, Refuse, Replicate}
@@ -57,10 +58,10 @@ bounded_keeps scene s i v input w d e is seen hs a h =
         let le : b ≤ c = omega (arith, more) in
         let comes : (m : Message) → input ≡ Deliver m → BodyBelow b m.body = λ m q. (let g : Sent s m = subst (IsSeen s) q seen in h.sent m (in_left s.sent d.sent m (in_at s.sent g.0 m g.1))) in
         let there : ViewBelow b d.view = h.nodes i d.view (get_set s.nodes i v d.view is) in
-        let new : AllBelow c e.sent = sent_act (at_place scene i) input w b big comes c le d e a more there (λ m k. h.sent m (in_right s.sent d.sent m k)) in
+        let new : AllBelow c e.sent = sent_act (at_place scene i) input w b big (λ m q v. comes m q) c le d e a more there (λ m k. h.sent m (in_right s.sent d.sent m k)) in
         record {
           nodes = λ n u g. elim (got_set s.nodes i n e.view u g) [
-            | inl q ↦ subst (ViewBelow c) (sym q.1) (view_act (at_place scene i) input w b big comes c le d e a more there)
+            | inl q ↦ subst (ViewBelow c) (sym q.1) (view_act (at_place scene i) input w b big (λ m q v. comes m q) c le d e a more there)
             | inr q ↦ view_higher b c u le (h.nodes n u (get_set_other s.nodes i n d.view q.0 ∙ q.1))
           ];
           sent = λ m k. elim (in_append s.sent e.sent m k) [ inl j ↦ body_higher b c m.body le (h.sent m (in_left s.sent d.sent m j)) | inr j ↦ new m j ];

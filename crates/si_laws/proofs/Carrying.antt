@@ -1,30 +1,28 @@
 -- What a change leaves of own transactions, of the done list and of Final versions.
-use Rattle.std.proofs.Common.{Bool, None, Option, Some, [], add-sub_cancel, ap, arith, eqb-true, eq-eqb, false, filter, inl, inr, map, not, refl, slice_get, slice_set, subst, sym, true, ℕ, ◌&&◌, ◌++◌, ◌+◌, ◌-◌, ◌==◌, ◌∙◌, ◌∷◌, ◌≡◌, ◌≢◌, ◌⊎◌}
+use Rattle.std.proofs.Common.{None, Option, Some, [], add-sub_cancel, ap, arith, false, filter, inl, inr, map, refl, slice_get, slice_set, subst, sym, ℕ, ◌++◌, ◌+◌, ◌-◌, ◌∙◌, ◌∷◌, ◌≡◌, ◌≢◌, ◌⊎◌}
 use Rattle.dependency_set.specs.declared.names.Dep.{Dep}
 use Rattle.str_base.specs.declared.names.Kind.TheVariants.{Final, Local as LocalKind}
 use Rattle.str_base.specs.declared.names.PartId.{PartId}
 use Rattle.str_base.specs.declared.names.TxId.{TxId}
 use Rattle.str_base.specs.declared.names.Version.{Version}
-use Rattle.str_base.specs.Versions.{of_pair, of_tx, same_node, same_part, same_tx, settled, without}
+use Rattle.str_base.specs.Versions.{of_pair, of_tx, settled, without}
 use Rattle.str_model.specs.declared.messages.Input.{Input}
 use Rattle.str_model.specs.Acts.{abort_came, aborted, accepted, acked, asked, begun, certified, closed, commit_came, committed, in_phase, is_hosted_of, local_version, marked, pre_version, refused, replied, requested, taken, waits}
 use Rattle.str_model.specs.Owned.{Owns}
-use Rattle.str_model.specs.Proposals.{is_done, is_pair, proposed}
-use Rattle.str_model.specs.Steps.{decides}
-use Rattle.str_model.specs.Turns.{Certified, CommittedAt, Fate, cert_turn, own_fate, phase_fate}
-use Rattle.str_model.specs.Turns
+use Rattle.str_model.specs.Proposals.{proposed}
+use Rattle.str_model.specs.Turns.{CommittedAt, own_fate}
 use Rattle.str_model.specs.Views.{Committed, Doing, Own, View, is_decided, name_of}
-use Rattle.str_scene.specs.Scenes.{Here, hosts}
+use Rattle.str_scene.specs.Scenes.{Here}
 use Rattle.str_model.proofs.Acting.{Act, Where, act_abort, act_abort_came, act_accept, act_ack, act_ask, act_begin, act_certify, act_close, act_commit, act_commit_came, act_mark, act_put, act_refuse, act_reply, act_request, act_take, act_unwait, act_wait}
-use Rattle.str_model.proofs.Evicting.{none_of}
-use Rattle.str_model.proofs.Gaining.{Extends, Names, Settles, and_left, and_right}
+use Rattle.str_model.proofs.Gaining.{Extends, Names, Settles}
 use Rattle.str_model.proofs.Lists.{get_push, get_set, get_set_other, got_set, same_or_not}
 use Rattle.str_model.proofs.Members.{In, in_filter, in_insert_all, in_left, in_map, in_right, in_without}
 use Rattle.str_model.proofs.Owning.{Becomes, OwnStep, aborts, certifies, closes, commits, goes_on, own_step, rests, starts_one, turns_one}
-use Rattle.si_laws.proofs.Around.{Around, Carried, FinalKnown, Stand, carry, far_final, own_final, owner_at, same_tx-is}
-use Rattle.si_laws.proofs.Depending.{depends-act}
-use Rattle.si_laws.proofs.Owners.{Depends, open-fate, same_own}
-use Rattle.si_laws.proofs.Staying.{becomes-open}
+use Rattle.si_laws.proofs.Around.{Around, Carried, FinalKnown, Stand, carry, far_final, own_final, owner_at}
+use Rattle.str_model.proofs.Pairing.{becomes-open, decides_far, hosted_name, pair-is}
+use Rattle.str_model.proofs.Depending.{depends-act}
+use Rattle.str_model.proofs.Owners.{Depends, open-fate, same_own}
+use Rattle.str_model.specs.Turns
 
 -- ---- own transactions
 
@@ -103,47 +101,6 @@ done-grows here input w d e (act_unwait kept rest r d' h) k m = m
 done-grows here input w d e (act_reply t g rs v u fc d' h) k m = m
 done-grows here input w d e (act_commit_came from t q fc ms d' c h) k m = in_left d'.view.done ((t, q) ∷ []) k m
 done-grows here input w d e (act_abort_came from t q d' c h) k m = in_left d'.view.done ((t, q) ∷ []) k m
-
--- a decision that comes is for another node's transaction, and not in the done list
-pub decides_far : (here : Here) (tx : TxId) (p : PartId) (v : View) → decides here tx p v ≡ true → (tx.node.0 ≢ here.node.0) × (is_done v tx p ≡ false)
-decides_far here tx p v e = (λ q. other q (same_node tx.node here.node) refl r.0, r.1)
-  where
-    nots : (a b c : Bool) → (a && (not b && not c)) ≡ true → (b ≡ false) × (c ≡ false)
-    nots true false false q = (refl, refl)
-    nots true true c q = absurd (cc q)
-    nots true false true q = absurd (cc q)
-    nots false b c q = absurd (cc q)
-
-    r : (same_node tx.node here.node ≡ false) × (is_done v tx p ≡ false)
-    r = nots (hosts here.scene here.node p) (same_node tx.node here.node) (is_done v tx p) e
-
-    other : tx.node.0 ≡ here.node.0 → (b : Bool) → same_node tx.node here.node ≡ b → b ≡ false → ⊥
-    other q b s n = let t : same_node tx.node here.node ≡ true = eq-eqb tx.node.0 here.node.0 q in cc (sym s ∙ t, n)
-
-pub same_part-is : (p q : PartId) → same_part p q ≡ true → p ≡ q
-same_part-is p q e = let n : p.0 ≡ q.0 = eqb-true p.0 q.0 e in λ j. record { 0 = n j }
-
-pub self_pair : (tx : TxId) (p : PartId) → is_pair tx p (tx, p) ≡ true
-self_pair tx p =
-    let a : (tx.node.0 == tx.node.0) ≡ true = eq-eqb tx.node.0 tx.node.0 refl in
-    let b : (tx.seq == tx.seq) ≡ true = eq-eqb tx.seq tx.seq refl in
-    let c : (p.0 == p.0) ≡ true = eq-eqb p.0 p.0 refl in
-    rw (a, b, c) refl
-
--- the pair of the version that is decided
-pub pair-is : (tx : TxId) (p : PartId) (u : Version) → of_pair tx p u ≡ true → (u.tx ≡ tx) × (u.part ≡ p)
-pair-is tx p u e = (same_tx-is u.tx tx (and_left (same_tx u.tx tx) (same_part u.part p) e), same_part-is u.part p (and_right (same_tx u.tx tx) (same_part u.part p) e))
-
--- one that is decided now was not in the done list
-pub not_done : (v : View) (tx : TxId) (p : PartId) (u : Version) → is_done v tx p ≡ false → of_pair tx p u ≡ true → In (u.tx, u.part) v.done → ⊥
-not_done v tx p u n e m =
-    let s = pair-is tx p u e in
-    let f = none_of (is_pair tx p) v.done (u.tx, u.part) n m in
-    let t : is_pair tx p (u.tx, u.part) ≡ true = ap (λ z. is_pair tx p (z, u.part)) s.0 ∙ (ap (λ z. is_pair tx p (tx, z)) s.1 ∙ self_pair tx p) in
-    cc (sym t ∙ f)
-
-pub hosted_name : (here : Here) (tx : TxId) (u : Version) → is_hosted_of here tx u ≡ true → u.tx ≡ tx
-hosted_name here tx u e = same_tx-is u.tx tx (and_left (of_tx tx u) (hosts here.scene here.node u.part) e)
 
 -- ---- Final versions
 

@@ -26,14 +26,14 @@ use Rattle.str_model.proofs.Along.{step-keeps}
 use Rattle.str_model.proofs.Later.{Took, moment_of, took}
 use Rattle.str_model.proofs.Linking.{linked}
 use Rattle.str_model.proofs.Members.{In, at_in, in_filter, in_flat_map}
-use Rattle.si_laws.specs.Standing.{IsAborted, IsCommitted}
-use Rattle.si_laws.specs.TrueCause.{AbortsAt, DependedOn, TrueWish}
 use Rattle.si_laws.proofs.AbortAll.{link_by}
 use Rattle.si_laws.proofs.Aborting.{AbortedBy, ab_evicted, ab_late, ab_lost, ab_met, ab_refused, ab_stop, ab_wish}
 use Rattle.si_laws.proofs.Gating.{committed_is, nth_place, place_nth, stand_moment}
-use Rattle.si_laws.proofs.Marking.{same_key-is}
-use Rattle.si_laws.proofs.Unmet.{AllNeedy, needy-act}
+use Rattle.str_model.proofs.Marking.{same_key-is}
+use Rattle.str_model.proofs.Unmet.{AllNeedy, needy-act}
 use Rattle.si_laws.proofs.Evaluating.{find_is}
+use Rattle.si_laws.specs.Standing.{IsAborted, IsCommitted}
+use Rattle.si_laws.specs.TrueCause.{AbortsAt, DependedOn, TrueWish}
 
 -- ---- the look at the dependencies
 

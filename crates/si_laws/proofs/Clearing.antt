@@ -1,6 +1,8 @@
 -- The guard of a read at a node: its mark, and no version of the key between its writer and the snapshot. What keeps it.
 use Rattle.dependency_set.specs.Snapshots.{Snap, holds, oldest}
-use Rattle.si_laws.proofs.Marking.{Rises}
+use Rattle.str_model.proofs.Marking.{Rises}
+use Rattle.str_model.proofs.Gaining.{if_elim}
+use Rattle.str_model.proofs.Members.{In}
 use Rattle.std.proofs.Common.{List, None, Option, Some, [], ap, arith, find, inl, inr, map, max, nat_lt, sym, ℕ, ◌+◌, ◌<◌, ◌∙◌, ◌∷◌, ◌≡◌, ◌≢◌, ◌≤◌, ◌⊎◌}
 use Rattle.str_base.specs.Versions.{mark_of, newest}
 use Rattle.str_base.specs.declared.names.KeyId.{KeyId}
@@ -8,8 +10,6 @@ use Rattle.str_base.specs.declared.names.Kind.TheVariants.{Final, Local as Local
 use Rattle.str_base.specs.declared.names.TxId.{TxId}
 use Rattle.str_base.specs.declared.names.Version.{Version}
 use Rattle.str_base.specs.declared.names.Write.{Write}
-use Rattle.str_model.proofs.Gaining.{if_elim}
-use Rattle.str_model.proofs.Members.{In}
 use Rattle.str_model.specs.Proposals.{Accept, MasterTurn, master_turn, proposed, ts_limit}
 use Rattle.str_model.specs.Proposals
 use Rattle.str_model.specs.Turns.{CertTurn, Certified, cert_turn, conflicts, greatest, joined, met, passed}

@@ -4,7 +4,8 @@ use Rattle.std.proofs.lemmas.List.Elements.{filter-append}
 use Rattle.std.specs.List.{last_or}
 use Rattle.str_base.specs.declared.names.KeyId.{KeyId}
 use Rattle.str_model.specs.declared.messages.Answer.{Answer}
-use Rattle.si_laws.specs.Commits.{Commit, Member, evaluated, fc_before, look_up, member_of, members_from, wrote_key, written_value}
+use Rattle.si_laws.specs.Commits.{Commit, Member, evaluated, fc_before, look_up, member_of, members_from, written_value}
+use Rattle.str_model.specs.Owned.{wrote_key}
 use Rattle.str_model.specs.Evaluation.{eval}
 use Rattle.str_scene.specs.Scenes.{Scene, script_at}
 use Rattle.si_laws.proofs.CommitLists.{before, not_before_itself, not_both}

@@ -1,20 +1,21 @@
 -- From a moment on: once a transaction has a mark to carry and commits, each participant is sent it.
 use Rattle.partition_map.specs.declared.rows.Asked.{Asked}
 use Rattle.si_laws.proofs.Linked.{one_of}
-use Rattle.si_laws.proofs.Parts.{sent_step}
+use Rattle.str_model.proofs.Parts.{sent_step}
 use Rattle.si_laws.proofs.ReadLetters.{marks_act}
 use Rattle.si_laws.proofs.Replying.{rs_stays}
+use Rattle.str_model.proofs.Acting.{Act, Where, act_abort, act_abort_came, act_accept, act_ack, act_ask, act_begin, act_certify, act_close, act_commit, act_commit_came, act_mark, act_put, act_refuse, act_reply, act_request, act_take, act_unwait, act_wait}
+use Rattle.str_model.proofs.Everywhere.{Stage, at_place, during}
+use Rattle.str_model.proofs.Lists.{get_set, get_set_other, got_push, got_set}
+use Rattle.str_model.proofs.Members.{In, at_in, in_append, in_left, in_right, map_in}
+use Rattle.str_model.proofs.Telling.{tell_step}
+use Rattle.str_model.proofs.Meeting.{filter_in}
 use Rattle.si_laws.specs.Laws.Marks.{CarriesMark}
 use Rattle.std.proofs.Common.{List, None, Option, Some, ap, arith, eq-eqb, false, filter, inl, inr, refl, slice_get, slice_set, subst, sym, ℕ, ◌++◌, ◌∙◌, ◌≡◌, ◌≤◌}
 use Rattle.str_base.specs.declared.names.KeyId.{KeyId}
 use Rattle.str_base.specs.declared.names.PartId.{PartId}
 use Rattle.str_base.specs.declared.names.Write.{Write}
 use Rattle.str_base.specs.Versions.{mark_of, stamp}
-use Rattle.str_model.proofs.Acting.{Act, Where, act_abort, act_abort_came, act_accept, act_ack, act_ask, act_begin, act_certify, act_close, act_commit, act_commit_came, act_mark, act_put, act_refuse, act_reply, act_request, act_take, act_unwait, act_wait}
-use Rattle.str_model.proofs.Everywhere.{Stage, at_place, during}
-use Rattle.str_model.proofs.Lists.{get_set, get_set_other, got_push, got_set}
-use Rattle.str_model.proofs.Members.{In, at_in, in_append, in_left, in_right, map_in}
-use Rattle.str_model.proofs.Telling.{tell_step}
 use Rattle.str_model.specs.Acts.{abort_came, aborted, accepted, acked, asked, begun, certified, closed, commit_came, commit_letters, committed, fresh, in_phase, marked, marks_in, refused, replied, requested, taken, waits, with_asked}
 use Rattle.str_model.specs.declared.messages.Body.TheVariants.{Commit}
 use Rattle.str_model.specs.declared.messages.Input.{Input}
@@ -23,7 +24,6 @@ use Rattle.str_model.specs.declared.names.KeyMark.{KeyMark}
 use Rattle.str_model.specs.Owned.{Owns}
 use Rattle.str_model.specs.Views.{Aborted, Committed, Doing, Global, Local, Own, Remote, View, is_decided, lc_of, letter, name_of}
 use Rattle.str_scene.specs.Scenes.{Here, Scene, in_part, part_of, participants}
-use Rattle.str_model.proofs.Meeting.{filter_in}
 
 -- whoever is committed with a final timestamp was so before, or commits now
 pub data CommitStep (here : Here) (d e : Doing) : Type 0 where

@@ -26,16 +26,16 @@ use Rattle.str_model.proofs.Gaining.{and_left, and_right}
 use Rattle.str_model.proofs.Later.{Took, at_each_moment, to_end}
 use Rattle.str_model.proofs.Lists.{get_set, got_set}
 use Rattle.str_model.proofs.Members.{In, at_in, in_at, in_left}
-use Rattle.si_laws.specs.Standing.{Begun, Wrote}
-use Rattle.si_laws.specs.TrueCause.{AbortsAt, BothWrote, Delivered, Evicted, FoundAtHome, HasVersion, TrueConflict}
 use Rattle.si_laws.proofs.Aborting.{AbortedBy, ab_evicted, ab_late, ab_lost, ab_met, ab_refused, ab_stop, ab_wish}
-use Rattle.si_laws.proofs.Around.{same_tx-is}
+use Rattle.str_model.proofs.Pairing.{same_tx-is}
 use Rattle.si_laws.proofs.Causes.{Aborts, aborts_by, conflict_is}
 use Rattle.si_laws.proofs.Gating.{nth_place, place_nth}
-use Rattle.si_laws.proofs.Marking.{same_key-is}
-use Rattle.si_laws.proofs.Owners.{same_own}
+use Rattle.str_model.proofs.Marking.{same_key-is}
+use Rattle.str_model.proofs.Owners.{same_own}
 use Rattle.si_laws.proofs.Writing.{WroteIn, WroteKey, Written, wrote-act, written-act, written_opening}
 use Rattle.si_laws.proofs.Evaluating.{find_is}
+use Rattle.si_laws.specs.Standing.{Begun, Wrote}
+use Rattle.si_laws.specs.TrueCause.{AbortsAt, BothWrote, Delivered, Evicted, FoundAtHome, HasVersion, TrueConflict}
 
 -- the own transaction of this place has written the key
 abbrev pub WroteAt : ℕ → KeyId → View → Type 0

@@ -3,9 +3,9 @@ use Rattle.std.proofs.lemmas.List.{take-append-drop}
 use Rattle.std.proofs.Common.{List, None, Option, Some, [], ap, append-nil, append_assoc, drop, length, refl, sym, take, true, false, ℕ, ◌++◌, ◌-◌, ◌∙◌, ◌∷◌, ◌≡◌}
 use Rattle.si_laws.specs.Laws.Cut.{BeginsWith, CutHolds, GoesOnFrom}
 use Rattle.si_laws.proofs.Staying.{answers_grow}
+use Rattle.str_model.proofs.Everywhere.{run-append}
 use Rattle.str_base.specs.declared.names.NodeId.{NodeId}
 use Rattle.str_base.specs.declared.names.SessionId.{SessionId}
-use Rattle.str_model.proofs.Everywhere.{run-append}
 use Rattle.str_model.specs.Runs.{World, client_event, deliver_event, give, happens, opening, run, run_from, step_at, stepped}
 use Rattle.str_model.specs.Steps.{step}
 use Rattle.str_model.specs.Views.{Doing, View}

@@ -2,13 +2,18 @@
 use Rattle.si_laws.proofs.Delivering.{DecisionsValid}
 use Rattle.si_laws.proofs.Linked.{IsDecidedAs, IsSeat, Told}
 use Rattle.si_laws.proofs.LinkingAll.{linked}
-use Rattle.si_laws.proofs.Mastering.{AreDistinct}
+use Rattle.str_model.proofs.Mastering.{AreDistinct}
 use Rattle.si_laws.proofs.Overlapping.{key_of_table, script_op}
-use Rattle.si_laws.proofs.Scripting.{ScriptGood, scripts_after}
+use Rattle.str_model.proofs.Scripting.{ScriptGood, scripts_after}
 use Rattle.si_laws.proofs.Seats.{flat_map_in, own_seat, part_exists}
 use Rattle.si_laws.proofs.SessionLaw.{good_everywhere}
-use Rattle.si_laws.proofs.Stages.{has_at, not_both}
-use Rattle.si_laws.specs.Commits.{wrote_key}
+use Rattle.str_model.proofs.Pairing.{has_at, not_both}
+use Rattle.str_model.proofs.Everywhere.{at_place, stage_of}
+use Rattle.str_model.proofs.Gaining.{and_left, and_right, if_elim, or_false_right}
+use Rattle.str_model.proofs.Members.{In, at_in, in_filter, in_map, in_right, map_in}
+use Rattle.str_model.proofs.Ruling.{or_false_left}
+use Rattle.str_model.proofs.Telling.{told}
+use Rattle.str_model.specs.Owned.{wrote_key}
 use Rattle.si_laws.specs.Laws.Presence.{Decides}
 use Rattle.si_laws.specs.Laws.Times.{TimesBounded}
 use Rattle.si_laws.specs.Numbers.{all_times, body_times, proposals, view_times}
@@ -22,11 +27,6 @@ use Rattle.str_base.specs.declared.names.PartId.{PartId}
 use Rattle.str_base.specs.declared.names.Ts.{Ts}
 use Rattle.str_base.specs.declared.names.TxId.{TxId}
 use Rattle.str_base.specs.declared.names.Write.{Write}
-use Rattle.str_model.proofs.Everywhere.{at_place, stage_of}
-use Rattle.str_model.proofs.Gaining.{and_left, and_right, if_elim, or_false_right}
-use Rattle.str_model.proofs.Members.{In, at_in, in_filter, in_map, in_right, map_in}
-use Rattle.str_model.proofs.Ruling.{or_false_left}
-use Rattle.str_model.proofs.Telling.{told}
 use Rattle.str_model.specs.Proposals.{ts_limit}
 use Rattle.str_model.specs.Runs.{run}
 use Rattle.str_model.specs.Strange

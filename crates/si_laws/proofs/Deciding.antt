@@ -1,15 +1,15 @@
 -- A decision that is given to a participant is done there: after the step the pair is in the done list.
 use Rattle.si_laws.proofs.Carrying.{done-grows}
-use Rattle.si_laws.proofs.Stages.{Has, any_has, same_pair}
+use Rattle.str_model.proofs.Pairing.{Has, any_has, same_pair}
+use Rattle.str_model.proofs.Acting.{Act, InTurn, InWait, Where, along}
+use Rattle.str_model.proofs.Along.{StepTo, step-keeps, turn-path, wait_turns-path}
+use Rattle.str_model.proofs.Members.{In, in_right}
 use Rattle.si_laws.specs.Laws.Presence.{Decides}
 use Rattle.std.proofs.Common.{Bool, List, None, Option, Some, [], ap, false, if◌then◌else◌, inl, length, not, option_map, refl, subst, suc, sym, true, zero, ℕ, ◌&&◌, ◌∙◌, ◌∷◌, ◌≡◌}
 use Rattle.str_base.specs.Versions.{same_node}
 use Rattle.str_base.specs.declared.names.PartId.{PartId}
 use Rattle.str_base.specs.declared.names.Ts.{Ts}
 use Rattle.str_base.specs.declared.names.TxId.{TxId}
-use Rattle.str_model.proofs.Acting.{Act, InTurn, InWait, Where, along}
-use Rattle.str_model.proofs.Along.{StepTo, step-keeps, turn-path, wait_turns-path}
-use Rattle.str_model.proofs.Members.{In, in_right}
 use Rattle.str_model.specs.Acts.{abort_came, commit_came}
 use Rattle.str_model.specs.Pass
 use Rattle.str_model.specs.Pass.{pass_to, turn}

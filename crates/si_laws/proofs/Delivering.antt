@@ -3,7 +3,11 @@ use Rattle.si_laws.proofs.Deciding.{after_step, decided_step, step_in}
 use Rattle.si_laws.proofs.Linked.{one_of}
 use Rattle.si_laws.proofs.Seats.{of_nth, to_nth}
 use Rattle.si_laws.proofs.SessionLaw.{length_copies, length_set}
-use Rattle.si_laws.proofs.Stages.{Has}
+use Rattle.str_model.proofs.Pairing.{Has}
+use Rattle.str_model.proofs.Along.{StepTo, step-path}
+use Rattle.str_model.proofs.Everywhere.{at_place, run-append}
+use Rattle.str_model.proofs.Lists.{got_set}
+use Rattle.str_model.proofs.Members.{In, in_at}
 use Rattle.si_laws.specs.Laws.Presence.{Decides}
 use Rattle.std.proofs.Common.{Bool, List, None, Option, Some, [], ap, arith, false, inl, inr, length, refl, replicate, slice_get, slice_set, subst, subst₂, suc, sym, true, zero, ℕ, ◌++◌, ◌+◌, ◌-◌, ◌<◌, ◌∙◌, ◌∷◌, ◌≡◌, ◌≢◌, ◌⊎◌}
 use Rattle.std.proofs.lemmas.Option.{slice_get_within}
@@ -11,10 +15,6 @@ use Rattle.str_base.specs.Versions.{same_node}
 use Rattle.str_base.specs.declared.names.NodeId.{NodeId}
 use Rattle.str_base.specs.declared.names.PartId.{PartId}
 use Rattle.str_base.specs.declared.names.TxId.{TxId}
-use Rattle.str_model.proofs.Along.{StepTo, step-path}
-use Rattle.str_model.proofs.Everywhere.{at_place, run-append}
-use Rattle.str_model.proofs.Lists.{got_set}
-use Rattle.str_model.proofs.Members.{In, in_at}
 use Rattle.str_model.specs.Proposals.{is_pair}
 use Rattle.str_model.specs.Runs
 use Rattle.str_model.specs.Runs.{World, at_node, client_event, deliver_event, give, happens, opening, run, run_from, step_at, stepped}

@@ -1,16 +1,21 @@
 -- Where a pair is done by its Commit, the marks that the Commit carries have been raised.
 use Rattle.partition_map.specs.declared.rows.Asked.{Asked}
-use Rattle.si_laws.proofs.Homes.{OwnGood, gate_answers}
+use Rattle.str_model.proofs.Homes.{OwnGood, gate_answers}
 use Rattle.si_laws.proofs.Linked.{IsDecidedAs, Kept, Linked, Told, k_ended, k_stands, one_decided, one_of, one_place}
 use Rattle.si_laws.proofs.Linking.{answer_known, came, kept_at, kept_known, placed_unknown}
 use Rattle.si_laws.proofs.LinkingAll.{linked_opening, linked_step}
-use Rattle.si_laws.proofs.Marking.{index_same, raise_all-rises}
-use Rattle.si_laws.proofs.Pairs.{Knows, one_pair}
-use Rattle.si_laws.proofs.Parts.{by_master}
+use Rattle.str_model.proofs.Marking.{index_same, raise_all-rises}
+use Rattle.str_model.proofs.Pairs.{Knows, one_pair}
+use Rattle.str_model.proofs.Parts.{by_master}
 use Rattle.si_laws.proofs.ReadLetters.{ReadLetter, is_other, letters_act, marks_act, rl_commit, rl_other, rl_reply, rl_request}
 use Rattle.si_laws.proofs.Replying.{FarReads, far_opening, far_step}
 use Rattle.si_laws.proofs.Seats.{own_seat}
-use Rattle.si_laws.proofs.Stages.{Has}
+use Rattle.str_model.proofs.Pairing.{Has}
+use Rattle.str_model.proofs.Acting.{Act, Comes, IsHere, Where, act_abort, act_abort_came, act_accept, act_ack, act_ask, act_begin, act_certify, act_close, act_commit, act_commit_came, act_mark, act_put, act_refuse, act_reply, act_request, act_take, act_unwait, act_wait}
+use Rattle.str_model.proofs.Everywhere.{IsSeen, Stage, at_place, during, everywhere, stage_of}
+use Rattle.str_model.proofs.Gaining.{and_left, and_right}
+use Rattle.str_model.proofs.Lists.{get_set, get_set_other, got_set}
+use Rattle.str_model.proofs.Members.{In, in_append, in_left, in_right, map_in}
 use Rattle.std.proofs.Common.{Bool, List, Option, Some, [], ap, arith, false, filter, inl, inr, length, length-set, ltb-true, map, max, refl, slice_get, slice_set, subst, subst₂, sym, true, ℕ, ◌&&◌, ◌++◌, ◌+◌, ◌<◌, ◌∙◌, ◌∷◌, ◌≡◌, ◌≢◌, ◌≤◌, ◌⊎◌}
 use Rattle.std.specs.List.{list_all}
 use Rattle.str_base.specs.declared.names.Write.{Write}
@@ -20,11 +25,6 @@ use Rattle.str_base.specs.declared.names.PartId.{PartId}
 use Rattle.str_base.specs.declared.names.Ts.{Ts}
 use Rattle.str_base.specs.declared.names.TxId.{TxId}
 use Rattle.str_base.specs.Versions.{mark_of, raised, same_node, same_part, same_tx, stamp}
-use Rattle.str_model.proofs.Acting.{Act, Comes, IsHere, Where, act_abort, act_abort_came, act_accept, act_ack, act_ask, act_begin, act_certify, act_close, act_commit, act_commit_came, act_mark, act_put, act_refuse, act_reply, act_request, act_take, act_unwait, act_wait}
-use Rattle.str_model.proofs.Everywhere.{IsSeen, Stage, at_place, during, everywhere, stage_of}
-use Rattle.str_model.proofs.Gaining.{and_left, and_right}
-use Rattle.str_model.proofs.Lists.{get_set, get_set_other, got_set}
-use Rattle.str_model.proofs.Members.{In, in_append, in_left, in_right, map_in}
 use Rattle.str_model.specs.Acts.{abort_came, aborted, accepted, acked, asked, begun, certified, closed, commit_came, committed, marked, raise_all, refused, replied, requested, taken, waits}
 use Rattle.str_model.specs.Acts
 use Rattle.str_model.specs.declared.messages.Arrived.{Arrived}

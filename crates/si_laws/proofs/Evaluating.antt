@@ -1,6 +1,9 @@
 -- What a transaction has read gives what it has got and written: the script, on each look that agrees with its reads, comes to where it stands.
 use Rattle.dependency_set.specs.Snapshots.{Snap, accept_final, holds, oldest}
-use Rattle.si_laws.proofs.Marking.{same_key-is}
+use Rattle.str_model.proofs.Marking.{same_key-is}
+use Rattle.str_model.proofs.Acting.{AsksCommit, Needs, NeedsNone, Reads, asks_again, asks_new, reads_again, reads_new}
+use Rattle.str_model.proofs.Gaining.{if_elim}
+use Rattle.str_model.proofs.Members.{In, in_left, in_right}
 use Rattle.std.proofs.Common.{Bool, List, None, Option, Some, [], add-one, ap, drop, false, find, if◌then◌else◌, inl, inr, refl, slice_get, subst, suc, sym, true, zero, ℕ, ◌++◌, ◌+◌, ◌∙◌, ◌∷◌, ◌≡◌, ◌≢◌, ◌⊎◌}
 use Rattle.str_base.specs.Values.{is_below, set_write}
 use Rattle.str_base.specs.Versions.{same_key}
@@ -10,9 +13,6 @@ use Rattle.str_base.specs.declared.names.KeyId.{KeyId}
 use Rattle.str_base.specs.declared.names.TxId.{TxId}
 use Rattle.str_base.specs.declared.names.Value.{Value}
 use Rattle.str_base.specs.declared.names.Write.{Write}
-use Rattle.str_model.proofs.Acting.{AsksCommit, Needs, NeedsNone, Reads, asks_again, asks_new, reads_again, reads_new}
-use Rattle.str_model.proofs.Gaining.{if_elim}
-use Rattle.str_model.proofs.Members.{In, in_left, in_right}
 use Rattle.str_model.specs.Evaluation.{AtEnd, Evaluated, Stop, Unmet, Wished, eval, eval_from, value_at, write_or}
 use Rattle.str_model.specs.Evaluation
 use Rattle.str_model.specs.Scripts.{finish, finish_next, found_read, found_write, known, noted, or_else, own_op}

@@ -11,12 +11,12 @@ use Rattle.str_model.proofs.Gaining.{Names}
 use Rattle.str_model.proofs.Lists.{get_push, get_set, get_set_other, got_push, got_set, same_or_not}
 use Rattle.str_model.proofs.Members.{In}
 use Rattle.str_model.proofs.Owning.{OwnStep, own_step, rests, starts_one, turns_one}
-use Rattle.si_laws.specs.GateLaw.{HasCommitted}
-use Rattle.si_laws.specs.Standing.{IsAborted}
 use Rattle.si_laws.proofs.Around.{Carried, named_more}
 use Rattle.si_laws.proofs.Carrying.{carried}
-use Rattle.si_laws.proofs.Owners.{same_own}
-use Rattle.si_laws.proofs.Staying.{decided-step}
+use Rattle.str_model.proofs.Owners.{same_own}
+use Rattle.str_model.proofs.Pairing.{decided-step}
+use Rattle.si_laws.specs.GateLaw.{HasCommitted}
+use Rattle.si_laws.specs.Standing.{IsAborted}
 
 -- The i-th own transaction, once it depended on the one of this number: it still does, or that one has committed at or below its snapshot, or it has aborted.
 -- Why: a transaction commits without dependencies, so all that it ever depended on have then committed at or below its snapshot.

@@ -17,11 +17,11 @@ use Rattle.str_model.proofs.Later.{Took, later, took}
 use Rattle.str_model.proofs.Lists.{get_set}
 use Rattle.str_model.proofs.Members.{in_at}
 use Rattle.str_model.proofs.Tracing.{ends_slice}
-use Rattle.si_laws.specs.GateLaw.{CascadesInOneEvent, CommittedBefore, DependenciesFirst, StandsAt}
-use Rattle.si_laws.specs.Standing.{IsAborted}
 use Rattle.si_laws.proofs.Apart.{StandAfter, stand_after}
 use Rattle.si_laws.proofs.Fates.{Fate, fate-act, gone_at, listed, settled_at}
 use Rattle.si_laws.proofs.Gating.{listed_committed, nth_place, place_nth, stand_moment, still_open, strict}
+use Rattle.si_laws.specs.GateLaw.{CascadesInOneEvent, CommittedBefore, DependenciesFirst, StandsAt}
+use Rattle.si_laws.specs.Standing.{IsAborted}
 
 module _ (scene : Scene) (ok : IsScene scene) (es : List Event) where
   -- each that was in the dependency set at some moment committed first

@@ -21,15 +21,15 @@ use Rattle.str_model.proofs.Lists.{got_replicate, same_or_not}
 use Rattle.str_model.proofs.Members.{In}
 use Rattle.str_model.proofs.Owning.{own_step}
 use Rattle.str_model.proofs.Tracing.{Was, was_from}
-use Rattle.si_laws.specs.GateLaw.{CommittedBefore, HasCommitted, StandsAt}
-use Rattle.si_laws.specs.Standing.{IsCommitted}
 use Rattle.si_laws.proofs.Apart.{stand_after}
 use Rattle.si_laws.proofs.Around.{Stand}
 use Rattle.si_laws.proofs.AroundActs.{stand-act}
-use Rattle.si_laws.proofs.Beneath.{leaves}
+use Rattle.str_model.proofs.Beneath.{leaves}
 use Rattle.si_laws.proofs.Fates.{Fate, FreeOnceCommitted, NotCommitted, fate-act, free-act, gone_at, listed, not_committed-act, settled_at}
-use Rattle.si_laws.proofs.Owners.{same_own}
-use Rattle.si_laws.proofs.Staying.{decided-step}
+use Rattle.str_model.proofs.Owners.{same_own}
+use Rattle.str_model.proofs.Pairing.{decided-step}
+use Rattle.si_laws.specs.GateLaw.{CommittedBefore, HasCommitted, StandsAt}
+use Rattle.si_laws.specs.Standing.{IsCommitted}
 
 -- a place from a number
 pub nth_place : {X : Type 0} (xs : List X) (s : ℕ) (x : X) → nth xs s ≡ Some x → (i : ℕ) × (s ≡ i + 1) × (slice_get xs i ≡ Some x)

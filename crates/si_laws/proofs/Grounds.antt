@@ -7,19 +7,19 @@ use Rattle.si_laws.proofs.InTime.{InTime, in_time-act}
 use Rattle.si_laws.proofs.Linked.{one_certified}
 use Rattle.si_laws.proofs.MasterLaw.{Governed, governed-keeps, governed_opening}
 use Rattle.si_laws.proofs.Origins.{AllWritten, FinalsHosted, HasWritten, all_written_opening, all_written_step, finals_hosted-act}
-use Rattle.si_laws.proofs.Parts.{WaitStep, w_fewer, w_more, wait_step}
+use Rattle.str_model.proofs.Parts.{WaitStep, w_fewer, w_more, wait_step}
 use Rattle.si_laws.proofs.Replying.{FarReads, far_opening, far_step}
 use Rattle.si_laws.proofs.Reporting.{CommittedIn, Reported, reported-act, reported_opening}
+use Rattle.str_model.proofs.Acting.{Act, Arrives, Where, a_prepare, a_read}
+use Rattle.str_model.proofs.Everywhere.{IsSeen, Stage, at_place, during, everywhere, stage_of}
+use Rattle.str_model.proofs.Lists.{get_set, get_set_other, got_replicate, got_set}
+use Rattle.str_model.proofs.Members.{In, in_append}
 use Rattle.si_laws.specs.Standing.{IsCommitted}
 use Rattle.std.proofs.Common.{List, None, Option, Some, [], ap, inl, inr, slice_get, slice_set, subst, subst₂, sym, true, ℕ, ◌∙◌, ◌∷◌, ◌≡◌}
 use Rattle.str_base.specs.declared.names.KeyId.{KeyId}
 use Rattle.str_base.specs.declared.names.Ts.{Ts}
 use Rattle.str_base.specs.declared.names.TxId.{TxId}
 use Rattle.str_base.specs.declared.names.Value.{Value}
-use Rattle.str_model.proofs.Acting.{Act, Arrives, Where, a_prepare, a_read}
-use Rattle.str_model.proofs.Everywhere.{IsSeen, Stage, at_place, during, everywhere, stage_of}
-use Rattle.str_model.proofs.Lists.{get_set, get_set_other, got_replicate, got_set}
-use Rattle.str_model.proofs.Members.{In, in_append}
 use Rattle.str_model.specs.Runs.{opening, opening_view, run}
 use Rattle.str_model.specs.Turns.{CommittedAt, own_fate, phase_fate}
 use Rattle.str_model.specs.Views.{Aborted, Active, CertWait, Closing, Committed, Doing, Global, Local, Own, Phase, ReadWait, Remote, Reply, View}

@@ -1,18 +1,25 @@
 -- The guard of a read from an own undecided transaction: it stays, or the writer aborts, or it commits and the guard becomes one of what is final.
 use Rattle.si_laws.proofs.Arriving.{committed_stands}
-use Rattle.si_laws.proofs.Around.{Around, Stand, final_below, final_late, local_above, local_below, same_tx-is}
+use Rattle.si_laws.proofs.Around.{Around, Stand, final_below, final_late, local_above, local_below}
+use Rattle.str_model.proofs.Pairing.{same_tx-is}
 use Rattle.si_laws.proofs.Clearing.{Clear, LocalsClear, Moved, locals_stay, m_local, m_new, m_old, m_pre}
 use Rattle.si_laws.proofs.Grounds.{Grounds, committed_write, committer}
 use Rattle.si_laws.proofs.Guards.{FinalGuard, GoneWriter, MarkSent, OpenWriter, ReadGuard, committed_up, fg_some, open_not, rg_final, rg_gone, rg_open, rg_sent, there_d, there_e, written_up}
 use Rattle.si_laws.proofs.Linked.{one_certified}
-use Rattle.si_laws.proofs.Marking.{Rises}
+use Rattle.str_model.proofs.Marking.{Rises}
 use Rattle.si_laws.proofs.Origins.{HasWritten}
 use Rattle.si_laws.proofs.Overlapping.{master_of}
-use Rattle.si_laws.proofs.Owners.{same_own}
+use Rattle.str_model.proofs.Owners.{same_own}
 use Rattle.si_laws.proofs.ReadLetters.{ReadLetter, is_other, letters_act, marks_act, rl_commit, rl_other, rl_reply, rl_request}
 use Rattle.si_laws.proofs.Reporting.{CommittedIn}
 use Rattle.si_laws.proofs.Settling.{all_moved}
-use Rattle.si_laws.proofs.Turning.{OwnChange, o_acks, o_aborts, o_asks, o_begins, o_certifies, o_closes, o_commits, o_puts, o_rests, own_change}
+use Rattle.str_model.proofs.Turning.{OwnChange, o_acks, o_aborts, o_asks, o_begins, o_certifies, o_closes, o_commits, o_puts, o_rests, own_change}
+use Rattle.str_model.proofs.Acting.{Act, Where}
+use Rattle.str_model.proofs.Everywhere.{IsSeen, Stage, at_place, during}
+use Rattle.str_model.proofs.Lists.{get_push, get_set, get_set_other, same_or_not}
+use Rattle.str_model.proofs.Members.{In, in_append, in_left, in_right, map_in}
+use Rattle.str_model.proofs.Operating.{gate_commits}
+use Rattle.str_model.proofs.Meeting.{filter_in}
 use Rattle.si_laws.specs.Standing.{IsAborted}
 use Rattle.std.proofs.Common.{Bool, List, None, Option, Some, [], add-sub_cancel, ap, arith, eq-eqb, false, inl, inr, length, map, refl, slice_get, slice_set, subst, subst₂, sym, true, ℕ, ◌++◌, ◌+◌, ◌<◌, ◌∙◌, ◌∷◌, ◌≡◌, ◌≢◌, ◌≤◌, ◌⊎◌}
 use Rattle.str_base.specs.Versions.{mark_of, same_tx, stamp}
@@ -25,11 +32,6 @@ use Rattle.str_base.specs.declared.names.TxId.{TxId}
 use Rattle.str_base.specs.declared.names.Value.{Value}
 use Rattle.str_base.specs.declared.names.Version.{Version}
 use Rattle.str_base.specs.declared.names.Write.{Write}
-use Rattle.str_model.proofs.Acting.{Act, Where}
-use Rattle.str_model.proofs.Everywhere.{IsSeen, Stage, at_place, during}
-use Rattle.str_model.proofs.Lists.{get_push, get_set, get_set_other, same_or_not}
-use Rattle.str_model.proofs.Members.{In, in_append, in_left, in_right, map_in}
-use Rattle.str_model.proofs.Operating.{gate_commits}
 use Rattle.str_model.specs.Acts.{fresh, in_phase, local_version, marks_in}
 use Rattle.str_model.specs.Gates.{CommitAt, dep_parts, gate_of}
 use Rattle.str_model.specs.Owned.{Owns}
@@ -42,7 +44,6 @@ use Rattle.str_model.specs.declared.names.KeyMark.{KeyMark}
 use Rattle.str_model.specs.declared.names.ReadDone.{ReadDone}
 use Rattle.str_scene.specs.SceneLimits.{IsScene}
 use Rattle.str_scene.specs.Scenes.{Here, Scene, hosts, in_part, is_master, part_of}
-use Rattle.str_model.proofs.Meeting.{filter_in}
 
 -- what becomes of a certified undecided transaction
 data OpenNext (here : Here) (d e : View) (j lc : ℕ) (x : Own) : Type 0 where

@@ -7,15 +7,21 @@ use Rattle.si_laws.proofs.GuardSent.{sent_up}
 use Rattle.si_laws.proofs.Guards.{FinalGuard, ReadGuard, committed_up, fg_none, fg_some, final_guard_up, rg_final, rg_gone, rg_open, rg_sent, there_d, there_e, written_up}
 use Rattle.si_laws.proofs.HomeMarks.{HomeMarked}
 use Rattle.si_laws.proofs.Linked.{one_of}
-use Rattle.si_laws.proofs.Marking.{marked_now}
+use Rattle.str_model.proofs.Marking.{marked_now}
 use Rattle.si_laws.proofs.Origins.{HasWritten}
-use Rattle.si_laws.proofs.Owners.{LocalOwner}
+use Rattle.str_model.proofs.Owners.{LocalOwner}
 use Rattle.si_laws.proofs.ReadLetters.{ReadLetter, is_other, letters_act, rl_commit, rl_other, rl_reply, rl_request}
 use Rattle.si_laws.proofs.ReadOrigins.{ReadOrigin, read_origin, ro_old, ro_read, ro_take}
 use Rattle.si_laws.proofs.ReadsBack.{ReplyBack, pb_came, pb_old, reply-act}
 use Rattle.si_laws.proofs.Replying.{HasRs, has_rs_stays}
 use Rattle.si_laws.proofs.Seeing.{ReadSees, ServeSees, clear_none, clear_seen, local-sees, locals_seen, plain-sees, sees_final, sees_local, sees_none, serve-sees, serves_final, serves_none}
-use Rattle.si_laws.proofs.Staying.{decided-step}
+use Rattle.str_model.proofs.Pairing.{decided-step}
+use Rattle.str_model.proofs.Acting.{Act, ComesToRead, IsAsked, ReadsTo, Where, asked_before, asked_now, to_final, to_local}
+use Rattle.str_model.proofs.Everywhere.{IsSeen, Sent, Stage, at_place, during, everywhere, stage_of}
+use Rattle.str_model.proofs.Gaining.{and_left, and_right}
+use Rattle.str_model.proofs.Lists.{get_set_other, got_replicate, got_set, same_or_not}
+use Rattle.str_model.proofs.Members.{In, in_append, in_at, in_left, in_right}
+use Rattle.str_model.proofs.Owning.{own_step}
 use Rattle.std.proofs.Common.{Bool, List, None, Option, Some, ap, arith, eqb-true, false, if◌then◌else◌, inl, inr, length, ltb-true, refl, replicate, slice_get, slice_set, subst, subst₂, suc, sym, true, ℕ, ◌&&◌, ◌++◌, ◌+◌, ◌<◌, ◌∙◌, ◌≡◌, ◌≢◌, ◌≤◌, ◌⊎◌}
 use Rattle.str_base.specs.Versions.{mark_of, same_node, stamp}
 use Rattle.str_base.specs.declared.names.KeyId.{KeyId}
@@ -26,12 +32,6 @@ use Rattle.str_base.specs.declared.names.Ts.{Ts}
 use Rattle.str_base.specs.declared.names.TxId.{TxId}
 use Rattle.str_base.specs.declared.names.Value.{Value}
 use Rattle.str_base.specs.declared.names.Version.{Version}
-use Rattle.str_model.proofs.Acting.{Act, ComesToRead, IsAsked, ReadsTo, Where, asked_before, asked_now, to_final, to_local}
-use Rattle.str_model.proofs.Everywhere.{IsSeen, Sent, Stage, at_place, during, everywhere, stage_of}
-use Rattle.str_model.proofs.Gaining.{and_left, and_right}
-use Rattle.str_model.proofs.Lists.{get_set_other, got_replicate, got_set, same_or_not}
-use Rattle.str_model.proofs.Members.{In, in_append, in_at, in_left, in_right}
-use Rattle.str_model.proofs.Owning.{own_step}
 use Rattle.str_model.specs.Owned.{Owns}
 use Rattle.str_model.specs.Returns.{own_named}
 use Rattle.str_model.specs.Runs.{opening, opening_view, run}

@@ -1,16 +1,20 @@
 -- The guard of a read by a Commit under way: it stays, and the Commit that comes brings the mark to the key's master.
 use Rattle.si_laws.proofs.Around.{Stand}
-use Rattle.si_laws.proofs.Carrying.{pair-is}
+use Rattle.str_model.proofs.Pairing.{pair-is}
 use Rattle.si_laws.proofs.Clearing.{Clear}
 use Rattle.si_laws.proofs.Grounds.{Committer, Grounds, committer}
 use Rattle.si_laws.proofs.Guards.{MarkSent, clear_some_up, open_not, there_d, there_e}
 use Rattle.si_laws.proofs.Linked.{one_certified, one_of}
-use Rattle.si_laws.proofs.Marking.{raise_all-rises}
+use Rattle.str_model.proofs.Marking.{raise_all-rises}
 use Rattle.si_laws.proofs.Masters.{IsBefore}
 use Rattle.si_laws.proofs.Origins.{HasWritten, Origin, og_came, og_commit, og_local, og_old, og_pre, origin}
 use Rattle.si_laws.proofs.ReadLetters.{ReadLetter, is_other, letters_act, rl_commit, rl_other, rl_reply, rl_request}
 use Rattle.si_laws.proofs.Reporting.{CommittedIn}
 use Rattle.si_laws.proofs.Settling.{came_above}
+use Rattle.str_model.proofs.Acting.{Act, Where}
+use Rattle.str_model.proofs.Everywhere.{IsSeen, Sent, Stage, at_place, during}
+use Rattle.str_model.proofs.Lists.{get_set_other, same_or_not}
+use Rattle.str_model.proofs.Members.{In, in_append, in_at, in_left, in_right}
 use Rattle.std.proofs.Common.{Bool, List, Some, [], ap, arith, eq-eqb, false, inl, inr, length, length-set, max, refl, slice_get, slice_index, slice_set, subst, subst₂, suc, sym, true, zero, ℕ, ◌++◌, ◌+◌, ◌<◌, ◌∙◌, ◌∷◌, ◌≡◌, ◌≢◌, ◌≤◌, ◌⊎◌}
 use Rattle.str_base.specs.Versions.{mark_of, raised, same_tx, stamp}
 use Rattle.str_base.specs.declared.names.KeyId.{KeyId}
@@ -20,10 +24,6 @@ use Rattle.str_base.specs.declared.names.Ts.{Ts}
 use Rattle.str_base.specs.declared.names.TxId.{TxId}
 use Rattle.str_base.specs.declared.names.Value.{Value}
 use Rattle.str_base.specs.declared.names.Version.{Version}
-use Rattle.str_model.proofs.Acting.{Act, Where}
-use Rattle.str_model.proofs.Everywhere.{IsSeen, Sent, Stage, at_place, during}
-use Rattle.str_model.proofs.Lists.{get_set_other, same_or_not}
-use Rattle.str_model.proofs.Members.{In, in_append, in_at, in_left, in_right}
 use Rattle.str_model.specs.Acts.{marks_in, raise_all}
 use Rattle.str_model.specs.Views.{Doing, Own, View, name_of}
 use Rattle.str_model.specs.declared.messages.Body.TheVariants.{Commit}
@@ -56,7 +56,7 @@ same_or_other t u = by_test (same_tx t u) refl
     same_names q = rw (eq-eqb t.node.0 u.node.0 (ap (λ (z : TxId). z.node.0) q), eq-eqb t.seq u.seq (ap (λ (z : TxId). z.seq) q)) refl
 
     by_test : (b : Bool) → same_tx t u ≡ b → (t ≡ u) ⊎ (t ≢ u)
-    by_test true e = inl (Rattle.si_laws.proofs.Around.same_tx-is t u e)
+    by_test true e = inl (Rattle.str_model.proofs.Pairing.same_tx-is t u e)
     by_test false e = inr (λ q. absurd (cc (same_names q, e)))
 
 module _ (scene : Scene) (s : Stage) (i : ℕ) (v : View) (input : Input) (w : Where) (d e : Doing) (is : slice_get s.nodes i ≡ Some v) (seen : IsSeen s input)

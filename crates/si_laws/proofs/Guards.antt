@@ -1,15 +1,19 @@
 -- Guards of reads in a state of a run, and that a single change keeps the guard at a node.
 use Rattle.si_laws.proofs.Arriving.{ArrivedAs, IsOf, a_final, a_pre, committed_stands}
 use Rattle.si_laws.proofs.Around.{Around, Stand, final_below, final_late, local_above, local_below}
-use Rattle.si_laws.proofs.Carrying.{decides_far, pair-is}
+use Rattle.str_model.proofs.Pairing.{decides_far, pair-is}
 use Rattle.si_laws.proofs.Clearing.{Clear, LocalsClear, NoneUnder, clear_stays}
 use Rattle.si_laws.proofs.Grounds.{Grounds, committed_write, committer}
 use Rattle.si_laws.proofs.Linked.{one_of}
 use Rattle.si_laws.proofs.Origins.{HasWritten, Origin, has_written_stays, og_came, og_commit, og_local, og_old, og_pre, origin}
-use Rattle.si_laws.proofs.Owners.{open-fate, same_own}
+use Rattle.str_model.proofs.Owners.{open-fate, same_own}
 use Rattle.si_laws.proofs.ReadLetters.{marks_act}
 use Rattle.si_laws.proofs.Reporting.{CommittedIn, lift_c}
 use Rattle.si_laws.proofs.Settling.{all_moved, own_local}
+use Rattle.str_model.proofs.Acting.{Act, Where}
+use Rattle.str_model.proofs.Everywhere.{IsSeen, Stage, at_place, during}
+use Rattle.str_model.proofs.Lists.{get_set, get_set_other, got_set}
+use Rattle.str_model.proofs.Members.{In}
 use Rattle.si_laws.specs.Standing.{IsAborted}
 use Rattle.std.proofs.Common.{List, None, Option, Some, [], add-sub_cancel, ap, arith, false, inl, inr, refl, slice_get, slice_set, subst, subst₂, sym, true, ℕ, ◌++◌, ◌+◌, ◌-◌, ◌<◌, ◌∙◌, ◌∷◌, ◌≡◌, ◌≢◌, ◌≤◌, ◌⊎◌}
 use Rattle.str_base.specs.declared.names.KeyId.{KeyId}
@@ -21,10 +25,6 @@ use Rattle.str_base.specs.declared.names.Value.TheVariants.{Absent}
 use Rattle.str_base.specs.declared.names.Value.{Value}
 use Rattle.str_base.specs.declared.names.Version.{Version}
 use Rattle.str_base.specs.declared.names.Write.{Write}
-use Rattle.str_model.proofs.Acting.{Act, Where}
-use Rattle.str_model.proofs.Everywhere.{IsSeen, Stage, at_place, during}
-use Rattle.str_model.proofs.Lists.{get_set, get_set_other, got_set}
-use Rattle.str_model.proofs.Members.{In}
 use Rattle.str_model.specs.Owned.{Owns}
 use Rattle.str_model.specs.Turns.{CommittedAt, own_fate}
 use Rattle.str_model.specs.Turns
@@ -157,7 +157,7 @@ module _ (scene : Scene) (s : Stage) (i : ℕ) (v : View) (input : Input) (w : W
       st : Stand (at_place scene i) d.view
       st = h.governed_.stand i d.view there_d
 
-      ow : Rattle.si_laws.proofs.Owners.LocalOwner (at_place scene i) d.view p
+      ow : Rattle.str_model.proofs.Owners.LocalOwner (at_place scene i) d.view p
       ow = st.base.locals p j loc
 
       by_origin : p.ts.0 ≤ f → Origin (at_place scene i) input d e q → (q.tx ≡ u) ⊎ ((q.kind ≢ Pre) × (q.ts.0 ≤ f))

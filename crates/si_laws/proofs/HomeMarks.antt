@@ -12,7 +12,7 @@ use Rattle.str_model.specs.declared.names.ReadDone.{ReadDone}
 use Rattle.str_base.specs.declared.names.Value.{Value}
 use Rattle.dependency_set.specs.Snapshots.{Snap}
 use Rattle.str_model.specs.Acts.{abort_came, aborted, accepted, acked, asked, begun, certified, closed, commit_came, committed, fresh, in_phase, marked, refused, replied, requested, taken, waits, with_asked}
-use Rattle.str_model.specs.Owned.{IsView, Owns}
+use Rattle.str_model.specs.Owned.{IsView, Owns, WaitsFor}
 use Rattle.str_model.specs.Runs.{opening_view, run}
 use Rattle.str_model.specs.Scripts.{noted, own_op}
 use Rattle.str_model.specs.Turns.{Plain, Speculative, reply_turn}
@@ -23,9 +23,9 @@ use Rattle.str_model.proofs.Everywhere.{at_each_event, at_place}
 use Rattle.str_model.proofs.Gaining.{TurnGood, read_turn-good, reply_turn-good}
 use Rattle.str_model.proofs.Lists.{got_push, got_set}
 use Rattle.str_model.proofs.Members.{In, in_append, in_at}
-use Rattle.si_laws.specs.Laws.Marks.{MarkedAtHome, ReadsKey, WaitsFor}
 use Rattle.si_laws.proofs.AroundActs.{cert_rs}
-use Rattle.si_laws.proofs.Marking.{Looks, LooksLess, Rises, finish-looks, finish_next-looks, marked_now, need_within, raise_all-rises, raised-rises, rises_self, same_key-is}
+use Rattle.str_model.proofs.Marking.{Looks, LooksLess, Rises, finish-looks, finish_next-looks, marked_now, need_within, raise_all-rises, raised-rises, rises_self, same_key-is}
+use Rattle.si_laws.specs.Laws.Marks.{MarkedAtHome, ReadsKey}
 
 -- The mark of each key that an own transaction has read or waits for is at least its timestamp, and the key is one of the scene. Why: a later
 -- version of the key here gets a timestamp above the mark, so it stays above the snapshot.

@@ -1,14 +1,14 @@
 -- Versions of a key stand in order of their timestamps, at every moment; so the last one at or below a timestamp is the greatest.
-use Rattle.si_laws.proofs.Parts.{VersionStep, v_decided, v_finals, v_locals, v_pres, v_rests, v_without, version_step}
+use Rattle.str_model.proofs.Parts.{VersionStep, v_decided, v_finals, v_locals, v_pres, v_rests, v_without, version_step}
+use Rattle.str_model.proofs.Acting.{Act, Where}
+use Rattle.str_model.proofs.Gaining.{and_left, and_right, in_last}
+use Rattle.str_model.proofs.Meeting.{filter_in}
+use Rattle.str_model.proofs.Members.{In, in_filter, in_insert}
 use Rattle.std.proofs.Common.{Bool, List, None, Option, Some, [], arith, eq-eqb, eqb-true, false, filter, if◌then◌else◌, inl, inr, le-leb, leb-true, lt-ltb, ltb-false, ltb-true, map, nat_le, nat_lt, not, refl, subst, sym, true, ℕ, ◌&&◌, ◌<◌, ◌==◌, ◌||◌, ◌∙◌, ◌∷◌, ◌≡◌, ◌≤◌, ◌⊎◌, ap}
 use Rattle.std.specs.List.{last_or}
 use Rattle.str_base.specs.Versions.{insert_all, insert_version, is_before, is_pre, is_undecided, last_pre, last_undecided, of_pair, of_tx, same_key, settled, tx_before, visible, without}
 use Rattle.str_base.specs.declared.names.KeyId.{KeyId}
 use Rattle.str_base.specs.declared.names.Version.{Version}
-use Rattle.str_model.proofs.Acting.{Act, Where}
-use Rattle.str_model.proofs.Gaining.{and_left, and_right, in_last}
-use Rattle.str_model.proofs.Meeting.{filter_in}
-use Rattle.str_model.proofs.Members.{In, in_filter, in_insert}
 use Rattle.str_model.specs.Acts.{is_hosted_of, local_version, pre_version}
 use Rattle.str_model.specs.Views.{Doing, name_of}
 use Rattle.str_model.specs.declared.messages.Input.{Input}

@@ -9,9 +9,12 @@ use Rattle.si_laws.proofs.NextAnswer.{Covered, Keeps}
 use Rattle.si_laws.proofs.Origins.{HasWritten}
 use Rattle.si_laws.proofs.ReadsSeen.{IsAbove, IsRight, Reads, of_none, of_one, reads_keep, reads_seen, top_of}
 use Rattle.si_laws.proofs.Reporting.{CommittedIn}
-use Rattle.si_laws.proofs.Scripting.{ScriptGood, scripts_after}
-use Rattle.si_laws.proofs.Stages.{has_at}
-use Rattle.si_laws.specs.Commits.{seen, wrote_key}
+use Rattle.str_model.proofs.Scripting.{ScriptGood, scripts_after}
+use Rattle.str_model.proofs.Pairing.{has_at}
+use Rattle.str_model.proofs.Everywhere.{at_place, stage_of}
+use Rattle.str_model.proofs.Members.{In, at_in, in_at}
+use Rattle.si_laws.specs.Commits.{seen}
+use Rattle.str_model.specs.Owned.{wrote_key}
 use Rattle.si_laws.specs.SnapshotIsolation.{IsAnswer, IsCommittedAt, SI}
 use Rattle.std.proofs.Common.{List, None, Option, Some, ap, arith, eq-eqb, find, inl, inr, refl, subst, sym, take, true, ℕ, ◌<◌, ◌∙◌, ◌≡◌, ◌≤◌, ◌⊎◌}
 use Rattle.str_base.specs.Versions.{same_key, stamp}
@@ -21,8 +24,6 @@ use Rattle.str_base.specs.declared.names.TxId.{TxId}
 use Rattle.str_base.specs.declared.names.Value.TheVariants.{Absent}
 use Rattle.str_base.specs.declared.names.Value.{Value}
 use Rattle.str_base.specs.declared.names.Write.{Write}
-use Rattle.str_model.proofs.Everywhere.{at_place, stage_of}
-use Rattle.str_model.proofs.Members.{In, at_in, in_at}
 use Rattle.str_model.specs.Evaluation.{AtEnd, Evaluated, Unmet, eval, write_or}
 use Rattle.str_model.specs.Runs.{run}
 use Rattle.str_model.specs.Scripts.{own_op}

@@ -13,10 +13,14 @@ use Rattle.si_laws.proofs.NextHolds.{si_next, si_none}
 use Rattle.si_laws.proofs.Overlapping.{key_of_table, master_of, script_op}
 use Rattle.si_laws.proofs.ReadsSeen.{reads_seen}
 use Rattle.si_laws.proofs.CommitOrder.{named}
-use Rattle.si_laws.proofs.Isolating
-use Rattle.si_laws.proofs.Scripting.{scripts_after}
+use Rattle.str_model.proofs.Scripting.{scripts_after}
 use Rattle.si_laws.proofs.SessionAnswers.{session_holds}
-use Rattle.si_laws.specs.Commits.{seen, wrote_key}
+use Rattle.str_model.proofs.Everywhere.{at_place, stage_of}
+use Rattle.str_model.proofs.Lists.{same_or_not}
+use Rattle.str_model.proofs.Telling.{outcome_of}
+use Rattle.si_laws.proofs.Isolating
+use Rattle.si_laws.specs.Commits.{seen}
+use Rattle.str_model.specs.Owned.{wrote_key}
 use Rattle.si_laws.specs.SnapshotIsolation.{IsAnswer, IsCommittedAt, IsCommittedSnapshot, IsFinal, IsWish, SI, SIRun}
 use Rattle.std.proofs.Common.{List, None, Option, Some, [], ap, arith, inl, inr, length, option_map, refl, slice_get, subst, subst₂, suc, sym, take, true, zero, ℕ, ◌++◌, ◌+◌, ◌<◌, ◌∙◌, ◌∷◌, ◌≡◌, ◌≢◌, ◌≤◌, ◌⊎◌}
 use Rattle.str_base.specs.Versions.{stamp}
@@ -30,9 +34,6 @@ use Rattle.str_base.specs.declared.names.Ts.{Ts}
 use Rattle.str_base.specs.declared.names.TxId.{TxId}
 use Rattle.str_base.specs.declared.names.Value.{Value}
 use Rattle.str_base.specs.declared.names.Version.{Version}
-use Rattle.str_model.proofs.Everywhere.{at_place, stage_of}
-use Rattle.str_model.proofs.Lists.{same_or_not}
-use Rattle.str_model.proofs.Telling.{outcome_of}
 use Rattle.str_model.specs.Evaluation.{Evaluated, eval}
 use Rattle.str_model.specs.Runs.{run}
 use Rattle.str_model.specs.Scripts.{own_op}

@@ -27,7 +27,7 @@ use Rattle.str_model.proofs.Acting.{Act, Comes, IsHere, Serves, Where, act_abort
 use Rattle.str_model.proofs.Gaining.{if_elim}
 use Rattle.str_model.proofs.Lists.{get_set}
 use Rattle.str_model.proofs.Members.{In, in_append, in_filter, in_insert_all, in_map, in_without}
-use Rattle.si_laws.proofs.Carrying.{hosted_name, pair-is}
+use Rattle.str_model.proofs.Pairing.{hosted_name, pair-is}
 
 -- where a new message comes from
 pub data LetterFrom (here : Here) (input : Input) (d e : Doing) (b : Body) : Type 0 where

@@ -1,11 +1,15 @@
 -- What messages, replicas and origins have to do with one another, in every state of a run.
 use Rattle.partition_map.specs.declared.rows.Asked.{Asked}
-use Rattle.si_laws.proofs.Homes.{AtHome}
+use Rattle.str_model.proofs.Homes.{AtHome}
 use Rattle.si_laws.proofs.Sending.{AreMarked}
-use Rattle.si_laws.proofs.Pairs.{AtMaster, Quiet}
-use Rattle.si_laws.proofs.Stages.{Has}
-use Rattle.si_laws.proofs.Staying.{decided-step}
-use Rattle.si_laws.proofs.Turning.{OwnChange, o_aborts, o_acks, o_asks, o_begins, o_certifies, o_closes, o_commits, o_puts, o_rests, own_change}
+use Rattle.str_model.proofs.Pairs.{AtMaster, Quiet}
+use Rattle.str_model.proofs.Pairing.{Has, decided-step}
+use Rattle.str_model.proofs.Turning.{OwnChange, o_aborts, o_acks, o_asks, o_begins, o_certifies, o_closes, o_commits, o_puts, o_rests, own_change}
+use Rattle.str_model.proofs.Acting.{Act, Where}
+use Rattle.str_model.proofs.Everywhere.{Stage, at_place, during}
+use Rattle.str_model.proofs.Lists.{get_push, get_set, get_set_other, got_set, same_or_not}
+use Rattle.str_model.proofs.Members.{In}
+use Rattle.str_model.proofs.Owning.{own_step}
 use Rattle.std.proofs.Common.{List, Option, Some, ap, arith, filter, inl, inr, refl, slice_get, slice_set, subst, subst₂, sym, true, ℕ, ◌+◌, ◌∙◌, ◌≡◌, ◌≢◌, ◌⊎◌}
 use Rattle.str_base.specs.Versions.{settled}
 use Rattle.str_base.specs.declared.names.Cause.{Cause}
@@ -16,11 +20,6 @@ use Rattle.str_base.specs.declared.names.Ts.{Ts}
 use Rattle.str_base.specs.declared.names.TxId.{TxId}
 use Rattle.str_base.specs.declared.names.Version.{Version}
 use Rattle.str_base.specs.declared.names.Write.{Write}
-use Rattle.str_model.proofs.Acting.{Act, Where}
-use Rattle.str_model.proofs.Everywhere.{Stage, at_place, during}
-use Rattle.str_model.proofs.Lists.{get_push, get_set, get_set_other, got_set, same_or_not}
-use Rattle.str_model.proofs.Members.{In}
-use Rattle.str_model.proofs.Owning.{own_step}
 use Rattle.str_model.specs.Acts.{fresh}
 use Rattle.str_model.specs.Owned.{Owns}
 use Rattle.str_model.specs.Proposals.{is_pair}

@@ -1,13 +1,19 @@
 -- Each single change keeps what messages, replicas and origins have to do with one another.
 use Rattle.partition_map.specs.declared.rows.Asked.{Asked}
 use Rattle.si_laws.proofs.Acks.{comes_some}
-use Rattle.si_laws.proofs.Homes.{OwnGood}
+use Rattle.str_model.proofs.Homes.{OwnGood}
 use Rattle.si_laws.proofs.Sending.{AsksWith, NewLetter, as_prepare, as_replicate, is_plain, letter_step, n_abort, n_ack, n_ask, n_commit, n_copy, n_plain}
 use Rattle.si_laws.proofs.Linked.{Acknowledged, AreWrites, IsCertified, IsDecidedAs, Kept, Linked, Told, certified_stays, decided_stays, k_ended, k_stands, one_of, pre_of}
 use Rattle.si_laws.proofs.PairSteps.{PairStep, pair_step, ps_aborts, ps_commits, ps_refused, ps_rests}
-use Rattle.si_laws.proofs.Pairs.{Knows, here_unknown, one_pair, unknown_not}
-use Rattle.si_laws.proofs.Parts.{Placed, by_master, by_slave, sent_step}
-use Rattle.si_laws.proofs.Stages.{Has, done-act, same_pair}
+use Rattle.str_model.proofs.Pairs.{Knows, here_unknown, one_pair, unknown_not}
+use Rattle.str_model.proofs.Parts.{Placed, by_master, by_slave, sent_step}
+use Rattle.str_model.proofs.Pairing.{Has, same_pair}
+use Rattle.si_laws.proofs.Stages.{done-act}
+use Rattle.str_model.proofs.Acting.{Act, Comes, IsHere, Where, it_comes, it_waits}
+use Rattle.str_model.proofs.Everywhere.{IsSeen, Sent, Stage, at_place, during}
+use Rattle.str_model.proofs.Gaining.{and_left}
+use Rattle.str_model.proofs.Lists.{get_set, get_set_other, got_set}
+use Rattle.str_model.proofs.Members.{In, in_all_new, in_append, in_at, in_left, in_right, map_in}
 use Rattle.std.proofs.Common.{List, Some, ap, arith, eq-eqb, eqb-true, false, filter, inl, inr, map, refl, slice_get, slice_set, subst, subst₂, sym, true, ℕ, ◌&&◌, ◌++◌, ◌+◌, ◌∙◌, ◌∷◌, ◌≡◌, ◌≢◌, ◌⊎◌}
 use Rattle.str_base.specs.Versions.{insert_all, of_pair, same_node, same_part, same_tx, settled, stamp}
 use Rattle.str_base.specs.declared.names.NodeId.{NodeId}
@@ -16,15 +22,9 @@ use Rattle.str_base.specs.declared.names.Ts.{Ts}
 use Rattle.str_base.specs.declared.names.TxId.{TxId}
 use Rattle.str_base.specs.declared.names.Version.{Version}
 use Rattle.str_base.specs.declared.names.Write.{Write}
-use Rattle.str_model.proofs.Acting.{Act, Comes, IsHere, Where, it_comes, it_waits}
-use Rattle.str_model.proofs.Everywhere.{IsSeen, Sent, Stage, at_place, during}
-use Rattle.str_model.proofs.Gaining.{and_left}
-use Rattle.str_model.proofs.Lists.{get_set, get_set_other, got_set}
-use Rattle.str_model.proofs.Members.{In, in_all_new, in_append, in_at, in_flat_map, in_left, in_map, in_right, map_in}
 use Rattle.str_model.specs.Acts.{in_phase, pre_version}
 use Rattle.str_model.specs.Owned.{Owns}
 use Rattle.str_model.specs.Proposals.{is_pair}
-use Rattle.str_model.specs.Strange
 use Rattle.str_model.specs.Strange.{has_named, has_node}
 use Rattle.str_model.specs.Views.{Aborted, Committed, Doing, Own, View, is_decided, lc_of, name_of}
 use Rattle.str_model.specs.declared.messages.Arrived.{Arrived}
@@ -35,7 +35,8 @@ use Rattle.str_model.specs.declared.messages.Input.{Input}
 use Rattle.str_model.specs.declared.messages.Message.{Message}
 use Rattle.str_model.specs.declared.messages.Waiter.TheVariants.{Held}
 use Rattle.str_model.specs.declared.names.KeyMark.{KeyMark}
-use Rattle.str_scene.specs.Scenes.{Scene, in_part, others, participants, replicas, unasked, written_parts}
+use Rattle.str_scene.specs.Scenes.{Scene, in_part}
+use Rattle.str_model.specs.Strange
 
 -- a version of the pair stands where the pair is kept
 pub kept_known : (scene : Scene) (s : Stage) (v : View) (tx : TxId) (p : PartId) (ts : Ts) (ws : List Write) → (w : Write) × In w ws → Kept scene s v tx p ts ws → Knows tx p v
@@ -76,11 +77,6 @@ asks_told scene s from to tx p rs lc all b as_replicate c = (all, c, refl)
 
 not_same : (a b : NodeId) → same_node a b ≡ false → a.0 ≢ b.0
 not_same a b f e = cc (eq-eqb a.0 b.0 e, f)
-
-pub unasked_none : (scene : Scene) (n : NodeId) (ws : List Write) (a : Asked) (ts : Ts) → In a (participants scene n ws) → a.ack ≡ Some ts → ⊥
-unasked_none scene n ws a ts h e =
-    let r = in_flat_map (λ (p : PartId). map (unasked p) (others n (replicas scene p))) (written_parts scene ws) a h in
-    let m = in_map (unasked r.0) (others n (replicas scene r.0)) a r.2 in cc (ap (λ (z : Asked). z.ack) m.2, e)
 
 module _ (scene : Scene) (s : Stage) (i : ℕ) (v : View) (input : Input) (w : Where) (d e : Doing) (is : slice_get s.nodes i ≡ Some v) (seen : IsSeen s input) (act : Act (at_place scene i) input w d e)
     (h : Linked scene (during s i d)) where

@@ -2,13 +2,17 @@
 use Rattle.partition_map.specs.declared.rows.Asked.{Asked}
 use Rattle.si_laws.proofs.Acks.{comes_some}
 use Rattle.si_laws.proofs.Asking.{pre_from}
-use Rattle.si_laws.proofs.Homes.{AckStep, AtHome, a_new, a_old, acked_parts, asked_part, home-step}
+use Rattle.str_model.proofs.Homes.{AckStep, AtHome, a_new, a_old, acked_parts, asked_part, home-step}
 use Rattle.si_laws.proofs.Linked.{AckSent, AreWrites, Linked}
-use Rattle.si_laws.proofs.Linking.{came, unasked_none, came_told, known_by_commit, node_e, placed_unknown, sent_more, there_d, told_e, writes_stay}
-use Rattle.si_laws.proofs.Pairs.{AtMaster, DoneNow, Knows, Quiet, d_aborts, d_commits, d_refused, d_was, done_back, one_pair, quiet_step}
-use Rattle.si_laws.proofs.Parts.{WaitStep, by_master, version_step, w_fewer, w_more, wait_step}
-use Rattle.si_laws.proofs.Stages.{Has, same_pair}
-use Rattle.si_laws.proofs.Turning.{OwnChange, o_aborts, o_acks, o_asks, o_begins, o_certifies, o_closes, o_commits, o_puts, o_rests, own_change}
+use Rattle.si_laws.proofs.Linking.{came, came_told, known_by_commit, node_e, placed_unknown, sent_more, there_d, told_e, writes_stay}
+use Rattle.str_model.proofs.Pairing.{unasked_none, Has, same_pair}
+use Rattle.str_model.proofs.Pairs.{AtMaster, DoneNow, Knows, Quiet, d_aborts, d_commits, d_refused, d_was, done_back, one_pair, quiet_step}
+use Rattle.str_model.proofs.Parts.{WaitStep, by_master, version_step, w_fewer, w_more, wait_step}
+use Rattle.str_model.proofs.Turning.{OwnChange, o_aborts, o_acks, o_asks, o_begins, o_certifies, o_closes, o_commits, o_puts, o_rests, own_change}
+use Rattle.str_model.proofs.Acting.{Act, Arrives, IsMasters, Where, a_prepare, a_read}
+use Rattle.str_model.proofs.Everywhere.{IsSeen, Stage, at_place, during, everywhere, stage_of}
+use Rattle.str_model.proofs.Lists.{got_push, got_replicate, got_set}
+use Rattle.str_model.proofs.Members.{In, in_append, in_filter, in_insert_all, in_left, in_map}
 use Rattle.std.proofs.Common.{List, Some, [], ap, arith, eqb-true, filter, inl, inr, map, not, refl, replicate, slice_get, slice_set, subst, subst₂, sym, true, ℕ, ◌&&◌, ◌+◌, ◌∙◌, ◌∷◌, ◌≡◌, ◌≢◌}
 use Rattle.str_base.specs.Versions.{of_pair, same_part, same_tx, settled, without}
 use Rattle.str_base.specs.declared.names.Kind.TheVariants.{Pre}
@@ -18,10 +22,6 @@ use Rattle.str_base.specs.declared.names.Ts.{Ts}
 use Rattle.str_base.specs.declared.names.TxId.{TxId}
 use Rattle.str_base.specs.declared.names.Version.{Version}
 use Rattle.str_base.specs.declared.names.Write.{Write}
-use Rattle.str_model.proofs.Acting.{Act, Arrives, IsMasters, Where, a_prepare, a_read}
-use Rattle.str_model.proofs.Everywhere.{IsSeen, Stage, at_place, during, everywhere, stage_of}
-use Rattle.str_model.proofs.Lists.{got_push, got_replicate, got_set}
-use Rattle.str_model.proofs.Members.{In, in_append, in_filter, in_insert_all, in_left, in_map}
 use Rattle.str_model.specs.Acts.{fresh, with_asked}
 use Rattle.str_model.specs.Owned.{Owns}
 use Rattle.str_model.specs.Proposals.{is_pair}

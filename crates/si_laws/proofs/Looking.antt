@@ -6,7 +6,8 @@ use Rattle.str_base.specs.declared.names.Value.TheVariants.{Absent}
 use Rattle.str_model.specs.declared.messages.Answer.{Answer}
 use Rattle.str_model.specs.declared.messages.Outcome.{Outcome}
 use Rattle.str_model.specs.declared.messages.Outcome.TheVariants.{Aborted, Committed}
-use Rattle.si_laws.specs.Commits.{Commit, Member, commits, counts_for, evaluated, fc_before, look_up, member_of, members, seen, wrote_key, written_value}
+use Rattle.si_laws.specs.Commits.{Commit, Member, commits, counts_for, evaluated, fc_before, look_up, member_of, members, seen, written_value}
+use Rattle.str_model.specs.Owned.{wrote_key}
 use Rattle.str_model.specs.Evaluation.{write_or}
 use Rattle.str_scene.specs.Scenes.{Scene}
 use Rattle.si_laws.specs.SnapshotIsolation.{IsCommittedAt}

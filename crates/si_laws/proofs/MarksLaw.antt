@@ -12,6 +12,11 @@ use Rattle.si_laws.proofs.Replying.{HasRs, has_rs_stays, marked_by_reply, rs_of}
 use Rattle.si_laws.proofs.Seats.{of_nth, own_seat, to_nth}
 use Rattle.si_laws.proofs.SessionLaw.{get_within, good_everywhere}
 use Rattle.si_laws.proofs.Sourcing.{Sourced, WroteKey, sourced_opening, sourced_step, wrote_stays}
+use Rattle.str_model.proofs.Everywhere.{at_place, stage_of}
+use Rattle.str_model.proofs.Later.{Took, at_each_moment, moment_of, took}
+use Rattle.str_model.proofs.Lists.{get_set}
+use Rattle.str_model.proofs.Members.{In, at_in, in_at}
+use Rattle.str_model.proofs.Onward.{onward}
 use Rattle.si_laws.specs.Laws.Marks.{CarriesMark, IsMarked, MarkUnderWay, MarkedByCommit, MarksHold, ReadWhileOpen}
 use Rattle.si_laws.specs.Laws.Presence.{Decides}
 use Rattle.si_laws.specs.Standing.{Begun, IsCommitted}
@@ -22,11 +27,6 @@ use Rattle.str_base.specs.declared.names.NodeId.{NodeId}
 use Rattle.str_base.specs.declared.names.PartId.{PartId}
 use Rattle.str_base.specs.declared.names.TxId.{TxId}
 use Rattle.str_base.specs.Versions.{mark_of}
-use Rattle.str_model.proofs.Everywhere.{at_place, stage_of}
-use Rattle.str_model.proofs.Later.{Took, at_each_moment, moment_of, took}
-use Rattle.str_model.proofs.Lists.{get_set}
-use Rattle.str_model.proofs.Members.{In, at_in, in_at}
-use Rattle.str_model.proofs.Onward.{onward}
 use Rattle.str_model.specs.declared.messages.Body.{Body}
 use Rattle.str_model.specs.declared.messages.Body.TheVariants.{Abort, Ack, Commit, Prepare, ReadReply, ReadReq, Refuse as Refusal, Replicate}
 use Rattle.str_model.specs.declared.messages.Message.{Message}

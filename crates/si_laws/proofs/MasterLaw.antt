@@ -1,6 +1,7 @@
 -- The order of versions at a master, over every run.
 use Rattle.si_laws.proofs.Apart.{around_after, stand_after, stand_opening}
-use Rattle.si_laws.proofs.Around.{AroundAfter, Stand, after_above, after_below, after_final, same_tx-is}
+use Rattle.si_laws.proofs.Around.{AroundAfter, Stand, after_above, after_below, after_final}
+use Rattle.str_model.proofs.Pairing.{same_tx-is}
 use Rattle.si_laws.proofs.AroundActs.{stand-act}
 use Rattle.si_laws.proofs.Arriving.{begun_at}
 use Rattle.si_laws.proofs.Linked.{IsCertified, Linked, one_certified, one_of}
@@ -8,6 +9,10 @@ use Rattle.si_laws.proofs.LinkingAll.{linked, linked_step}
 use Rattle.si_laws.proofs.Masters.{Masters}
 use Rattle.si_laws.proofs.MasterOrder.{masters_step}
 use Rattle.si_laws.proofs.Seats.{of_nth}
+use Rattle.str_model.proofs.Acting.{Act, Where}
+use Rattle.str_model.proofs.Everywhere.{IsSeen, Stage, at_place, during, everywhere, stage_of}
+use Rattle.str_model.proofs.Lists.{get_set, get_set_other, got_replicate, got_set}
+use Rattle.str_model.proofs.Members.{In, in_at}
 use Rattle.si_laws.specs.Commits.{seen}
 use Rattle.si_laws.specs.Laws.Apart.{IsOrdered, OnePre, OrderAtMaster, OrderHolds}
 use Rattle.si_laws.specs.Standing.{Begun}
@@ -19,10 +24,6 @@ use Rattle.str_base.specs.declared.names.NodeId.{NodeId}
 use Rattle.str_base.specs.declared.names.TxId.{TxId}
 use Rattle.str_base.specs.declared.names.Version.{Version}
 use Rattle.str_base.specs.declared.names.Write.{Write}
-use Rattle.str_model.proofs.Acting.{Act, Where}
-use Rattle.str_model.proofs.Everywhere.{IsSeen, Stage, at_place, during, everywhere, stage_of}
-use Rattle.str_model.proofs.Lists.{get_set, get_set_other, got_replicate, got_set}
-use Rattle.str_model.proofs.Members.{In, in_at}
 use Rattle.str_model.specs.Owned.{Owns}
 use Rattle.str_model.specs.Runs.{opening, opening_view, run}
 use Rattle.str_model.specs.Views.{Doing, Own, View}

@@ -1,12 +1,17 @@
 -- Each single change keeps the order of versions at a master.
 use Rattle.dependency_set.specs.declared.names.Dep.{Dep}
 use Rattle.si_laws.proofs.Around.{Around, FinalKnown, Stand, far_final, final_below, final_late, local_above, local_below, own_final}
-use Rattle.si_laws.proofs.Carrying.{decides_far, not_done, pair-is}
+use Rattle.str_model.proofs.Pairing.{decides_far, not_done, pair-is}
 use Rattle.si_laws.proofs.Linked.{IsCertified, Linked, certified_stays}
-use Rattle.si_laws.proofs.Mastering.{AreDistinct, VersionAct, comes_distinct, va_accept, va_came, va_commit, va_fewer, va_locals, va_take, version_act}
+use Rattle.str_model.proofs.Mastering.{AreDistinct, VersionAct, comes_distinct, va_accept, va_came, va_commit, va_fewer, va_locals, va_take, version_act}
 use Rattle.si_laws.proofs.Masters.{IsBefore, Masters, at_d, by_kind, either_stays, foreign_e, one_e, parts_e, writes_of}
-use Rattle.si_laws.proofs.Owners.{open-fate}
-use Rattle.si_laws.proofs.Parts.{WaitStep, by_master, w_fewer, w_more, wait_step}
+use Rattle.str_model.proofs.Owners.{open-fate}
+use Rattle.str_model.proofs.Parts.{WaitStep, by_master, w_fewer, w_more, wait_step}
+use Rattle.str_model.proofs.Acting.{Act, Arrives, IsHere, Where, a_prepare, a_read}
+use Rattle.str_model.proofs.Everywhere.{IsSeen, Stage, at_place, during}
+use Rattle.str_model.proofs.Lists.{get_set_other, got_set}
+use Rattle.str_model.proofs.Meeting.{accept_met}
+use Rattle.str_model.proofs.Members.{In, in_append}
 use Rattle.std.proofs.Common.{List, Some, [], ap, arith, false, inl, inr, refl, slice_get, slice_set, subst, sym, true, ℕ, ◌+◌, ◌-◌, ◌∙◌, ◌∷◌, ◌≡◌, ◌≢◌, ◌⊎◌}
 use Rattle.str_base.specs.Versions.{is_undecided, of_pair, settled}
 use Rattle.str_base.specs.declared.names.Kind.TheVariants.{Final, Local as LocalKind, Pre}
@@ -17,11 +22,6 @@ use Rattle.str_base.specs.declared.names.Ts.{Ts}
 use Rattle.str_base.specs.declared.names.TxId.{TxId}
 use Rattle.str_base.specs.declared.names.Version.{Version}
 use Rattle.str_base.specs.declared.names.Write.{Write}
-use Rattle.str_model.proofs.Acting.{Act, Arrives, IsHere, Where, a_prepare, a_read}
-use Rattle.str_model.proofs.Everywhere.{IsSeen, Stage, at_place, during}
-use Rattle.str_model.proofs.Lists.{get_set_other, got_set}
-use Rattle.str_model.proofs.Meeting.{accept_met}
-use Rattle.str_model.proofs.Members.{In, in_append}
 use Rattle.str_model.specs.Acts.{pre_version}
 use Rattle.str_model.specs.Owned.{Owns}
 use Rattle.str_model.specs.Proposals.{Accept, master_turn}

@@ -1,11 +1,14 @@
 -- The order of versions at a master, over every run.
 use Rattle.si_laws.proofs.Around.{Stand}
-use Rattle.si_laws.proofs.Carrying.{same_part-is}
+use Rattle.str_model.proofs.Pairing.{same_part-is, same_pair}
 use Rattle.si_laws.proofs.Linked.{AreWrites, IsCertified, Linked, certified_stays}
 use Rattle.si_laws.proofs.Linking.{placed_foreign, placed_unknown, placed_writes}
-use Rattle.si_laws.proofs.Mastering.{AreDistinct, VersionAct, comes_distinct, one_write, va_accept, va_came, va_commit, va_fewer, va_locals, va_take, version_act}
-use Rattle.si_laws.proofs.Parts.{Placed, by_master, by_slave}
-use Rattle.si_laws.proofs.Stages.{same_pair}
+use Rattle.str_model.proofs.Mastering.{AreDistinct, VersionAct, comes_distinct, one_write, va_accept, va_came, va_commit, va_fewer, va_locals, va_take, version_act}
+use Rattle.str_model.proofs.Parts.{Placed, by_master, by_slave}
+use Rattle.str_model.proofs.Acting.{Act, Where, it_comes, it_waits}
+use Rattle.str_model.proofs.Everywhere.{IsSeen, Stage, at_place, during}
+use Rattle.str_model.proofs.Lists.{get_set}
+use Rattle.str_model.proofs.Members.{In, in_filter, in_right}
 use Rattle.std.proofs.Common.{List, Some, ap, inl, inr, refl, slice_get, slice_set, subst, sym, true, ℕ, ◌+◌, ◌∙◌, ◌∷◌, ◌≡◌, ◌≢◌, ◌≤◌, ◌⊎◌}
 use Rattle.str_base.specs.Versions.{settled}
 use Rattle.str_base.specs.declared.names.Kind.TheVariants.{Final, Local as LocalKind, Pre}
@@ -14,10 +17,6 @@ use Rattle.str_base.specs.declared.names.PartId.{PartId}
 use Rattle.str_base.specs.declared.names.TxId.{TxId}
 use Rattle.str_base.specs.declared.names.Version.{Version}
 use Rattle.str_base.specs.declared.names.Write.{Write}
-use Rattle.str_model.proofs.Acting.{Act, Where, it_comes, it_waits}
-use Rattle.str_model.proofs.Everywhere.{IsSeen, Stage, at_place, during}
-use Rattle.str_model.proofs.Lists.{get_set}
-use Rattle.str_model.proofs.Members.{In, in_filter, in_right}
 use Rattle.str_model.specs.Acts.{pre_version}
 use Rattle.str_model.specs.Views.{Doing, View}
 use Rattle.str_model.specs.declared.messages.Arrived.{Arrived}

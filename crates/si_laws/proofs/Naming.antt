@@ -15,9 +15,9 @@ use Rattle.str_model.proofs.Lists.{get_set, get_set_other, got_set}
 use Rattle.str_model.proofs.Members.{In, in_append, in_at, in_left, in_right}
 use Rattle.str_model.proofs.Owning.{own_step}
 use Rattle.str_model.proofs.Telling.{TellStep, in_release, outcome_of, t_begins, t_decides, t_goes, t_rests, tell_step, told}
-use Rattle.si_laws.specs.Laws.Reasons.{CausesNamed}
 use Rattle.si_laws.proofs.Gating.{place_nth}
-use Rattle.si_laws.proofs.Staying.{decided-step}
+use Rattle.str_model.proofs.Pairing.{decided-step}
+use Rattle.si_laws.specs.Laws.Reasons.{CausesNamed}
 
 -- the transaction of the answer stands aborted with this cause
 record NamedIn (s : Stage) (a : Answer) (cause : Cause) : Type 0 where

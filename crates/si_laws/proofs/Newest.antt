@@ -7,8 +7,10 @@ use Rattle.si_laws.proofs.GuardSent.{same_or_other}
 use Rattle.si_laws.proofs.Linked.{IsCertified, one_certified, one_of}
 use Rattle.si_laws.proofs.Masters.{IsBefore}
 use Rattle.si_laws.proofs.Origins.{HasWritten}
-use Rattle.si_laws.proofs.Owners.{open-fate}
+use Rattle.str_model.proofs.Owners.{open-fate}
 use Rattle.si_laws.proofs.Reporting.{CommittedIn}
+use Rattle.str_model.proofs.Everywhere.{Stage}
+use Rattle.str_model.proofs.Members.{In}
 use Rattle.std.proofs.Common.{List, None, Option, Some, ap, arith, inl, inr, refl, slice_get, subst, subst₂, sym, true, ℕ, ◌+◌, ◌<◌, ◌∙◌, ◌≡◌, ◌≢◌, ◌≤◌, ◌⊎◌}
 use Rattle.str_base.specs.declared.names.KeyId.{KeyId}
 use Rattle.str_base.specs.declared.names.Kind.TheVariants.{Local as LocalKind}
@@ -19,8 +21,6 @@ use Rattle.str_base.specs.declared.names.Value.TheVariants.{Absent}
 use Rattle.str_base.specs.declared.names.Value.{Value}
 use Rattle.str_base.specs.declared.names.Version.{Version}
 use Rattle.str_base.specs.declared.names.Write.{Write}
-use Rattle.str_model.proofs.Everywhere.{Stage}
-use Rattle.str_model.proofs.Members.{In}
 use Rattle.str_model.specs.Turns.{CommittedAt, own_fate, phase_fate}
 use Rattle.str_model.specs.Turns
 use Rattle.str_model.specs.Views.{Own, View, lc_of}

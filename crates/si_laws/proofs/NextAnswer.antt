@@ -9,7 +9,8 @@ use Rattle.str_base.specs.declared.names.Value.{Value}
 use Rattle.str_model.specs.declared.messages.Answer.{Answer}
 use Rattle.str_model.specs.declared.messages.Outcome.{Outcome}
 use Rattle.str_model.specs.declared.messages.Outcome.TheVariants.{Aborted, Committed}
-use Rattle.si_laws.specs.Commits.{Commit, Member, commits, counts_for, evaluated, look_up, members, members_from, seen, with_commit, wrote_key}
+use Rattle.si_laws.specs.Commits.{Commit, Member, commits, counts_for, evaluated, look_up, members, members_from, seen, with_commit}
+use Rattle.str_model.specs.Owned.{wrote_key}
 use Rattle.str_model.specs.Evaluation.{Evaluated, eval}
 use Rattle.str_scene.specs.Scenes.{Scene, script_at}
 use Rattle.si_laws.specs.SnapshotIsolation.{IsAnswer, IsCommittedAt, IsCommittedSnapshot, IsPlaced, IsWish, SI, of_one_session}

@@ -8,7 +8,8 @@ use Rattle.str_base.specs.declared.names.KeyId.{KeyId}
 use Rattle.str_model.specs.declared.messages.Answer.{Answer}
 use Rattle.str_model.specs.declared.messages.Outcome.{Outcome}
 use Rattle.str_model.specs.declared.messages.Outcome.TheVariants.{Aborted, Committed}
-use Rattle.si_laws.specs.Commits.{seen, wrote_key}
+use Rattle.si_laws.specs.Commits.{seen}
+use Rattle.str_model.specs.Owned.{wrote_key}
 use Rattle.str_model.specs.Evaluation.{Evaluated}
 use Rattle.str_scene.specs.Scenes.{Scene}
 use Rattle.si_laws.specs.SnapshotIsolation.{AnswersPlaced, CommittedSnapshots, IsAnswer, IsCommittedAt, IsCommittedSnapshot, IsPlaced, IsWish, NoOverlap, SI, SIRun, SessionOrder, Wishes, of_one_session}

@@ -1,11 +1,16 @@
 -- Where a version comes from in a single change, with all that the change knows; and that each version is a write of its transaction.
 use Rattle.dependency_set.specs.Snapshots.{Snap}
 use Rattle.si_laws.proofs.Around.{Stand}
-use Rattle.si_laws.proofs.Carrying.{hosted_name, pair-is}
+use Rattle.str_model.proofs.Pairing.{hosted_name, pair-is}
 use Rattle.si_laws.proofs.Clearing.{accept_above, proposed_above}
 use Rattle.si_laws.proofs.Linked.{AreWrites, IsCertified, Linked}
 use Rattle.si_laws.proofs.Masters.{Masters, writes_of}
-use Rattle.si_laws.proofs.Parts.{Placed, by_master, by_slave}
+use Rattle.str_model.proofs.Parts.{Placed, by_master, by_slave}
+use Rattle.str_model.proofs.Acting.{Act, Comes, Where, act_abort, act_abort_came, act_accept, act_ack, act_ask, act_begin, act_certify, act_close, act_commit, act_commit_came, act_mark, act_put, act_refuse, act_reply, act_request, act_take, act_unwait, act_wait}
+use Rattle.str_model.proofs.Everywhere.{IsSeen, Stage, at_place, during, stage_of}
+use Rattle.str_model.proofs.Gaining.{and_left, and_right}
+use Rattle.str_model.proofs.Lists.{get_set, get_set_other, got_replicate, got_set}
+use Rattle.str_model.proofs.Members.{In, in_filter, in_insert_all, in_map, in_without}
 use Rattle.si_laws.proofs.Linked
 use Rattle.std.proofs.Common.{List, Some, [], ap, false, filter, inl, inr, map, refl, slice_get, subst, sym, true, ℕ, ◌<◌, ◌∙◌, ◌≡◌, ◌≤◌, ◌⊎◌}
 use Rattle.str_base.specs.Versions.{finalise, mark_of, of_pair, of_tx, settled, without}
@@ -18,11 +23,6 @@ use Rattle.str_base.specs.declared.names.TxId.{TxId}
 use Rattle.str_base.specs.declared.names.Value.{Value}
 use Rattle.str_base.specs.declared.names.Version.{Version}
 use Rattle.str_base.specs.declared.names.Write.{Write}
-use Rattle.str_model.proofs.Acting.{Act, Comes, Where, act_abort, act_abort_came, act_accept, act_ack, act_ask, act_begin, act_certify, act_close, act_commit, act_commit_came, act_mark, act_put, act_refuse, act_reply, act_request, act_take, act_unwait, act_wait}
-use Rattle.str_model.proofs.Everywhere.{IsSeen, Stage, at_place, during, stage_of}
-use Rattle.str_model.proofs.Gaining.{and_left, and_right}
-use Rattle.str_model.proofs.Lists.{get_set, get_set_other, got_replicate, got_set}
-use Rattle.str_model.proofs.Members.{In, in_filter, in_insert_all, in_map, in_without}
 use Rattle.str_model.specs.Acts.{abort_came, aborted, accepted, acked, asked, begun, certified, closed, commit_came, committed, is_hosted_of, local_version, marked, pre_version, raise_all, refused, replied, requested, taken, waits}
 use Rattle.str_model.specs.Owned.{Owns}
 use Rattle.str_model.specs.Proposals.{proposed}

@@ -1,16 +1,18 @@
 -- Overlapping writers are kept apart, and the law Apart.
 use Rattle.si_laws.proofs.Apart.{pre_apart_local}
 use Rattle.si_laws.proofs.Arriving.{ArrivedAs, BegunAt, FoundAt, a_final, a_pre, committed_stands}
-use Rattle.si_laws.proofs.Homes.{OwnGood}
+use Rattle.str_model.proofs.Homes.{OwnGood}
 use Rattle.si_laws.proofs.Linked.{IsCertified, one_certified, one_of}
 use Rattle.si_laws.proofs.MasterLaw.{governed, one_pre}
 use Rattle.si_laws.proofs.Masters.{IsBefore}
-use Rattle.si_laws.proofs.Scripting.{ScriptGood, WritesKey, eval_keys, or_first, scripts_after}
+use Rattle.str_model.proofs.Scripting.{ScriptGood, WritesKey, eval_keys, or_first, scripts_after}
 use Rattle.si_laws.proofs.Seats.{of_nth}
 use Rattle.si_laws.proofs.SessionAnswers.{committed_phase, entry, session_holds}
 use Rattle.si_laws.proofs.SessionLaw.{get_within, good_everywhere}
-use Rattle.si_laws.proofs.Stages.{any_has}
-use Rattle.si_laws.specs.Commits.{seen, wrote_key}
+use Rattle.str_model.proofs.Pairing.{any_has}
+use Rattle.str_model.proofs.Everywhere.{at_place, stage_of}
+use Rattle.str_model.proofs.Members.{In}
+use Rattle.si_laws.specs.Commits.{seen}
 use Rattle.si_laws.specs.Laws.Apart.{ApartHolds}
 use Rattle.si_laws.specs.SnapshotIsolation.{IsAnswer, IsCommittedAt, NoOverlap}
 use Rattle.si_laws.specs.Standing.{IsCommitted}
@@ -24,9 +26,7 @@ use Rattle.str_base.specs.declared.names.PartId.{PartId}
 use Rattle.str_base.specs.declared.names.TxId.{TxId}
 use Rattle.str_base.specs.declared.names.Version.{Version}
 use Rattle.str_base.specs.declared.names.Write.{Write}
-use Rattle.str_model.proofs.Everywhere.{at_place, stage_of}
-use Rattle.str_model.proofs.Members.{In}
-use Rattle.str_model.specs.Owned.{Owns}
+use Rattle.str_model.specs.Owned.{Owns, wrote_key}
 use Rattle.str_model.specs.Runs.{run}
 use Rattle.str_model.specs.Scripts.{own_op}
 use Rattle.str_model.specs.Views.{Own, View, lc_of}

@@ -1,6 +1,10 @@
 -- What a single change does to the versions of a pair of another node's transaction.
-use Rattle.si_laws.proofs.Pairs.{Is, one_pair}
-use Rattle.si_laws.proofs.Stages.{Has, has_at, joined_pair, keep_without, not_both, pair_same}
+use Rattle.str_model.proofs.Pairs.{Is, one_pair}
+use Rattle.str_model.proofs.Pairing.{Has, has_at, joined_pair, keep_without, not_both, pair_same}
+use Rattle.str_model.proofs.Acting.{Act, Comes, IsHere, Where, act_abort, act_abort_came, act_accept, act_ack, act_ask, act_begin, act_certify, act_close, act_commit, act_commit_came, act_mark, act_put, act_refuse, act_reply, act_request, act_take, act_unwait, act_wait, left_waiting}
+use Rattle.str_model.proofs.Gaining.{and_left, and_right}
+use Rattle.str_model.proofs.Members.{In, in_all_new, in_all_old, in_append, in_right, map_in}
+use Rattle.str_model.proofs.Meeting.{filter_in}
 use Rattle.std.proofs.Common.{Bool, List, [], ap, eqb-true, false, filter, inl, inr, map, not, refl, subst₂, sym, true, ℕ, ◌&&◌, ◌++◌, ◌+◌, ◌==◌, ◌∙◌, ◌∷◌, ◌≡◌, ◌≢◌}
 use Rattle.str_base.specs.Versions.{of_pair, of_tx, same_node, same_part, same_tx, settled, without}
 use Rattle.str_base.specs.declared.names.NodeId.{NodeId}
@@ -8,9 +12,6 @@ use Rattle.str_base.specs.declared.names.PartId.{PartId}
 use Rattle.str_base.specs.declared.names.Ts.{Ts}
 use Rattle.str_base.specs.declared.names.TxId.{TxId}
 use Rattle.str_base.specs.declared.names.Version.{Version}
-use Rattle.str_model.proofs.Acting.{Act, Comes, IsHere, Where, act_abort, act_abort_came, act_accept, act_ack, act_ask, act_begin, act_certify, act_close, act_commit, act_commit_came, act_mark, act_put, act_refuse, act_reply, act_request, act_take, act_unwait, act_wait, left_waiting}
-use Rattle.str_model.proofs.Gaining.{and_left, and_right}
-use Rattle.str_model.proofs.Members.{In, in_all_new, in_all_old, in_append, in_right, map_in}
 use Rattle.str_model.specs.Acts.{abort_came, aborted, accepted, acked, asked, begun, certified, closed, commit_came, committed, is_hosted_of, local_version, marked, pre_version, refused, replied, requested, taken, waits, with_waiters}
 use Rattle.str_model.specs.Proposals.{is_done, is_pair, proposed}
 use Rattle.str_model.specs.Steps.{decides, drop_held}
@@ -20,7 +21,6 @@ use Rattle.str_model.specs.declared.messages.Body.TheVariants.{Abort, Commit}
 use Rattle.str_model.specs.declared.messages.Input.{Input}
 use Rattle.str_model.specs.declared.names.KeyMark.{KeyMark}
 use Rattle.str_scene.specs.Scenes.{Here, hosts}
-use Rattle.str_model.proofs.Meeting.{filter_in}
 
 module _ (here : Here) (input : Input) (w : Where) (tx : TxId) (p : PartId) where
   abbrev pub IsDone : View → Type 0

@@ -2,11 +2,11 @@
 use Rattle.si_laws.proofs.Repeats.{Once, fits, map_length, once_append, range_length}
 use Rattle.si_laws.proofs.Seats.{of_nth, range_in}
 use Rattle.si_laws.proofs.SessionLaw.{good_everywhere}
-use Rattle.si_laws.proofs.Sessions.{InOrder, PlacedIn}
+use Rattle.str_model.proofs.Orders.{InOrder, PlacedIn}
+use Rattle.str_model.proofs.Members.{In, at_in, in_append, in_left, in_map, in_right, map_in}
 use Rattle.std.proofs.Common.{List, Some, [], ap, arith, inl, inr, length, length-append, map, refl, slice_get, subst, suc, sym, zero, ℕ, ◌++◌, ◌+◌, ◌∙◌, ◌∷◌, ◌≡◌, ◌≤◌}
 use Rattle.std.proofs.lemmas.List.Sums.{sum_by-cons}
 use Rattle.std.specs.List.{range_with_len, sum_by}
-use Rattle.str_model.proofs.Members.{In, at_in, in_append, in_left, in_map, in_right, map_in}
 use Rattle.str_model.specs.Runs.{run}
 use Rattle.str_model.specs.Views.{Own, View}
 use Rattle.str_scene.specs.declared.names.Event.{Event}

@@ -6,10 +6,13 @@ use Rattle.si_laws.proofs.Grounds.{Committer, Grounds, committed_write, committe
 use Rattle.si_laws.proofs.IsolationLaw.{isolated_run}
 use Rattle.si_laws.proofs.Newest.{newest_none, newest_some}
 use Rattle.si_laws.proofs.Origins.{HasWritten}
-use Rattle.si_laws.proofs.Owners.{WeakDep}
+use Rattle.str_model.proofs.Owners.{WeakDep}
 use Rattle.si_laws.proofs.Reporting.{CommittedIn, ReadOk, ro_committed, ro_gone, ro_listed}
 use Rattle.si_laws.proofs.Seats.{of_nth}
-use Rattle.si_laws.proofs.Standing.{fate_open}
+use Rattle.str_model.proofs.Standing.{fate_open}
+use Rattle.str_model.proofs.Everywhere.{at_place, stage_of}
+use Rattle.str_model.proofs.Gaining.{Names}
+use Rattle.str_model.proofs.Members.{In, at_in, in_at}
 use Rattle.si_laws.specs.Laws.Prefix.{FinalReads, PrefixHolds}
 use Rattle.si_laws.specs.SnapshotIsolation.{SI}
 use Rattle.si_laws.specs.SpeculativeIsolation.{OfOpenWriter, ReadCommitted, ReadNothing}
@@ -20,9 +23,6 @@ use Rattle.std.proofs.lemmas.Option.{slice_get_within}
 use Rattle.str_base.specs.declared.names.KeyId.{KeyId}
 use Rattle.str_base.specs.declared.names.TxId.{TxId}
 use Rattle.str_base.specs.declared.names.Value.{Value}
-use Rattle.str_model.proofs.Everywhere.{stage_of}
-use Rattle.str_model.proofs.Gaining.{Names}
-use Rattle.str_model.proofs.Members.{In, at_in, in_at}
 use Rattle.str_model.specs.Owned.{Owns}
 use Rattle.str_model.specs.Runs.{run}
 use Rattle.str_model.specs.Turns.{CommittedAt, own_fate, phase_fate}

@@ -6,7 +6,9 @@ use Rattle.si_laws.proofs.Linked.{one_of, pre_of}
 use Rattle.si_laws.proofs.LinkingAll.{linked}
 use Rattle.si_laws.proofs.Seats.{of_nth, to_nth}
 use Rattle.si_laws.proofs.SessionLaw.{get_within}
-use Rattle.si_laws.proofs.Stages.{Has, any_has, has_at, not_both}
+use Rattle.str_model.proofs.Pairing.{Has, any_has, has_at, not_both}
+use Rattle.str_model.proofs.Everywhere.{stage_of}
+use Rattle.str_model.proofs.Members.{In, at_in, in_at}
 use Rattle.si_laws.specs.Laws.Presence.{AnsweredPresent, CommittedPresent, DecidedUntold, Holds, IsStanding, NeverTold, NotDone, PresenceByBound, PresenceHolds, PresenceStands}
 use Rattle.si_laws.specs.Standing.{Begun, IsCommitted, Wrote}
 use Rattle.std.proofs.Common.{Bool, List, Some, arith, false, inl, inr, refl, slice_get, subst, subst₂, sym, true, ℕ, ◌+◌, ◌∙◌, ◌≡◌}
@@ -18,8 +20,6 @@ use Rattle.str_base.specs.declared.names.PartId.{PartId}
 use Rattle.str_base.specs.declared.names.TxId.{TxId}
 use Rattle.str_base.specs.declared.names.Version.{Version}
 use Rattle.str_base.specs.declared.names.Write.{Write}
-use Rattle.str_model.proofs.Everywhere.{stage_of}
-use Rattle.str_model.proofs.Members.{In, at_in, in_at}
 use Rattle.str_model.specs.Proposals.{is_done, is_pair}
 use Rattle.str_model.specs.Runs.{run}
 use Rattle.str_model.specs.Views.{Own, View}

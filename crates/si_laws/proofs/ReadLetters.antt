@@ -1,6 +1,9 @@
 -- What messages of reads and of commits a single change sends, and that marks only rise.
 use Rattle.partition_map.specs.declared.rows.Asked.{Asked}
-use Rattle.si_laws.proofs.Marking.{Rises, raise_all-rises, raised-rises, rises_self}
+use Rattle.str_model.proofs.Marking.{Rises, raise_all-rises, raised-rises, rises_self}
+use Rattle.str_model.proofs.Acting.{Act, Serves, Where, act_abort, act_abort_came, act_accept, act_ack, act_ask, act_begin, act_certify, act_close, act_commit, act_commit_came, act_mark, act_put, act_refuse, act_reply, act_request, act_take, act_unwait, act_wait}
+use Rattle.str_model.proofs.Gaining.{if_elim}
+use Rattle.str_model.proofs.Members.{In, in_append, in_map}
 use Rattle.std.proofs.Common.{Bool, List, Option, [], ap, false, filter, inl, inr, map, refl, sym, true, ℕ, ◌++◌, ◌∙◌, ◌∷◌, ◌≡◌, ◌⊎◌}
 use Rattle.str_base.specs.declared.names.KeyId.{KeyId}
 use Rattle.str_base.specs.declared.names.NodeId.{NodeId}
@@ -9,9 +12,6 @@ use Rattle.str_base.specs.declared.names.TxId.{TxId}
 use Rattle.str_base.specs.declared.names.Value.{Value}
 use Rattle.str_base.specs.declared.names.Write.{Write}
 use Rattle.str_base.specs.Versions.{stamp}
-use Rattle.str_model.proofs.Acting.{Act, Serves, Where, act_abort, act_abort_came, act_accept, act_ack, act_ask, act_begin, act_certify, act_close, act_commit, act_commit_came, act_mark, act_put, act_refuse, act_reply, act_request, act_take, act_unwait, act_wait}
-use Rattle.str_model.proofs.Gaining.{if_elim}
-use Rattle.str_model.proofs.Members.{In, in_append, in_map}
 use Rattle.str_model.specs.Acts.{abort_came, aborted, accepted, acked, asked, begun, certified, closed, commit_came, committed, in_phase, marked, refused, replied, requested, taken, waits}
 use Rattle.str_model.specs.Acts
 use Rattle.str_model.specs.declared.messages.Body.{Body}

@@ -2,12 +2,12 @@
 use Rattle.dependency_set.specs.Snapshots.{Snap}
 use Rattle.si_laws.proofs.AroundActs.{cert_rs}
 use Rattle.si_laws.proofs.Evaluating.{reply_same}
-use Rattle.si_laws.proofs.Marking.{finish-looks, finish_next-looks}
+use Rattle.str_model.proofs.Marking.{finish-looks, finish_next-looks}
 use Rattle.si_laws.proofs.ReadTurns.{reply-is}
-use Rattle.std.proofs.Common.{Option, Some, [], ap, inl, inr, refl, slice_get, slice_set, subst, sym, ℕ, ◌++◌, ◌∙◌, ◌∷◌, ◌≡◌, ◌⊎◌}
 use Rattle.str_model.proofs.Acting.{Act, Change, GoesOn, JustMarked, ReadsTo, Where, act_abort, act_abort_came, act_accept, act_ack, act_ask, act_begin, act_certify, act_close, act_commit, act_commit_came, act_mark, act_put, act_refuse, act_reply, act_request, act_take, act_unwait, act_wait, ch_away, ch_blind, ch_close, ch_gate, ch_known, ch_read, ch_reply, ch_resolve, ch_take, ch_wait}
 use Rattle.str_model.proofs.Lists.{got_push, got_set}
 use Rattle.str_model.proofs.Members.{In, in_append}
+use Rattle.std.proofs.Common.{Option, Some, [], ap, inl, inr, refl, slice_get, slice_set, subst, sym, ℕ, ◌++◌, ◌∙◌, ◌∷◌, ◌≡◌, ◌⊎◌}
 use Rattle.str_model.specs.Acts.{abort_came, aborted, accepted, acked, asked, begun, certified, closed, commit_came, committed, fresh, in_phase, marked, refused, replied, requested, taken, waits, with_asked}
 use Rattle.str_model.specs.Owned.{Owns}
 use Rattle.str_model.specs.Scripts.{noted, own_op}

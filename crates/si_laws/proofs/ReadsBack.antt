@@ -25,7 +25,7 @@ use Rattle.str_model.proofs.Gaining.{Names, if_elim}
 use Rattle.str_model.proofs.Lists.{got_push, got_set}
 use Rattle.str_model.proofs.Members.{In, in_append}
 use Rattle.si_laws.proofs.AroundActs.{cert_rs}
-use Rattle.si_laws.proofs.Marking.{finish-looks, finish_next-looks}
+use Rattle.str_model.proofs.Marking.{finish-looks, finish_next-looks}
 use Rattle.si_laws.proofs.ReadTurns.{local-is, plain-is, reply-is}
 use Rattle.si_laws.proofs.Sources.{finish_reply}
 

@@ -5,7 +5,8 @@ use Rattle.str_model.specs.declared.names.ReadDone.{ReadDone}
 use Rattle.str_base.specs.declared.names.Value.{Value}
 use Rattle.str_base.specs.declared.names.Value.TheVariants.{Absent}
 use Rattle.str_model.specs.declared.messages.Answer.{Answer}
-use Rattle.si_laws.specs.Commits.{seen, wrote_key}
+use Rattle.si_laws.specs.Commits.{seen}
+use Rattle.str_model.specs.Owned.{wrote_key}
 use Rattle.str_model.specs.Evaluation.{Evaluated, write_or}
 use Rattle.str_scene.specs.Scenes.{Scene}
 use Rattle.si_laws.specs.SnapshotIsolation.{IsAnswer, IsCommittedAt, SI}

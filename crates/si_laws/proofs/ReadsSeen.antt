@@ -5,7 +5,8 @@ use Rattle.str_base.specs.declared.names.Value.{Value}
 use Rattle.str_base.specs.declared.names.Value.TheVariants.{Absent}
 use Rattle.str_model.specs.declared.messages.Answer.{Answer}
 use Rattle.str_model.specs.declared.names.ReadDone.{ReadDone}
-use Rattle.si_laws.specs.Commits.{counts_for, look_up, members, seen, wrote_key}
+use Rattle.si_laws.specs.Commits.{counts_for, look_up, members, seen}
+use Rattle.str_model.specs.Owned.{wrote_key}
 use Rattle.si_laws.specs.SnapshotIsolation.{IsAnswer, IsCommittedAt, SI}
 use Rattle.str_base.specs.Versions.{same_key}
 use Rattle.str_model.specs.Evaluation.{Evaluated, eval, write_or}

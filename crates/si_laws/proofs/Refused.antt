@@ -31,19 +31,19 @@ use Rattle.str_model.proofs.Later.{Took, at_each_moment, moment_of, took, trace_
 use Rattle.str_model.proofs.Lists.{get_set, got_set}
 use Rattle.str_model.proofs.Members.{In, at_in, in_at, in_filter, in_flat_map, in_left, in_right}
 use Rattle.str_model.proofs.Tracing.{ends_slice}
-use Rattle.si_laws.specs.Laws.Reasons.{ReasonsHold}
-use Rattle.si_laws.specs.TrueCause.{AbortsAt, IsReason, IsTrue, TrueConflict}
-use Rattle.si_laws.proofs.Carrying.{same_part-is}
+use Rattle.str_model.proofs.Pairing.{same_part-is}
 use Rattle.si_laws.proofs.Causes.{Aborts, aborts_by, late_true, lost_true, wish_true}
 use Rattle.si_laws.proofs.Conflicts.{RefuseHere, conflict_true, wrote_final, wrote_is, written_moment}
 use Rattle.si_laws.proofs.Linked.{AreWrites, IsCertified, Linked, certified-lasts}
 use Rattle.si_laws.proofs.LinkingAll.{linked, linked_step}
-use Rattle.si_laws.proofs.Marking.{same_key-is}
-use Rattle.si_laws.proofs.Owners.{same_own}
+use Rattle.str_model.proofs.Marking.{same_key-is}
+use Rattle.str_model.proofs.Owners.{same_own}
 use Rattle.si_laws.proofs.SentBy.{SentBy, Sending, sending, sent_by}
-use Rattle.si_laws.proofs.Turning.{own_change}
+use Rattle.str_model.proofs.Turning.{own_change}
 use Rattle.si_laws.proofs.WritersFirst.{gate_law}
 use Rattle.si_laws.proofs.Evaluating.{find_is}
+use Rattle.si_laws.specs.Laws.Reasons.{ReasonsHold}
+use Rattle.si_laws.specs.TrueCause.{AbortsAt, IsReason, IsTrue, TrueConflict}
 
 -- ---- what the master has found
 

@@ -1,11 +1,17 @@
 -- Where a reply was sent, its sender has the mark.
 use Rattle.si_laws.proofs.Linked.{one_of}
-use Rattle.si_laws.proofs.Marking.{Rises, marked_now}
-use Rattle.si_laws.proofs.Parts.{WaitStep, w_fewer, w_more, wait_step}
+use Rattle.str_model.proofs.Marking.{Rises, marked_now}
+use Rattle.str_model.proofs.Parts.{WaitStep, w_fewer, w_more, wait_step}
 use Rattle.si_laws.proofs.ReadLetters.{ReadLetter, is_other, letters_act, marks_act, rl_commit, rl_other, rl_reply, rl_request}
 use Rattle.si_laws.proofs.Seats.{to_nth}
 use Rattle.si_laws.proofs.SessionLaw.{length_copies}
-use Rattle.si_laws.proofs.Sessions.{get_set_cases}
+use Rattle.str_model.proofs.Orders.{get_set_cases}
+use Rattle.str_model.proofs.Acting.{Act, Arrives, ComesToRead, IsAsked, Where, a_prepare, a_read, asked_before, asked_now}
+use Rattle.str_model.proofs.Everywhere.{IsSeen, Sent, Stage, at_place, during, everywhere, stage_of}
+use Rattle.str_model.proofs.Gaining.{and_left, and_right}
+use Rattle.str_model.proofs.Lists.{get_push, get_set, get_set_other, got_replicate, got_set}
+use Rattle.str_model.proofs.Members.{In, in_append, in_at, in_left, in_right}
+use Rattle.str_model.proofs.Telling.{TellStep, t_begins, t_decides, t_goes, t_rests, tell_step}
 use Rattle.si_laws.specs.Laws.Marks.{IsReplyTo, MarkedByReply}
 use Rattle.si_laws.specs.Standing.{Begun}
 use Rattle.std.proofs.Common.{List, Option, Some, [], ap, arith, inl, inr, length, ltb-true, refl, replicate, slice_get, slice_set, subst, subst₂, sym, true, ℕ, ◌&&◌, ◌++◌, ◌+◌, ◌<◌, ◌∙◌, ◌∷◌, ◌≡◌, ◌≤◌}
@@ -15,12 +21,6 @@ use Rattle.str_base.specs.declared.names.Ts.{Ts}
 use Rattle.str_base.specs.declared.names.TxId.{TxId}
 use Rattle.str_base.specs.declared.names.Value.{Value}
 use Rattle.str_base.specs.Versions.{mark_of, same_node, stamp}
-use Rattle.str_model.proofs.Acting.{Act, Arrives, ComesToRead, IsAsked, Where, a_prepare, a_read, asked_before, asked_now}
-use Rattle.str_model.proofs.Everywhere.{IsSeen, Sent, Stage, at_place, during, everywhere, stage_of}
-use Rattle.str_model.proofs.Gaining.{and_left, and_right}
-use Rattle.str_model.proofs.Lists.{get_push, get_set, get_set_other, got_replicate, got_set}
-use Rattle.str_model.proofs.Members.{In, in_append, in_at, in_left, in_right}
-use Rattle.str_model.proofs.Telling.{TellStep, t_begins, t_decides, t_goes, t_rests, tell_step}
 use Rattle.str_model.specs.Acts.{fresh}
 use Rattle.str_model.specs.declared.messages.Body.{Body}
 use Rattle.str_model.specs.declared.messages.Body.TheVariants.{Abort, Ack, Commit, Prepare, ReadReply, ReadReq, Refuse as Refusal, Replicate}

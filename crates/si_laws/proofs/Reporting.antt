@@ -29,19 +29,19 @@ use Rattle.str_model.proofs.Gaining.{Names}
 use Rattle.str_model.proofs.Lists.{get_set, get_set_other, got_replicate, got_set}
 use Rattle.str_model.proofs.Members.{In, in_append, in_at, in_left, in_right}
 use Rattle.str_model.proofs.Owning.{OwnStep, own_step, rests, starts_one, turns_one}
-use Rattle.si_laws.specs.Standing.{IsAborted}
 use Rattle.si_laws.proofs.Around.{named_more}
 use Rattle.si_laws.proofs.Carrying.{carried}
-use Rattle.si_laws.proofs.Depending.{depends-act}
+use Rattle.str_model.proofs.Depending.{depends-act}
 use Rattle.si_laws.proofs.Fates.{Stays, now_aborted, now_committed, stays-act, stays_open}
 use Rattle.si_laws.proofs.LetterSources.{FinalFrom, IsLetter, LetterFrom, ff_came, ff_commit, ff_old, final-act, letter-act, lf_abort, lf_ack, lf_commit, lf_copy, lf_prepare, lf_refuse, lf_replicate, lf_reply, lf_request}
-use Rattle.si_laws.proofs.Owners.{Depends, same_own}
-use Rattle.si_laws.proofs.Parts.{WaitStep, w_fewer, w_more, wait_step}
+use Rattle.str_model.proofs.Owners.{Depends, same_own}
+use Rattle.str_model.proofs.Parts.{WaitStep, w_fewer, w_more, wait_step}
 use Rattle.si_laws.proofs.ReadTurns.{give-is}
 use Rattle.si_laws.proofs.ReadsBack.{ReadBack, ReplyBack, pb_came, pb_old, rb_final, rb_local, rb_none, rb_old, rb_reply, reads-act, reply-act}
-use Rattle.si_laws.proofs.Staying.{decided-step}
-use Rattle.si_laws.proofs.Standing.{open_opening}
-use Rattle.si_laws.proofs.Times.{becomes-rs}
+use Rattle.str_model.proofs.Pairing.{decided-step}
+use Rattle.str_model.proofs.Standing.{open_opening}
+use Rattle.str_model.proofs.Timing.{becomes-rs}
+use Rattle.si_laws.specs.Standing.{IsAborted}
 
 -- the transaction has committed at fc at its own node
 pub record CommittedIn (s : Stage) (u : TxId) (fc : ℕ) : Type 0 where

@@ -1,11 +1,13 @@
 -- A transaction has at most 112 participants: at most 16 written partitions, each with at most 7 replicas beside the origin.
 use Rattle.partition_map.specs.declared.rows.Asked.{Asked}
 use Rattle.si_laws.proofs.Repeats.{Once, fits, map_length, once_filter, once_map, once_places, once_range, range_length}
-use Rattle.si_laws.proofs.Homes.{OwnGood, seats}
-use Rattle.si_laws.proofs.Scripting.{ScriptGood, WritesKey}
+use Rattle.str_model.proofs.Homes.{OwnGood, seats}
+use Rattle.str_model.proofs.Scripting.{ScriptGood, WritesKey}
 use Rattle.si_laws.proofs.Seats.{flat_map_in, range_in}
-use Rattle.si_laws.proofs.Stages.{any_has, has_at}
-use Rattle.si_laws.specs.Commits.{wrote_key}
+use Rattle.str_model.proofs.Pairing.{any_has, has_at}
+use Rattle.str_model.proofs.Gaining.{and_left, and_right}
+use Rattle.str_model.proofs.Members.{In, at_in, in_at, in_filter, in_map, map_in}
+use Rattle.str_model.specs.Owned.{wrote_key}
 use Rattle.std.proofs.Common.{List, None, Option, Some, [], ap, arith, eq-eqb, eqb-true, flat_map, inl, inr, length, length-append, map, not, refl, slice_get, subst, suc, sym, true, zero, ℕ, ◌*◌, ◌∷◌, ◌≡◌, ◌≤◌}
 use Rattle.std.specs.List.{list_any, range_with_len}
 use Rattle.str_base.specs.declared.names.KeyId.{KeyId}
@@ -14,8 +16,6 @@ use Rattle.str_base.specs.declared.names.PartId.{PartId}
 use Rattle.str_base.specs.declared.names.Version.{Version}
 use Rattle.str_base.specs.declared.names.Write.{Write}
 use Rattle.str_base.specs.Versions.{same_key, same_node}
-use Rattle.str_model.proofs.Gaining.{and_left, and_right}
-use Rattle.str_model.proofs.Members.{In, at_in, in_at, in_filter, in_map, map_in}
 use Rattle.str_model.specs.Strange
 use Rattle.str_model.specs.Views.{Own, lc_of}
 use Rattle.str_scene.specs.declared.names.Op.{Op}

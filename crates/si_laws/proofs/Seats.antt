@@ -1,7 +1,10 @@
 -- Who takes part in a transaction: the replicas, but its origin, of each partition that it wrote in.
 use Rattle.partition_map.specs.declared.rows.Asked.{Asked}
-use Rattle.si_laws.proofs.Homes.{OwnGood, seats}
-use Rattle.si_laws.proofs.Stages.{any_has, has_at, not_both}
+use Rattle.str_model.proofs.Homes.{OwnGood, seats}
+use Rattle.str_model.proofs.Pairing.{any_has, has_at, not_both}
+use Rattle.str_model.proofs.Lists.{same_or_not}
+use Rattle.str_model.proofs.Members.{In, in_filter, in_flat_map, in_left, in_map, in_right, map_in}
+use Rattle.str_model.proofs.Meeting.{filter_in}
 use Rattle.std.proofs.Common.{List, None, Option, Some, [], add-one, ap, arith, eq-eqb, eqb-true, flat_map, inl, inr, length, map, not, refl, slice_get, subst, subst₂, suc, sym, true, zero, ℕ, ◌+◌, ◌<◌, ◌∙◌, ◌∷◌, ◌≡◌, ◌≢◌, ◌≤◌, ◌⊎◌}
 use Rattle.std.proofs.lemmas.Option.{slice_get_within}
 use Rattle.std.specs.List.{list_any, range_with_len}
@@ -10,11 +13,8 @@ use Rattle.str_base.specs.declared.names.NodeId.{NodeId}
 use Rattle.str_base.specs.declared.names.PartId.{PartId}
 use Rattle.str_base.specs.declared.names.Version.{Version}
 use Rattle.str_base.specs.declared.names.Write.{Write}
-use Rattle.str_model.proofs.Lists.{same_or_not}
-use Rattle.str_model.proofs.Members.{In, in_filter, in_flat_map, in_left, in_map, in_right, map_in}
 use Rattle.str_model.specs.Views.{Own, lc_of}
 use Rattle.str_scene.specs.Scenes.{Here, Scene, all_parts, hosts, in_part, nth, or_none, others, part_of, participants, replicas, unasked, written_parts}
-use Rattle.str_model.proofs.Meeting.{filter_in}
 
 pub of_nth : {A : Type 0} (xs : List A) (n : ℕ) (x : A) → nth xs n ≡ Some x → (i : ℕ) × (n ≡ i + 1) × (slice_get xs i ≡ Some x)
 of_nth xs zero x e = absurd (cc e)

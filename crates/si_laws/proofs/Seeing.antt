@@ -2,6 +2,7 @@
 use Rattle.dependency_set.specs.Snapshots.{Snap, accept_final, holds, oldest}
 use Rattle.si_laws.proofs.Clearing.{Clear, LocalsClear}
 use Rattle.si_laws.proofs.InTime.{InTime, IsVisible, none_pre, none_undecided, none_visible, visible_one}
+use Rattle.str_model.proofs.Members.{In}
 use Rattle.std.proofs.Common.{Bool, List, None, Option, Some, ap, false, if◌then◌else◌, inl, inr, refl, slice_get, subst, sym, true, ℕ, ◌-◌, ◌<◌, ◌∙◌, ◌≡◌, ◌≢◌, ◌≤◌, ◌⊎◌}
 use Rattle.str_base.specs.Versions.{is_pre, is_undecided, last_pre, last_undecided, mark_of, visible}
 use Rattle.str_base.specs.declared.names.KeyId.{KeyId}
@@ -11,7 +12,6 @@ use Rattle.str_base.specs.declared.names.TxId.{TxId}
 use Rattle.str_base.specs.declared.names.Value.TheVariants.{Absent}
 use Rattle.str_base.specs.declared.names.Value.{Value}
 use Rattle.str_base.specs.declared.names.Version.{Version}
-use Rattle.str_model.proofs.Members.{In}
 use Rattle.str_model.specs.Turns.{Away, Give, Plain, ReadTurn, ServeTurn, ServeWait, Speculative, Wait, read_turn, serve_turn, take_over}
 use Rattle.str_model.specs.Turns
 use Rattle.str_model.specs.Views.{Own, View}

@@ -6,7 +6,8 @@ use Rattle.str_base.specs.declared.names.KeyId.{KeyId}
 use Rattle.str_base.specs.declared.names.Value.{Value}
 use Rattle.str_model.specs.declared.messages.Answer.{Answer}
 use Rattle.str_model.specs.declared.messages.Outcome.TheVariants.{Committed}
-use Rattle.si_laws.specs.Commits.{Commit, Member, commits, counts_for, evaluated, fc_before, look_up, member_of, members, members_from, seen, with_commit, wrote_key}
+use Rattle.si_laws.specs.Commits.{Commit, Member, commits, counts_for, evaluated, fc_before, look_up, member_of, members, members_from, seen, with_commit}
+use Rattle.str_model.specs.Owned.{wrote_key}
 use Rattle.str_model.specs.Evaluation.{eval}
 use Rattle.str_scene.specs.Scenes.{Scene, script_at}
 use Rattle.si_laws.specs.SnapshotIsolation.{IsCommittedAt}

@@ -1,6 +1,10 @@
 -- What the messages are that a single change sends.
 use Rattle.partition_map.specs.declared.rows.Asked.{Asked}
-use Rattle.si_laws.proofs.Parts.{Placed, by_master, by_slave}
+use Rattle.str_model.proofs.Parts.{Placed, by_master, by_slave}
+use Rattle.str_model.proofs.Acting.{Act, IsHere, Where, act_abort, act_abort_came, act_accept, act_ack, act_ask, act_begin, act_certify, act_close, act_commit, act_commit_came, act_mark, act_put, act_refuse, act_reply, act_request, act_take, act_unwait, act_wait}
+use Rattle.str_model.proofs.Gaining.{if_elim}
+use Rattle.str_model.proofs.Lists.{get_set}
+use Rattle.str_model.proofs.Members.{In, in_append, in_filter, in_map}
 use Rattle.std.proofs.Common.{Bool, List, Some, [], ap, false, filter, inl, inr, map, refl, subst, sym, true, ℕ, ◌++◌, ◌∙◌, ◌∷◌, ◌≡◌, ◌⊎◌}
 use Rattle.str_base.specs.Versions.{insert_all, mark_of, stamp}
 use Rattle.str_base.specs.declared.names.Cause.{Cause}
@@ -9,10 +13,6 @@ use Rattle.str_base.specs.declared.names.PartId.{PartId}
 use Rattle.str_base.specs.declared.names.Ts.{Ts}
 use Rattle.str_base.specs.declared.names.TxId.{TxId}
 use Rattle.str_base.specs.declared.names.Write.{Write}
-use Rattle.str_model.proofs.Acting.{Act, IsHere, Where, act_abort, act_abort_came, act_accept, act_ack, act_ask, act_begin, act_certify, act_close, act_commit, act_commit_came, act_mark, act_put, act_refuse, act_reply, act_request, act_take, act_unwait, act_wait}
-use Rattle.str_model.proofs.Gaining.{if_elim}
-use Rattle.str_model.proofs.Lists.{get_set}
-use Rattle.str_model.proofs.Members.{In, in_append, in_filter, in_map}
 use Rattle.str_model.specs.Acts
 use Rattle.str_model.specs.Acts.{abort_came, abort_letters, aborted, accepted, acked, ask_letters, asked, asked_ones, begun, certified, closed, commit_came, commit_letters, committed, copies, in_phase, marked, marks_in, pre_version, refused, replied, requested, taken, waits}
 use Rattle.str_model.specs.Owned.{Owns}

@@ -21,7 +21,7 @@ use Rattle.str_model.proofs.Linking.{Link, linked}
 use Rattle.str_model.proofs.LinkPaths.{link_path}
 use Rattle.str_model.proofs.Members.{In, in_append}
 use Rattle.si_laws.proofs.Judging.{Judges, link_judged}
-use Rattle.si_laws.proofs.Parts.{sent_step}
+use Rattle.str_model.proofs.Parts.{sent_step}
 use Rattle.si_laws.proofs.Refusing.{IsRefusal}
 
 -- what an event sends: what its last moment has sent, where a node takes it

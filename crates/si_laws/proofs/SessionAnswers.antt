@@ -21,7 +21,8 @@ use Rattle.str_model.specs.Views.{Aborted, Committed, Own, Phase, View, is_decid
 use Rattle.str_model.proofs.Everywhere.{at_place, stage_of}
 use Rattle.str_model.proofs.Members.{in_at}
 use Rattle.si_laws.proofs.SessionLaw.{Good, NodeGood, get_within, good_everywhere}
-use Rattle.si_laws.proofs.Sessions.{Made, PlacedIn, Told, told_in}
+use Rattle.si_laws.proofs.Sessions.{Made, Told, told_in}
+use Rattle.str_model.proofs.Orders.{PlacedIn}
 use Rattle.str_model.proofs.Telling.{outcome_of}
 
 -- ---- places in a filtered list

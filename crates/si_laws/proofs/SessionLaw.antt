@@ -4,7 +4,7 @@ use Rattle.std.proofs.lemmas.List.Elements.{filter-append}
 use Rattle.str_scene.specs.declared.names.Event.{Event}
 use Rattle.str_model.specs.declared.messages.Answer.{Answer}
 use Rattle.str_model.specs.declared.messages.Input.{Input}
-use Rattle.si_laws.specs.Laws.Times.{AreTimed}
+use Rattle.str_model.specs.Owned.{AreTimed}
 use Rattle.str_model.specs.Runs.{opening, opening_view, run}
 use Rattle.str_scene.specs.Scenes.{Here, Scene, Session, nth}
 use Rattle.str_model.specs.Views.{Doing, View, starts}
@@ -14,9 +14,10 @@ use Rattle.str_model.proofs.Everywhere.{IsSeen, Stage, at_place, during, stage_o
 use Rattle.str_model.proofs.Lists.{got_replicate, got_set}
 use Rattle.str_model.proofs.Members.{In, in_append}
 use Rattle.str_model.proofs.Owning.{own_step}
-use Rattle.si_laws.proofs.Sessions.{InOrder, PlacedIn, Told, order-step, ours-step, rising-step, told-step, told_in}
+use Rattle.str_model.proofs.Orders.{InOrder, PlacedIn, order-step}
+use Rattle.si_laws.proofs.Sessions.{Told, ours-step, rising-step, told-step, told_in}
 use Rattle.str_model.proofs.Telling.{Rising, none_pass, not_true, r_none, tell_step}
-use Rattle.si_laws.proofs.Times.{timed-step, timed_opening}
+use Rattle.str_model.proofs.Timing.{timed-step, timed_opening}
 
 -- what holds of a node
 pub record NodeGood (scene : Scene) (n : ℕ) (answers : List Answer) (v : View) : Type 0 where

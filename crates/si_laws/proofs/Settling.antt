@@ -1,14 +1,19 @@
 -- A version is decided at or above its timestamp, so that each change moves the versions of its node up.
 use Rattle.si_laws.proofs.Around.{FinalKnown, Stand, far_final, own_final}
 use Rattle.si_laws.proofs.Arriving.{ArrivedAs, BegunAt, IsOf, a_final, a_pre, committed_stands}
-use Rattle.si_laws.proofs.Carrying.{decides_far, not_done, pair-is}
+use Rattle.str_model.proofs.Pairing.{decides_far, not_done, pair-is}
 use Rattle.si_laws.proofs.Clearing.{AllMoved, Moved, m_local, m_new, m_old, m_pre}
 use Rattle.si_laws.proofs.Linked.{IsDecidedAs, Told, one_certified, one_of}
 use Rattle.si_laws.proofs.MasterLaw.{Governed}
 use Rattle.si_laws.proofs.Masters.{by_kind}
 use Rattle.si_laws.proofs.Origins.{AllWritten, HasWritten, Origin, og_came, og_commit, og_local, og_old, og_pre, origin}
+use Rattle.str_model.proofs.Owners.{open-fate, same_own}
+use Rattle.str_model.proofs.Acting.{Act, Comes, Where}
+use Rattle.str_model.proofs.Everywhere.{IsSeen, Sent, Stage, at_place, during}
+use Rattle.str_model.proofs.Gaining.{and_left}
+use Rattle.str_model.proofs.Lists.{get_set}
+use Rattle.str_model.proofs.Members.{In, in_at, in_left}
 use Rattle.si_laws.proofs.Clearing
-use Rattle.si_laws.proofs.Owners.{open-fate, same_own}
 use Rattle.std.proofs.Common.{List, Some, false, add-sub_cancel, ap, arith, slice_get, slice_set, subst, subst₂, sym, true, ℕ, ◌++◌, ◌+◌, ◌-◌, ◌∙◌, ◌≡◌, ◌≤◌}
 use Rattle.str_base.specs.Versions.{mark_of, of_pair}
 use Rattle.str_base.specs.declared.names.Kind.TheVariants.{Final, Local as LocalKind, Pre}
@@ -18,11 +23,6 @@ use Rattle.str_base.specs.declared.names.Ts.{Ts}
 use Rattle.str_base.specs.declared.names.TxId.{TxId}
 use Rattle.str_base.specs.declared.names.Version.{Version}
 use Rattle.str_base.specs.declared.names.Write.{Write}
-use Rattle.str_model.proofs.Acting.{Act, Comes, Where}
-use Rattle.str_model.proofs.Everywhere.{IsSeen, Sent, Stage, at_place, during}
-use Rattle.str_model.proofs.Gaining.{and_left}
-use Rattle.str_model.proofs.Lists.{get_set}
-use Rattle.str_model.proofs.Members.{In, in_at, in_left}
 use Rattle.str_model.specs.Owned.{Owns}
 use Rattle.str_model.specs.Proposals.{is_done}
 use Rattle.str_model.specs.Steps.{decides}

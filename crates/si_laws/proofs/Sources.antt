@@ -1,6 +1,10 @@
 -- What a read and a reply give is a version of the key.
 use Rattle.dependency_set.specs.Snapshots.{Snap, accept_final, holds, oldest}
-use Rattle.si_laws.proofs.Marking.{finish-looks, same_key-is}
+use Rattle.str_model.proofs.Marking.{finish-looks, same_key-is}
+use Rattle.str_model.proofs.Acting.{Change, Comes, ReadsTo, ch_away, ch_blind, ch_close, ch_gate, ch_known, ch_read, ch_reply, ch_resolve, ch_take, ch_wait, to_final, to_local}
+use Rattle.str_model.proofs.Gaining.{and_left, if_elim, in_last}
+use Rattle.str_model.proofs.Members.{In, in_append, in_filter}
+use Rattle.si_laws.proofs.ReadTurns.{reply-is}
 use Rattle.std.proofs.Common.{Bool, List, None, Option, Some, [], ap, false, filter, if◌then◌else◌, inl, inr, nat_le, refl, slice_get, subst, subst₂, sym, true, ℕ, ◌&&◌, ◌+◌, ◌-◌, ◌∙◌, ◌∷◌, ◌≡◌}
 use Rattle.str_base.specs.declared.names.KeyId.{KeyId}
 use Rattle.str_base.specs.declared.names.Kind.{Kind}
@@ -13,9 +17,6 @@ use Rattle.str_base.specs.declared.names.Value.TheVariants.{Absent}
 use Rattle.str_base.specs.declared.names.Version.{Version}
 use Rattle.str_base.specs.Values.{is_below}
 use Rattle.str_base.specs.Versions.{last_pre, last_undecided, same_key, visible}
-use Rattle.str_model.proofs.Acting.{Change, Comes, ReadsTo, ch_away, ch_blind, ch_close, ch_gate, ch_known, ch_read, ch_reply, ch_resolve, ch_take, ch_wait, to_final, to_local}
-use Rattle.str_model.proofs.Gaining.{and_left, if_elim, in_last}
-use Rattle.str_model.proofs.Members.{In, in_append, in_filter}
 use Rattle.str_model.specs.declared.messages.Body.TheVariants.{ReadReply}
 use Rattle.str_model.specs.declared.messages.Input.{Input}
 use Rattle.str_model.specs.declared.names.ReadDone.{ReadDone}
@@ -26,7 +27,6 @@ use Rattle.str_model.specs.Views.{Active, Closing, Doing, Own, Reply, View}
 use Rattle.str_scene.specs.declared.names.Op.TheVariants.{Abort as Stop, Add, Del, Get, Need, Put, Puts}
 use Rattle.str_scene.specs.declared.names.Op.{Op}
 use Rattle.str_scene.specs.Scenes.{Here, first_or, hosts_key, part_of, replicas}
-use Rattle.si_laws.proofs.ReadTurns.{reply-is}
 
 -- the writer is that of a version of the key
 abbrev pub FromVersion : List Version → KeyId → Option TxId → Type 0

@@ -2,9 +2,13 @@
 use Rattle.si_laws.proofs.Linked.{IsCertified, Linked, certified_stays}
 use Rattle.si_laws.proofs.Linking.{placed_writes}
 use Rattle.si_laws.proofs.LinkingAll.{linked_opening, linked_step}
-use Rattle.si_laws.proofs.Parts.{Placed, by_master, by_slave}
+use Rattle.str_model.proofs.Parts.{Placed, by_master, by_slave}
 use Rattle.si_laws.proofs.ReadLetters.{ReadLetter, is_other, letters_act, rl_commit, rl_other, rl_reply, rl_request}
 use Rattle.si_laws.proofs.Sources.{OwnFrom, change_from, got_from, serve_from, still_from}
+use Rattle.str_model.proofs.Acting.{Act, Comes, Where, act_abort, act_abort_came, act_accept, act_ack, act_ask, act_begin, act_certify, act_close, act_commit, act_commit_came, act_mark, act_put, act_refuse, act_reply, act_request, act_take, act_unwait, act_wait}
+use Rattle.str_model.proofs.Everywhere.{IsSeen, Sent, Stage, at_place, during, stage_of}
+use Rattle.str_model.proofs.Lists.{get_set, get_set_other, got_push, got_replicate, got_set}
+use Rattle.str_model.proofs.Members.{In, in_append, in_at, in_filter, in_insert_all, in_left, in_map, in_right, in_without}
 use Rattle.std.proofs.Common.{Bool, List, None, Option, Some, ap, filter, inl, inr, map, refl, replicate, slice_get, slice_set, subst, subst₂, sym, ℕ, ◌++◌, ◌∙◌, ◌≡◌}
 use Rattle.str_base.specs.declared.names.KeyId.{KeyId}
 use Rattle.str_base.specs.declared.names.NodeId.{NodeId}
@@ -14,10 +18,6 @@ use Rattle.str_base.specs.declared.names.Value.{Value}
 use Rattle.str_base.specs.declared.names.Version.{Version}
 use Rattle.str_base.specs.declared.names.Write.{Write}
 use Rattle.str_base.specs.Versions.{insert_all, of_pair, of_tx, settled, without}
-use Rattle.str_model.proofs.Acting.{Act, Comes, Where, act_abort, act_abort_came, act_accept, act_ack, act_ask, act_begin, act_certify, act_close, act_commit, act_commit_came, act_mark, act_put, act_refuse, act_reply, act_request, act_take, act_unwait, act_wait}
-use Rattle.str_model.proofs.Everywhere.{IsSeen, Sent, Stage, at_place, during, stage_of}
-use Rattle.str_model.proofs.Lists.{get_set, get_set_other, got_push, got_replicate, got_set}
-use Rattle.str_model.proofs.Members.{In, in_append, in_at, in_filter, in_insert_all, in_left, in_map, in_right, in_without}
 use Rattle.str_model.specs.Acts.{abort_came, aborted, accepted, acked, asked, begun, certified, closed, commit_came, committed, fresh, in_phase, is_hosted_of, local_version, marked, pre_version, refused, replied, requested, taken, waits, with_asked}
 use Rattle.str_model.specs.declared.messages.Arrived.{Arrived}
 use Rattle.str_model.specs.declared.messages.Body.TheVariants.{ReadReply}

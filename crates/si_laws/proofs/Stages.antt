@@ -1,14 +1,11 @@
 -- A pair of another node's transaction moves only forward.
-use Rattle.std.proofs.Common.{Bool, List, Some, [], ap, arith, eq-eqb, eqb-true, false, filter, if◌then◌else◌, inl, inr, map, not, refl, slice_get, slice_set, subst, sym, true, ℕ, ◌&&◌, ◌++◌, ◌+◌, ◌==◌, ◌||◌, ◌∙◌, ◌∷◌, ◌≡◌, ◌≢◌, ◌≤◌, ◌⊎◌}
+use Rattle.std.proofs.Common.{Bool, List, Some, [], ap, arith, eqb-true, false, filter, inl, inr, map, refl, slice_get, slice_set, subst, sym, true, ℕ, ◌&&◌, ◌++◌, ◌+◌, ◌==◌, ◌∙◌, ◌∷◌, ◌≡◌, ◌≢◌, ◌≤◌, ◌⊎◌}
 use Rattle.std.specs.List.{list_any}
 use Rattle.str_scene.specs.declared.names.Event.{Event}
 use Rattle.str_base.specs.declared.names.PartId.{PartId}
-use Rattle.str_base.specs.declared.names.Ts.{Ts}
 use Rattle.str_base.specs.declared.names.TxId.{TxId}
 use Rattle.str_base.specs.declared.names.Version.{Version}
-use Rattle.str_base.specs.declared.names.Write.{Write}
 use Rattle.str_model.specs.declared.messages.Arrived.{Arrived}
-use Rattle.str_model.specs.declared.messages.Body.{Body}
 use Rattle.str_model.specs.declared.messages.Input.{Input}
 use Rattle.str_model.specs.declared.messages.Waiter.{Waiter}
 use Rattle.str_model.specs.declared.messages.Waiter.TheVariants.{Held, Read}
@@ -19,123 +16,19 @@ use Rattle.str_model.specs.Proposals.{holds_pair, is_done, is_pair, is_parked, p
 use Rattle.str_model.specs.Runs.{World, opening, run, run_from}
 use Rattle.str_scene.specs.SceneLimits.{IsScene}
 use Rattle.str_scene.specs.Scenes.{Here, Scene}
-use Rattle.str_model.specs.Steps.{drop_held}
-use Rattle.str_model.specs.Strange.{has_named, has_named_writes}
-use Rattle.str_model.specs.Strange
 use Rattle.str_base.specs.Versions.{of_pair, of_tx, same_node, same_part, same_tx, settled, without}
 use Rattle.str_model.specs.Views.{Doing, View, name_of}
-use Rattle.str_model.proofs.Acting.{Act, Arrives, IsHere, Served, Where, it_comes, it_waits, left_waiting, a_prepare, a_read, act_abort, act_abort_came, act_accept, act_ack, act_ask, act_begin, act_certify, act_close, act_commit, act_commit_came, act_mark, act_put, act_refuse, act_reply, act_request, act_take, act_unwait, act_wait, s_read}
+use Rattle.str_model.proofs.Acting.{Act, IsHere, Served, Where, act_abort, act_abort_came, act_accept, act_ack, act_ask, act_begin, act_certify, act_close, act_commit, act_commit_came, act_mark, act_put, act_refuse, act_reply, act_request, act_take, act_unwait, act_wait, it_comes, it_waits, left_waiting, s_read}
 use Rattle.str_model.proofs.Everywhere.{IsSeen, Stage, at_each_node, at_place, during, ever_after, run-append, stage_of}
-use Rattle.str_model.proofs.Gaining.{and_left, and_right}
+use Rattle.str_model.proofs.Gaining.{and_left}
 use Rattle.str_model.proofs.Lists.{get_set, get_set_other, got_set}
-use Rattle.str_model.proofs.Members.{In, in_all_new, in_all_old, map_in, in_append, in_left, in_right}
-use Rattle.si_laws.proofs.Parts.{WaitStep, w_fewer, w_more, wait_step}
-
--- a member passes the test
-abbrev pub Has : {A : Type 0} → (A → Bool) → List A → Type 0
-Has {A = A} p xs = (x : A) × In x xs × (p x ≡ true)
-
-pub or_right_true : (a b : Bool) → b ≡ true → (a || b) ≡ true
-or_right_true true b e = refl
-or_right_true false b e = e
-
-pub has_at : {A : Type 0} (p : A → Bool) (xs : List A) (x : A) → In x xs → p x ≡ true → list_any p xs ≡ true
-has_at p [] x h e = absurd h
-has_at p (y ∷ xs) x (inl q) e = rw (ap p q ∙ e) refl
-has_at p (y ∷ xs) x (inr h) e = or_right_true (p y) (list_any p xs) (has_at p xs x h e)
-
-pub any_has : {A : Type 0} (p : A → Bool) (xs : List A) → list_any p xs ≡ true → Has p xs
-any_has p [] e = absurd (cc e)
-any_has {A = A} p (y ∷ xs) e = by_test (p y) refl (any_has p xs) e
-  where
-    by_test : (b : Bool) → p y ≡ b → (list_any p xs ≡ true → Has p xs) → (b || list_any p xs) ≡ true → Has p (y ∷ xs)
-    by_test true q rec k = (y, inl refl, q)
-    by_test false q rec k = let r = rec k in (r.0, inr r.1, r.2)
+use Rattle.str_model.proofs.Members.{In, in_all_new, in_all_old, in_append, in_left, in_right, map_in}
+use Rattle.str_model.proofs.Parts.{wait_step}
+use Rattle.str_model.proofs.Pairing.{Has, SomeWrites, any_has, has_at, joined_pair, keep_held, keep_without, not_both, pair_same, some_step}
 
 -- ---- names
 
--- the transactions and partitions are one
-pub record SamePair (t u : TxId) (p q : PartId) : Type 0 where
-  pub node : t.node.0 ≡ u.node.0
-  pub seq : t.seq ≡ u.seq
-  pub part : p.0 ≡ q.0
-
-pub pair_same : (t u : TxId) (p q : PartId) → (same_tx t u && same_part p q) ≡ true → SamePair t u p q
-pair_same t u p q e =
-    let both = and_left (same_tx t u) (same_part p q) e in
-    record {
-      node = eqb-true t.node.0 u.node.0 (and_left (same_node t.node u.node) (t.seq == u.seq) both);
-      seq = eqb-true t.seq u.seq (and_right (same_node t.node u.node) (t.seq == u.seq) both);
-      part = eqb-true p.0 q.0 (and_right (same_tx t u) (same_part p q) e);
-    }
-
-pub same_pair : (t u : TxId) (p q : PartId) → SamePair t u p q → (same_tx t u && same_part p q) ≡ true
-same_pair t u p q s =
-    let a : (t.node.0 == u.node.0) ≡ true = eq-eqb t.node.0 u.node.0 s.node in
-    let b : (t.seq == u.seq) ≡ true = eq-eqb t.seq u.seq s.seq in
-    let c : (p.0 == q.0) ≡ true = eq-eqb p.0 q.0 s.part in
-    rw (a, b, c) refl
-
--- two pairs that are both x's
-pub joined_pair : (x t u : TxId) (r p q : PartId) → (same_tx x t && same_part r p) ≡ true → (same_tx x u && same_part r q) ≡ true → (same_tx u t && same_part q p) ≡ true
-joined_pair x t u r p q e f =
-    let a = pair_same x t r p e in
-    let b = pair_same x u r q f in
-    same_pair u t q p (record { node = sym b.node ∙ a.node; seq = sym b.seq ∙ a.seq; part = sym b.part ∙ a.part })
-
-pub keep_without : (test : Version → Bool) (vs : List Version) (x : Version) → In x vs → test x ≡ false → In x (without test vs)
-keep_without test [] x h e = absurd h
-keep_without test (y ∷ vs) x (inl q) e = rw (ap test q ∙ e) (inl q)
-keep_without test (y ∷ vs) x (inr h) e = by_test (test y) (keep_without test vs x h e)
-  where
-    by_test : (b : Bool) → In x (without test vs) → In x (if not b then y ∷ without test vs else without test vs)
-    by_test true k = k
-    by_test false k = inr k
-
-keep_held : (t : TxId) (q : PartId) (ws : List Waiter) (x : Waiter) → In x ws → In x (drop_held t q ws) ⊎ (holds_pair t q x ≡ true)
-keep_held t q [] x h = absurd h
-keep_held t q (y ∷ ws) x h = by_test (keep_held t q ws x) (holds_pair t q y) refl h
-  where
-    by_test : (In x ws → In x (drop_held t q ws) ⊎ (holds_pair t q x ≡ true)) → (b : Bool) → holds_pair t q y ≡ b → In x (y ∷ ws)
-        → In x (if b then ws else y ∷ drop_held t q ws) ⊎ (holds_pair t q x ≡ true)
-    by_test rec true e (inl k) = inr (ap (holds_pair t q) (sym k) ∙ e)
-    by_test rec true e (inr k) = inl k
-    by_test rec false e (inl k) = inl (inl k)
-    by_test rec false e (inr k) = elim (rec k) [ inl j ↦ inl (inr j) | inr j ↦ inr j ]
-
-pub not_both : (b : Bool) → (b ≡ true → ⊥) → b ≡ false
-not_both true h = absurd (h refl)
-not_both false h = refl
-
 -- ---- what one who is parked asks for is not empty
-
-abbrev pub SomeWrites : View → Type 0
-SomeWrites v = (a : Arrived) → In (Held a) v.waiters → (w : Write) × In w a.writes
-
-no_false : (a b c d f : Bool) → (a && (b && (c && (d && (false && f))))) ≡ true → ⊥
-no_false true true true true f e = absurd (cc e)
-no_false true true true false f e = absurd (cc e)
-no_false true true false d f e = absurd (cc e)
-no_false true false c d f e = absurd (cc e)
-no_false false b c d f e = absurd (cc e)
-
-pub valid_some : (here : Here) (tx : TxId) (p : PartId) (rs lc : Ts) (ws : List Write) → has_named_writes here tx p rs lc ws ≡ true → (w : Write) × In w ws
-valid_some here tx p rs lc [] e = absurd (no_false (Strange.has_node here tx.node) (Strange.has_part here p) (Strange.below_limit rs) (Strange.below_limit lc) (Strange.has_values here []) e)
-valid_some here tx p rs lc (w ∷ ws) e = (w, inl refl)
-
-pub some_step : (here : Here) (input : Input) (d e : Doing) → WaitStep here input d e → SomeWrites d.view → SomeWrites e.view
-some_step here input d e (w_fewer f) h a k = h a (f (Held a) k)
-some_step here input d e (w_more w c q) h a k = elim (in_append d.view.waiters (w ∷ []) (Held a) (subst (In (Held a)) q k)) [
-  | inl j ↦ h a j
-  | inr j ↦ (elim j [ inl g ↦ arrived w c g | inr z ↦ absurd z ])
-]
-  where
-    arrived : (w : Waiter) → Arrives here input d w → w ≡ Held a → (w : Write) × In w a.writes
-    arrived w (a_read from tx k rs c) g = absurd (cc g)
-    arrived w (a_prepare from b c u z m) g =
-        let same : b ≡ a = cc g in
-        let named : has_named here c.0.body ≡ true = and_right (Strange.has_node here c.0.sender) (has_named here c.0.body) (and_right (same_node c.0.receiver here.node) (Strange.has_node here c.0.sender && has_named here c.0.body) c.4) in
-        subst (λ (m : Arrived). (w : Write) × In w m.writes) same (valid_some here b.tx b.part b.rs b.lc b.writes (subst (λ (m : Body). has_named here m ≡ true) c.3 named))
 
 -- ---- each change
 

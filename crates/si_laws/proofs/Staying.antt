@@ -1,34 +1,16 @@
 -- A decided transaction stays, and the answers grow at their end.
-use Rattle.std.proofs.Common.{List, Some, [], ap, append-nil, append_assoc, false, slice_get, sym, true, ℕ, ◌++◌, ◌∙◌, ◌≡◌, ◌≢◌}
+use Rattle.std.proofs.Common.{List, Some, [], ap, append-nil, append_assoc, slice_get, sym, ℕ, ◌++◌, ◌∙◌, ◌≡◌}
 use Rattle.str_model.specs.declared.messages.Answer.{Answer}
 use Rattle.str_model.specs.declared.messages.Input.{Input}
 use Rattle.si_laws.specs.Laws.Lasting.{AnswersGrow, DecidedStay, IsPrefixOf}
 use Rattle.str_model.specs.Owned.{Owns}
 use Rattle.str_model.specs.Runs.{opening, run}
 use Rattle.str_scene.specs.Scenes.{Scene}
-use Rattle.str_model.specs.Views.{Doing, Own, View, is_decided}
+use Rattle.str_model.specs.Views.{Doing, View}
 use Rattle.str_model.proofs.Acting.{Act, Where}
 use Rattle.str_model.proofs.Everywhere.{IsSeen, Stage, at_place, during, ever_after, run-append, stays_at}
-use Rattle.str_model.proofs.Lists.{get_push, get_set_other}
-use Rattle.str_model.proofs.Owning.{Becomes, OwnStep, aborts, certifies, closes, commits, goes_on, own_step, rests, starts_one, turns_one}
-
-pub becomes-open : (v : View) (f g : ℕ) (x y : Own) → Becomes v f g x y → is_decided x.phase ≡ false
-becomes-open v f g x y (goes_on r e) = r.was_open
-becomes-open v f g x y (certifies lc o n p q s l e) = o
-becomes-open v f g x y (commits lc fc o l le q e) = o
-becomes-open v f g x y (closes o n q e) = o
-becomes-open v f g x y (aborts cause o q e) = o
-
-pub decided-step : (i : ℕ) (x : Own) (d e : View) → is_decided x.phase ≡ true → OwnStep d e → Owns d i x → Owns e i x
-decided-step i x d e dec (rests o f) h = rw o h
-decided-step i x d e dec (starts_one place rs le o f) h = rw o (get_push d.own i _ x h)
-decided-step i x d e dec (turns_one n x' y' own o b) h = rw o (get_set_other d.own n i y' other ∙ h)
-  where
-    other : i ≢ n
-    other q =
-        let k : Some x ≡ Some x' = sym h ∙ (ap (λ m. slice_get d.own m) q ∙ own) in
-        let same : x ≡ x' = cc k in
-        cc (ap (λ z. is_decided z.phase) same, dec, becomes-open d d.floor e.floor x' y' b)
+use Rattle.str_model.proofs.Owning.{own_step}
+use Rattle.str_model.proofs.Pairing.{decided-step}
 
 pub decided_stay : DecidedStay
 decided_stay scene ok early late n i v x is own dec =

@@ -14,12 +14,12 @@ use Rattle.str_model.proofs.Everywhere.{during, stage_of}
 use Rattle.str_model.proofs.Later.{Took, at_each_moment, took}
 use Rattle.str_model.proofs.Lists.{get_set, got_set}
 use Rattle.str_model.proofs.Members.{in_at}
-use Rattle.si_laws.specs.GateLaw.{CommittedBefore, GateLaw, HasCommitted, WritersFirst}
-use Rattle.si_laws.specs.Standing.{ReadFrom}
 use Rattle.si_laws.proofs.GateFirst.{cascades, dependencies_first}
 use Rattle.si_laws.proofs.Gating.{committed_is, decided_later, fate_own, nth_place, order, stand_moment, stood_before, strict}
-use Rattle.si_laws.proofs.Owners.{same_own}
+use Rattle.str_model.proofs.Owners.{same_own}
 use Rattle.si_laws.proofs.Reporting.{CommittedIn, ReadOk, Reported, reported-act, reported_opening, ro_committed, ro_gone, ro_listed}
+use Rattle.si_laws.specs.GateLaw.{CommittedBefore, GateLaw, HasCommitted, WritersFirst}
+use Rattle.si_laws.specs.Standing.{ReadFrom}
 
 module _ (scene : Scene) (ok : IsScene scene) (es : List Event) where
   pub reported_moment : (j m : ℕ) (n : NodeId) (d : Doing) (a : MomentAt (trace scene es) j m n d) (t : Took scene es j a.0 n) → Reported scene (during (stage_of (run scene t.from.early)) t.takes.place d)

@@ -30,9 +30,9 @@ use Rattle.str_model.proofs.Gaining.{if_elim}
 use Rattle.str_model.proofs.Lists.{get_push, get_set, get_set_other, got_replicate, got_set, same_or_not}
 use Rattle.str_model.proofs.Members.{In, in_append, in_at, in_filter, in_insert_all, in_left, in_map, in_right, in_without}
 use Rattle.si_laws.proofs.LetterSources.{LetterFrom, letter-act, lf_abort, lf_ack, lf_commit, lf_copy, lf_prepare, lf_refuse, lf_replicate, lf_reply, lf_request}
-use Rattle.si_laws.proofs.Marking.{same_key-is}
-use Rattle.si_laws.proofs.Owners.{same_own}
-use Rattle.si_laws.proofs.Parts.{Placed, WaitStep, by_master, by_slave, w_fewer, w_more, wait_step}
+use Rattle.str_model.proofs.Marking.{same_key-is}
+use Rattle.str_model.proofs.Owners.{same_own}
+use Rattle.str_model.proofs.Parts.{Placed, WaitStep, by_master, by_slave, w_fewer, w_more, wait_step}
 
 -- the key is one of these writes
 abbrev pub WroteKey : List Write → KeyId → Type 0

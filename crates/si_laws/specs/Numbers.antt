@@ -1,24 +1,14 @@
 -- All timestamps of a state, and how many proposals were made.
+use Rattle.str_model.specs.Owned.{or_nothing, final_times}
 use Rattle.std.specs.List.{count_by, sum_by}
-use Rattle.std.specs.Prelude.{Bool, List, None, Option, Some, [], false, flat_map, is_some, map, true, ℕ, ◌++◌, ◌+◌, ◌∷◌}
+use Rattle.std.specs.Prelude.{Bool, List, None, Some, [], false, flat_map, is_some, map, true, ℕ, ◌++◌, ◌+◌, ◌∷◌}
 use Rattle.partition_map.specs.declared.rows.Asked.{Asked}
 use Rattle.str_model.specs.declared.messages.Body.{Body}
 use Rattle.str_model.specs.declared.messages.Body.TheVariants.{Abort, Ack, Commit, Prepare, ReadReply, ReadReq, Refuse, Replicate}
 use Rattle.str_model.specs.declared.messages.Waiter.{Waiter}
 use Rattle.str_model.specs.declared.messages.Waiter.TheVariants.{Held, Read}
 use Rattle.str_model.specs.Runs.{World}
-use Rattle.str_model.specs.Views.{Committed, Own, Phase, Reply, View, lc_of}
-
--- an optional timestamp as a list
-abbrev pub or_nothing : Option ℕ → List ℕ
-or_nothing None = []
-or_nothing (Some t) = t ∷ []
-
--- the final timestamps that a phase keeps
-abbrev pub final_times : Phase → List ℕ
-final_times (Committed lc fc) = or_nothing fc
-final_times (Reply k v by fc) = fc ∷ []
-final_times _ = []
+use Rattle.str_model.specs.Views.{Own, View, lc_of}
 
 -- the timestamp of an answer
 abbrev pub ack_times : Asked → List ℕ

@@ -9,7 +9,8 @@ use Rattle.str_base.specs.declared.names.Write.{Write}
 use Rattle.str_model.specs.declared.messages.Answer.{Answer}
 use Rattle.str_model.specs.declared.messages.Outcome.{Outcome}
 use Rattle.str_model.specs.declared.messages.Outcome.TheVariants.{Aborted, Committed}
-use Rattle.si_laws.specs.Commits.{seen, wrote_key}
+use Rattle.si_laws.specs.Commits.{seen}
+use Rattle.str_model.specs.Owned.{wrote_key}
 use Rattle.str_model.specs.Evaluation.{AtEnd, Evaluated, Unmet, Wished}
 use Rattle.str_scene.specs.SceneLimits.{Exists}
 use Rattle.str_scene.specs.Scenes.{Scene, Session, nth}

@@ -1,9 +1,9 @@
 -- What a snapshot takes over stays among the transactions that are told of, and so fits.
-use Rattle.std.proofs.Common.{Bool, List, Some, [], arith, false, if◌then◌else◌, length, ltb-true, nat_lt, refl, rules, suc, tests, true, ℕ, ◌<◌, ◌==◌, ◌∷◌, ◌≡◌, ◌≤◌}
+use Rattle.std.proofs.Common.{Bool, List, Some, [], arith, false, if◌then◌else◌, length, refl, rules, suc, tests, true, ℕ, ◌<◌, ◌==◌, ◌∷◌, ◌≡◌, ◌≤◌}
 use Rattle.std.specs.List.{AllByRecursion}
 use Rattle.dependency_set.specs.declared.names.Dep.{Dep}
 use Rattle.dependency_set.specs.declared.snaps.OwnSnap.{OwnSnap}
-use Rattle.dependency_set.specs.Snapshots.{IsRising, IsSet, Snap, accept_local, insert_dep, union}
+use Rattle.dependency_set.specs.Snapshots.{IsRising, IsSet, Snap, accept_local, union}
 use Rattle.dependency_set.proofs.Sets.{all-insert, rising-insert, rising-union}
 use Rattle.snapshot_read.specs.Shown.{AreNamed, IsNamed, OthersNamed, told}
 

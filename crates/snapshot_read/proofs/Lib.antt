@@ -3,3 +3,4 @@ pub mod Gating
 pub mod Seeing
 pub mod Reading
 pub mod Finding
+pub mod FromFacts

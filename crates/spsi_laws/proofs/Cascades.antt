@@ -1,14 +1,14 @@
 -- One pass by rising number ends every cascade, over every run.
 use Rattle.std.proofs.Common.{Option, Some, length, refl, subst, ◌≡◌}
-use Rattle.si_laws.proofs.Beneath.{Below}
-use Rattle.si_laws.proofs.Depending.{depends-act}
-use Rattle.si_laws.proofs.Owners.{Depends}
-use Rattle.si_laws.proofs.Standing.{open_opening, pass_open, step_open}
-use Rattle.spsi_laws.proofs.Dependencies.{stands_below}
-use Rattle.spsi_laws.specs.Laws.Cascades.{CascadesEnd}
+use Rattle.str_model.proofs.Beneath.{Below}
+use Rattle.str_model.proofs.Depending.{depends-act}
+use Rattle.str_model.proofs.Owners.{Depends}
+use Rattle.str_model.proofs.Standing.{open_opening, pass_open, step_open}
 use Rattle.str_model.proofs.Acting.{InRule, Path, PathTo, along}
 use Rattle.str_model.proofs.Everywhere.{at_each_event, at_place}
 use Rattle.str_model.proofs.Ruling.{rule-path}
+use Rattle.spsi_laws.proofs.Dependencies.{stands_below}
+use Rattle.spsi_laws.specs.Laws.Cascades.{CascadesEnd}
 use Rattle.str_model.specs.declared.messages.Input.{Input}
 use Rattle.str_model.specs.Pass.{pass_to}
 use Rattle.str_model.specs.Steps.{rule}

@@ -3,7 +3,6 @@
 use Rattle.std.proofs.Common.{List, None, Option, Some, [], add-sub_cancel, ap, arith, false, inl, inr, refl, slice_get, slice_set, subst, sym, ℕ, ◌+◌, ◌-◌, ◌∙◌, ◌∷◌, ◌≡◌, ◌≤◌, ◌⊎◌}
 use Rattle.dependency_set.specs.Snapshots.{Snap}
 use Rattle.dependency_set.specs.declared.names.Dep.{Dep}
-use Rattle.si_laws.proofs.Owners.{Depends, LocalOwner, WeakDep, same_own}
 use Rattle.si_laws.proofs.Reporting.{CommittedIn, Reported, lift_c}
 use Rattle.spsi_laws.proofs.Growing.{GainsAll, Grows}
 use Rattle.spsi_laws.proofs.Lasting.{SettledIn, fates_on, lasts_act, left_names, looked}
@@ -21,6 +20,7 @@ use Rattle.str_model.specs.Views.{Doing, Own, Reply, View, is_decided, lc_of}
 use Rattle.str_model.specs.declared.messages.Input.{Input}
 use Rattle.str_model.specs.declared.names.ReadDone.{ReadDone}
 use Rattle.str_scene.specs.Scenes.{Scene}
+use Rattle.str_model.proofs.Owners.{Depends, LocalOwner, WeakDep, same_own}
 
 -- a read of the transaction, or of one that it depends on
 pub data ReadsVia (v : View) (x : Own) (r : ReadDone) : Type 0 where

@@ -8,8 +8,8 @@ use Rattle.str_model.specs.Owned.{Owns}
 use Rattle.str_model.specs.Turns.{own_fate, phase_fate}
 use Rattle.str_model.specs.Turns
 use Rattle.str_model.specs.Views.{Own, View, is_decided}
-use Rattle.si_laws.proofs.Beneath.{Below}
-use Rattle.si_laws.proofs.Standing.{fate_open, open_opening, step_open}
+use Rattle.str_model.proofs.Beneath.{Below}
+use Rattle.str_model.proofs.Standing.{fate_open, open_opening, step_open}
 use Rattle.str_model.proofs.Everywhere.{at_each_event}
 use Rattle.str_model.proofs.Members.{In, in_at}
 use Rattle.str_scene.specs.Scenes.{Here}

@@ -3,7 +3,6 @@ use Rattle.std.proofs.Common.{Bool, List, Some, [], ap, arith, false, ifâ—Œthenâ
 use Rattle.dependency_set.specs.Snapshots.{Snap}
 use Rattle.dependency_set.specs.declared.names.Dep.{Dep}
 use Rattle.si_laws.proofs.Carrying.{carried}
-use Rattle.si_laws.proofs.Owners.{same_own}
 use Rattle.spsi_laws.proofs.Moving.{Moves, OwnMove, m_begins, m_rests, m_sets, mv_grows, mv_resolve, mv_same, own_move}
 use Rattle.str_model.proofs.Acting.{Act, Path, Where, along}
 use Rattle.str_model.proofs.Gaining.{Names}
@@ -18,6 +17,7 @@ use Rattle.str_model.specs.Views.{Doing, Own, View, lc_of}
 use Rattle.str_model.specs.declared.messages.Input.{Input}
 use Rattle.str_model.specs.declared.names.ReadDone.{ReadDone}
 use Rattle.str_scene.specs.Scenes.{Here}
+use Rattle.str_model.proofs.Owners.{same_own}
 
 -- ---- a look at dependencies
 

@@ -3,11 +3,9 @@ use Rattle.std.proofs.Common.{Bool, List, None, Option, Some, [], ap, arith, fal
 use Rattle.std.proofs.lemmas.List.Sums.{sum_by-append, sum_by-cons}
 use Rattle.std.specs.List.{count_by, sum_by}
 use Rattle.partition_map.specs.declared.rows.Asked.{Asked}
-use Rattle.si_laws.proofs.Homes.{OwnGood}
 use Rattle.spsi_laws.proofs.LeftHome.{Together, mine}
 use Rattle.spsi_laws.proofs.LeftOwn.{ask_left, certified_left, few_parts_left, left_aborted, left_certified, left_committed, left_global, left_of, named_left}
 use Rattle.spsi_laws.proofs.LeftSums.{count_set, sum_map_each, sum_set}
-use Rattle.si_laws.proofs.Scripting.{ScriptGood}
 use Rattle.str_base.specs.declared.names.Cause.{Cause}
 use Rattle.str_base.specs.declared.names.KeyId.{KeyId}
 use Rattle.str_base.specs.declared.names.NodeId.{NodeId}
@@ -26,6 +24,8 @@ use Rattle.str_model.specs.declared.messages.Message.{Message}
 use Rattle.str_model.specs.declared.messages.Waiter.{Waiter}
 use Rattle.str_scene.specs.declared.names.TxPlace.{TxPlace}
 use Rattle.str_scene.specs.Scenes.{Here, Scene, first_or, leads, others, participants, replicas}
+use Rattle.str_model.proofs.Scripting.{ScriptGood}
+use Rattle.str_model.proofs.Homes.{OwnGood}
 
 -- what messages count for
 unfoldable pub weights : Scene → List Message → ℕ

@@ -2,7 +2,6 @@
 use Rattle.std.proofs.Common.{Bool, List, None, Option, Some, [], add-one, ap, arith, eqb-true, false, length, refl, replicate, slice_get, slice_set, sub-one, subst, suc, sym, true, zero, ℕ, ◌++◌, ◌+◌, ◌-◌, ◌∙◌, ◌∷◌, ◌≡◌, ◌≢◌, ◌≤◌}
 use Rattle.std.specs.List.{count_by}
 use Rattle.si_laws.proofs.SessionLaw.{get_within}
-use Rattle.si_laws.proofs.Sessions.{InOrder}
 use Rattle.spsi_laws.proofs.LeftActs.{owns_left, todo, waits_left, weights, weights_cons, weights_none}
 use Rattle.spsi_laws.proofs.LeftHome.{mine}
 use Rattle.spsi_laws.proofs.LeftOwn.{left_of}
@@ -26,6 +25,7 @@ use Rattle.str_model.specs.declared.messages.Message.{Message}
 use Rattle.str_scene.specs.declared.names.Event.{Event}
 use Rattle.str_scene.specs.declared.names.Event.TheVariants.{Client as ClientEvent, Deliver as DeliverEvent}
 use Rattle.str_scene.specs.Scenes.{Here, Scene, Session, nth}
+use Rattle.str_model.proofs.Orders.{InOrder}
 
 less_one : (j : ℕ) → suc j - 1 ≡ j
 less_one j = omega arith

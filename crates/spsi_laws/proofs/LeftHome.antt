@@ -4,12 +4,6 @@ use Rattle.std.proofs.Common.{Bool, List, None, Option, Some, [], ap, arith, eqb
 use Rattle.std.proofs.lemmas.Option.{slice_get_within}
 use Rattle.std.specs.List.{count_by}
 use Rattle.partition_map.specs.declared.rows.Asked.{Asked}
-use Rattle.si_laws.proofs.Counting.{one_if}
-use Rattle.si_laws.proofs.Homes.{AckStep, AckedParts, AtHome, a_new, a_old, acked_parts, home-step}
-use Rattle.si_laws.proofs.Pairs.{AtMaster}
-use Rattle.si_laws.proofs.Parts.{WaitStep, w_fewer, w_more, wait_step}
-use Rattle.si_laws.proofs.Scripting.{AllScripts, script-act}
-use Rattle.si_laws.proofs.Turning.{OwnChange, o_aborts, o_acks, o_asks, o_begins, o_certifies, o_closes, o_commits, o_puts, o_rests, own_change}
 use Rattle.spsi_laws.proofs.LeftSums.{count_none, count_push, count_set}
 use Rattle.str_base.specs.declared.names.NodeId.{NodeId}
 use Rattle.str_base.specs.declared.names.PartId.{PartId}
@@ -29,6 +23,12 @@ use Rattle.str_model.specs.declared.messages.Waiter.{Waiter}
 use Rattle.str_model.specs.declared.messages.Waiter.TheVariants.{Held}
 use Rattle.str_scene.specs.declared.names.TxPlace.{TxPlace}
 use Rattle.str_scene.specs.Scenes.{Here, Scene, others, participants, replicas, unasked, written_parts}
+use Rattle.str_model.proofs.Turning.{OwnChange, o_aborts, o_acks, o_asks, o_begins, o_certifies, o_closes, o_commits, o_puts, o_rests, own_change}
+use Rattle.str_model.proofs.Scripting.{AllScripts, script-act}
+use Rattle.str_model.proofs.Parts.{WaitStep, w_fewer, w_more, wait_step}
+use Rattle.str_model.proofs.Pairs.{AtMaster}
+use Rattle.str_model.proofs.Homes.{AckStep, AckedParts, AtHome, a_new, a_old, acked_parts, home-step}
+use Rattle.str_model.proofs.Counting.{one_if}
 
 -- ---- asked together
 

@@ -4,13 +4,8 @@ use Rattle.std.proofs.lemmas.List.Sums.{sum_by-append, sum_by-cons}
 use Rattle.std.proofs.lemmas.Option.{slice_get_within}
 use Rattle.std.specs.List.{list_any, sum_by}
 use Rattle.partition_map.specs.declared.rows.Asked.{Asked}
-use Rattle.si_laws.proofs.Counting.{how_many, many_append, one_if}
-use Rattle.si_laws.proofs.Homes.{OwnGood, seats}
 use Rattle.si_laws.proofs.Repeats.{map_length}
-use Rattle.si_laws.proofs.Scripting.{ScriptGood, WritesKey}
 use Rattle.si_laws.proofs.Seats.{flat_map_in}
-use Rattle.si_laws.proofs.Stages.{any_has, has_at}
-use Rattle.si_laws.specs.Commits.{wrote_key}
 use Rattle.spsi_laws.proofs.LeftHome.{Together}
 use Rattle.spsi_laws.proofs.LeftSums.{filter_few, length_flat, sum_at_least, sum_filter_less, sum_map_each}
 use Rattle.str_base.specs.Values.{is_below}
@@ -34,6 +29,11 @@ use Rattle.str_scene.specs.declared.names.Op.{Op}
 use Rattle.str_scene.specs.declared.names.Op.TheVariants.{Abort as Stop, Add, Del, Get, Need, Put, Puts}
 use Rattle.str_scene.specs.declared.names.TxPlace.{TxPlace}
 use Rattle.str_scene.specs.Scenes.{Here, all_parts, in_part, others, participants, replicas, script_at, unasked, written_parts}
+use Rattle.str_model.specs.Owned.{wrote_key}
+use Rattle.str_model.proofs.Scripting.{ScriptGood, WritesKey}
+use Rattle.str_model.proofs.Pairing.{any_has, has_at}
+use Rattle.str_model.proofs.Homes.{OwnGood, seats}
+use Rattle.str_model.proofs.Counting.{how_many, many_append, one_if}
 
 -- what an own transaction counts for
 unfoldable pub left_of : Here → Own → ℕ

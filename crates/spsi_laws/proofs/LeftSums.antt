@@ -2,7 +2,7 @@
 use Rattle.std.proofs.Common.{Bool, List, None, Option, Some, [], ap, arith, cond, drop, false, filter, flat_map, inl, inr, length, map, not, refl, replicate, slice_get, slice_set, suc, sym, true, zero, ℕ, ◌*◌, ◌++◌, ◌+◌, ◌<◌, ◌∙◌, ◌∷◌, ◌≡◌, ◌≤◌}
 use Rattle.std.proofs.lemmas.List.Sums.{sum_by-cons}
 use Rattle.std.specs.List.{count_by, sum_by}
-use Rattle.si_laws.proofs.Counting.{one_if}
+use Rattle.str_model.proofs.Counting.{one_if}
 
 -- ---- sums
 

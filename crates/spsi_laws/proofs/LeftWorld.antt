@@ -2,7 +2,6 @@
 use Rattle.std.proofs.Common.{Bool, List, None, Option, Some, [], add-one, add-sub_cancel, ap, append-nil, arith, drop, eq-eqb, eqb-true, false, inl, inr, length, length-append, map, nat_lt, not, option_map, refl, replicate, slice_get, slice_set, sub-one, subst, suc, sym, true, zero, ℕ, ◌*◌, ◌++◌, ◌+◌, ◌-◌, ◌<◌, ◌==◌, ◌∙◌, ◌∷◌, ◌≡◌, ◌≢◌, ◌≤◌}
 use Rattle.std.proofs.lemmas.List.Sums.{sum_by-cons}
 use Rattle.std.specs.List.{count_by, sum_by}
-use Rattle.si_laws.proofs.Counting.{one_if}
 use Rattle.si_laws.proofs.Seats.{own_seat}
 use Rattle.si_laws.proofs.SessionLaw.{length_copies, length_set}
 use Rattle.spsi_laws.proofs.LeftActs.{Eases, asks_one, owns_left, todo, waits_left, weights, weights_append}
@@ -42,6 +41,7 @@ use Rattle.str_scene.specs.declared.names.Event.TheVariants.{Client as ClientEve
 use Rattle.str_scene.specs.declared.names.Op.{Op}
 use Rattle.str_scene.specs.declared.names.TxPlace.{TxPlace}
 use Rattle.str_scene.specs.Scenes.{Here, Scene, Session, first_or, in_part, leads, nth, ops_at, or_none, others, replicas, script_at}
+use Rattle.str_model.proofs.Counting.{one_if}
 
 -- ---- a whole step
 

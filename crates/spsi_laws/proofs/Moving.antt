@@ -1,7 +1,6 @@
 -- What a single change does to the snapshots, the reads and the writes of own transactions.
 use Rattle.std.proofs.Common.{None, Option, Some, [], ap, false, inl, inr, refl, slice_get, slice_set, subst, sym, true, ℕ, ◌++◌, ◌-◌, ◌∙◌, ◌∷◌, ◌≡◌, ◌≤◌}
 use Rattle.dependency_set.specs.Snapshots.{Snap, holds}
-use Rattle.si_laws.proofs.Marking.{finish-looks, finish_next-looks}
 use Rattle.si_laws.proofs.ReadTurns.{local-is, reply-is}
 use Rattle.si_laws.proofs.ReadsBack.{finish-snap, finish_next-snap}
 use Rattle.spsi_laws.proofs.Growing.{FinalSource, Grows, cert-grows, local-grows, plain-grows, reply-grows}
@@ -22,6 +21,7 @@ use Rattle.str_model.specs.declared.messages.Input.{Input}
 use Rattle.str_model.specs.declared.names.ReadDone.{ReadDone}
 use Rattle.str_scene.specs.Scenes.{Here}
 use Rattle.str_scene.specs.declared.names.TxPlace.{TxPlace}
+use Rattle.str_model.proofs.Marking.{finish-looks, finish_next-looks}
 
 -- where a new read comes from, and that the snapshot has taken it in
 pub data Source (v : View) (x : Own) (new : Snap) (r : ReadDone) : Type 0 where

@@ -1,7 +1,6 @@
 -- What a dependency depends on, those that depend on it depend on too, or it has committed.
 use Rattle.std.proofs.Common.{List, Some, add-sub_cancel, ap, arith, false, inl, inr, refl, slice_get, subst, sym, ℕ, ◌+◌, ◌-◌, ◌∙◌, ◌≡◌, ◌⊎◌}
 use Rattle.dependency_set.specs.Snapshots.{Snap}
-use Rattle.si_laws.proofs.Owners.{Depends, LocalOwner, WeakDep, same_own}
 use Rattle.spsi_laws.proofs.Growing.{GainsAll, Grows}
 use Rattle.spsi_laws.proofs.Lasting.{fates_on, lasts_act, left_names, looked}
 use Rattle.spsi_laws.proofs.Moving.{Moves, OwnMove, m_begins, m_rests, m_sets, mv_grows, mv_resolve, mv_same, own_move}
@@ -15,6 +14,7 @@ use Rattle.str_model.specs.Turns.{CommittedAt, DepTurn, dep_turn, left_by, own_f
 use Rattle.str_model.specs.Views.{Doing, Own, View, is_decided, lc_of}
 use Rattle.str_model.specs.declared.messages.Input.{Input}
 use Rattle.str_scene.specs.Scenes.{Here}
+use Rattle.str_model.proofs.Owners.{Depends, LocalOwner, WeakDep, same_own}
 
 -- it is a dependency too, or it has committed
 abbrev pub IsNested : View → Own → ℕ → Type 0

@@ -8,12 +8,9 @@ use Rattle.si_laws.proofs.GuardSent.{same_or_other}
 use Rattle.si_laws.proofs.Guards.{OpenWriter, ReadGuard, fg_none, fg_some, rg_final, rg_gone, rg_open, rg_sent}
 use Rattle.si_laws.proofs.InTime.{IsVisible, none_visible, visible_one}
 use Rattle.si_laws.proofs.Linked.{one_certified, one_of}
-use Rattle.si_laws.proofs.Mastering.{one_write}
 use Rattle.si_laws.proofs.Masters.{by_kind}
 use Rattle.si_laws.proofs.Origins.{HasWritten}
-use Rattle.si_laws.proofs.Owners.{LocalOwner, WeakDep, same_own}
 use Rattle.si_laws.proofs.Reporting.{ReadOk, ro_committed, ro_gone, ro_listed}
-use Rattle.si_laws.proofs.Scripting.{ScriptGood, scripts_after}
 use Rattle.si_laws.proofs.Seats.{of_nth}
 use Rattle.si_laws.specs.SpeculativeIsolation.{ReadLocal}
 use Rattle.si_laws.specs.Standing.{IsOpen}
@@ -36,6 +33,9 @@ use Rattle.str_model.specs.declared.names.ReadDone.{ReadDone}
 use Rattle.str_scene.specs.SceneLimits.{IsScene}
 use Rattle.str_scene.specs.Scenes.{Scene}
 use Rattle.str_scene.specs.declared.names.Event.{Event}
+use Rattle.str_model.proofs.Scripting.{ScriptGood, scripts_after}
+use Rattle.str_model.proofs.Owners.{LocalOwner, WeakDep, same_own}
+use Rattle.str_model.proofs.Mastering.{one_write}
 
 module _ (scene : Scene) (ok : IsScene scene) (es : List Event) where
   state : Answering scene (stage_of (run scene es))

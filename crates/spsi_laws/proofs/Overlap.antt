@@ -4,9 +4,6 @@ use Rattle.si_laws.proofs.Grounds.{Grounds, grounds}
 use Rattle.si_laws.proofs.Linked.{IsCertified, one_certified, one_of}
 use Rattle.si_laws.proofs.Masters.{IsBefore}
 use Rattle.si_laws.proofs.Overlapping.{at_final, key_of_table, kinds, master_of, script_op}
-use Rattle.si_laws.proofs.Scripting.{ScriptGood, scripts_after}
-use Rattle.si_laws.proofs.Stages.{has_at}
-use Rattle.si_laws.specs.Commits.{wrote_key}
 use Rattle.si_laws.specs.Standing.{IsCommitted}
 use Rattle.std.proofs.Common.{List, ap, arith, eq-eqb, inl, inr, length, refl, slice_get, subst, subst₂, sym, true, ℕ, ◌+◌, ◌<◌, ◌∙◌, ◌≡◌, ◌≢◌, ◌≤◌, ◌⊎◌}
 use Rattle.str_base.specs.Versions.{same_key}
@@ -23,6 +20,9 @@ use Rattle.str_model.specs.Views.{Own, View}
 use Rattle.str_scene.specs.SceneLimits.{IsScene}
 use Rattle.str_scene.specs.Scenes.{Scene, hosts, is_master, part_of}
 use Rattle.str_scene.specs.declared.names.Event.{Event}
+use Rattle.str_model.specs.Owned.{wrote_key}
+use Rattle.str_model.proofs.Scripting.{ScriptGood, scripts_after}
+use Rattle.str_model.proofs.Pairing.{has_at}
 
 module _ (scene : Scene) (ok : IsScene scene) (es : List Event) where
   -- a written key is one of the scene

@@ -4,11 +4,8 @@ use Rattle.std.proofs.Common.{List, Some, [], add-sub_cancel, ap, arith, false, 
 use Rattle.dependency_set.specs.Snapshots.{Snap, holds}
 use Rattle.dependency_set.specs.declared.names.Dep.{Dep}
 use Rattle.si_laws.proofs.Around.{Around, Stand, final_below, final_late, local_above, local_below}
-use Rattle.si_laws.proofs.Beneath.{UpTo, keeps_up_to, leaves}
 use Rattle.si_laws.proofs.Grounds.{Grounds, grounds_step}
-use Rattle.si_laws.proofs.Owners.{WeakDep, same_own}
 use Rattle.si_laws.proofs.Reporting.{Reported}
-use Rattle.si_laws.proofs.Standing.{fate_open}
 use Rattle.spsi_laws.proofs.Counting.{AllCounted, Counted, ReadsVia, by_dep, c_final, c_listed, counted_act, dep_reads, its_own, via_back}
 use Rattle.spsi_laws.proofs.Growing.{gate_below}
 use Rattle.spsi_laws.proofs.Lasting.{CertifiedWith, left_names, reads_last}
@@ -30,6 +27,9 @@ use Rattle.str_model.specs.declared.messages.Input.{Input}
 use Rattle.str_model.specs.declared.names.ReadDone.{ReadDone}
 use Rattle.str_scene.specs.SceneLimits.{IsScene}
 use Rattle.str_scene.specs.Scenes.{Scene}
+use Rattle.str_model.proofs.Standing.{fate_open}
+use Rattle.str_model.proofs.Owners.{WeakDep, same_own}
+use Rattle.str_model.proofs.Beneath.{UpTo, keeps_up_to, leaves}
 
 -- of one transaction
 abbrev pub PairsOf : Scene → Stage → ℕ → View → Own → Type 0

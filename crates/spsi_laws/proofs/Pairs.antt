@@ -7,7 +7,6 @@ use Rattle.si_laws.proofs.Gating.{committed_is}
 use Rattle.si_laws.proofs.Grounds.{committer}
 use Rattle.si_laws.proofs.GuardSent.{same_or_other}
 use Rattle.si_laws.proofs.Linked.{one_of}
-use Rattle.si_laws.proofs.Owners.{same_own}
 use Rattle.si_laws.proofs.Reporting.{CommittedIn}
 use Rattle.si_laws.proofs.Seats.{of_nth}
 use Rattle.si_laws.specs.SpeculativeIsolation.{RestsFurther, RestsOn}
@@ -39,6 +38,7 @@ use Rattle.str_model.specs.declared.names.ReadDone.{ReadDone}
 use Rattle.str_scene.specs.SceneLimits.{IsScene}
 use Rattle.str_scene.specs.Scenes.{Scene}
 use Rattle.str_scene.specs.declared.names.Event.{Event}
+use Rattle.str_model.proofs.Owners.{same_own}
 
 -- one of two is before the other, or they are one
 abbrev pub Either : TxId → Own → TxId → Own → Type 0

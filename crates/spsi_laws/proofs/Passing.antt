@@ -1,11 +1,7 @@
 -- Over every run: each that an undecided transaction or one of its dependencies has read from is before each of its dependencies, where both wrote one key.
 use Rattle.std.proofs.Common.{Bool, List, None, Option, Some, [], arith, false, inl, inr, length, refl, slice_get, subst, suc, sym, true, zero, ℕ, ◌∙◌, ◌≡◌}
 use Rattle.std.proofs.lemmas.Option.{slice_get_within}
-use Rattle.si_laws.proofs.Beneath.{Below, OpenAt, UpTo, keeps_below, leaves}
-use Rattle.si_laws.proofs.Depending.{depends-act}
 use Rattle.si_laws.proofs.Grounds.{grounds_opening}
-use Rattle.si_laws.proofs.Owners.{Depends}
-use Rattle.si_laws.proofs.Standing.{of_own-open, open_opening, step_open, turn_open}
 use Rattle.spsi_laws.proofs.Lasting.{left_names}
 use Rattle.spsi_laws.proofs.Pairing.{AllPaired, Calm, Middle, active_path, calm_paired, calm_same, middle_path}
 use Rattle.spsi_laws.proofs.Ruled.{Ruled, RuledTo, calm_more, is_calm, operates, own_calm, ruled, set_calm}
@@ -29,6 +25,10 @@ use Rattle.str_model.specs.declared.messages.Input.{Input}
 use Rattle.str_scene.specs.SceneLimits.{IsScene}
 use Rattle.str_scene.specs.Scenes.{Here, Scene}
 use Rattle.str_scene.specs.declared.names.Event.{Event}
+use Rattle.str_model.proofs.Standing.{of_own-open, open_opening, step_open, turn_open}
+use Rattle.str_model.proofs.Owners.{Depends}
+use Rattle.str_model.proofs.Depending.{depends-act}
+use Rattle.str_model.proofs.Beneath.{Below, OpenAt, UpTo, keeps_below, leaves}
 
 -- ---- the first part of a turn
 

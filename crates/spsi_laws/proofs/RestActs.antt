@@ -3,8 +3,6 @@ use Rattle.std.proofs.Common.{List, None, Some, [], ap, false, filter, inl, inr,
 use Rattle.partition_map.specs.declared.rows.Asked.{Asked}
 use Rattle.dependency_set.specs.declared.names.Dep.{Dep}
 use Rattle.si_laws.proofs.Linked.{one_of}
-use Rattle.si_laws.proofs.Parts.{Placed, VersionStep, v_decided, v_finals, v_locals, v_pres, v_rests, v_without}
-use Rattle.si_laws.specs.Laws.Asking.{Asks}
 use Rattle.str_base.specs.declared.names.Cause.{Cause}
 use Rattle.str_base.specs.declared.names.Kind.TheVariants.{Pre}
 use Rattle.str_base.specs.declared.names.NodeId.{NodeId}
@@ -29,6 +27,8 @@ use Rattle.str_model.specs.declared.messages.Body.TheVariants.{Abort, Ack, Commi
 use Rattle.str_model.specs.declared.messages.Input.{Input}
 use Rattle.str_model.specs.declared.messages.Message.{Message}
 use Rattle.str_scene.specs.Scenes.{Here, first_or, in_part, leads, others, participants, replicas}
+use Rattle.str_model.proofs.Parts.{Placed, VersionStep, v_decided, v_finals, v_locals, v_pres, v_rests, v_without}
+use Rattle.str_model.specs.Owned.{Asks}
 
 -- ---- a new Pre version
 

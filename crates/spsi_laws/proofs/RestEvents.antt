@@ -1,6 +1,5 @@
 -- After every list of events each own transaction rests, and those who wait do so for an undecided version.
 use Rattle.std.proofs.Common.{arith, length, option_map, ◌^◌, ◌≤◌, List, None, Option, Some, [], add-one, ap, append_assoc, append-nil, inl, inr, refl, slice_get, slice_set, sub-one, subst, subst₂, suc, sym, zero, ℕ, ◌++◌, ◌+◌, ◌-◌, ◌∙◌, ◌∷◌, ◌≡◌}
-use Rattle.si_laws.proofs.Standing.{open_opening}
 use Rattle.spsi_laws.proofs.LeftWorld.{fit_opening}
 use Rattle.spsi_laws.proofs.RestPass.{WaitsFor, step_rests, step_waits}
 use Rattle.spsi_laws.proofs.RestTurns.{DoneAt, Fit, fits-act}
@@ -31,6 +30,7 @@ use Rattle.str_scene.specs.declared.names.Event.{Event}
 use Rattle.str_scene.specs.declared.names.Event.TheVariants.{Client as ClientEvent, Deliver as DeliverEvent}
 use Rattle.str_scene.specs.SceneLimits.{IsScene}
 use Rattle.str_scene.specs.Scenes.{Here, Scene, Session, nth}
+use Rattle.str_model.proofs.Standing.{open_opening}
 
 pub fits_run : (scene : Scene) → IsScene scene → (es : List Event) (n : ℕ) (v : View) → slice_get (run scene es).nodes n ≡ Some v → Fit (at_place scene n) v
 fits_run scene ok es n v g =

@@ -6,17 +6,11 @@ use Rattle.dependency_set.specs.declared.names.Dep.{Dep}
 use Rattle.si_laws.proofs.Apart.{around_after, stand_after}
 use Rattle.si_laws.proofs.Around.{AroundAfter, after_above, after_below, after_final}
 use Rattle.si_laws.proofs.Asking.{pres_asked}
-use Rattle.si_laws.proofs.Beneath.{Below}
-use Rattle.si_laws.proofs.Carrying.{same_part-is}
-use Rattle.si_laws.proofs.Counting.{many_has}
 use Rattle.si_laws.proofs.Linked.{IsCertified, one_certified, one_of}
 use Rattle.si_laws.proofs.MasterLaw.{governed}
-use Rattle.si_laws.proofs.Owners.{by_decided}
 use Rattle.si_laws.proofs.Seats.{seat_of, to_nth}
 use Rattle.si_laws.proofs.SessionLaw.{get_within, good_everywhere}
-use Rattle.si_laws.proofs.Sessions.{PlacedIn, place_after, told_in}
-use Rattle.si_laws.proofs.Stages.{same_pair}
-use Rattle.si_laws.specs.Laws.Asking.{Asks}
+use Rattle.si_laws.proofs.Sessions.{place_after, told_in}
 use Rattle.si_laws.specs.Laws.Presence.{Holds}
 use Rattle.si_laws.specs.Standing.{Begun}
 use Rattle.si_laws.proofs.AckCounts.{times_bounded}
@@ -52,6 +46,12 @@ use Rattle.str_scene.specs.declared.names.Op.{Op}
 use Rattle.str_scene.specs.declared.names.TxPlace.{TxPlace}
 use Rattle.str_scene.specs.SceneLimits.{Exists, IsScene}
 use Rattle.str_scene.specs.Scenes.{Here, Scene, Session, hosts, in_part, nth, part_of}
+use Rattle.str_model.proofs.Pairing.{same_pair, same_part-is}
+use Rattle.str_model.proofs.Owners.{by_decided}
+use Rattle.str_model.proofs.Orders.{PlacedIn}
+use Rattle.str_model.specs.Owned.{Asks}
+use Rattle.str_model.proofs.Counting.{many_has}
+use Rattle.str_model.proofs.Beneath.{Below}
 
 -- ---- where nothing is left to do
 

@@ -1,9 +1,7 @@
 -- No parked Prepare is judged at the limit of timestamps.
 use Rattle.std.proofs.Common.{List, None, Option, Some, [], ap, arith, false, find, length, lt-ltb, nat_lt, refl, slice_get, slice_set, subst, suc, zero, ℕ, ◌++◌, ◌+◌, ◌<◌, ◌^◌, ◌∷◌, ◌≡◌, ◌≤◌}
 use Rattle.std.specs.List.{sum_by}
-use Rattle.si_laws.proofs.BoundActs.{view_act}
 use Rattle.si_laws.proofs.Bounding.{StageBelow}
-use Rattle.si_laws.proofs.Bounds.{BodyBelow, ViewBelow, body_higher, passed_below, view_higher}
 use Rattle.si_laws.proofs.Proposing.{acks_append, acks_in, certified_in, proposed_by, rise_act, sum_set}
 use Rattle.spsi_laws.proofs.RestPass.{NoLimit, nobody}
 use Rattle.str_base.specs.declared.names.Version.{Version}
@@ -26,6 +24,8 @@ use Rattle.str_model.specs.declared.messages.Input.TheVariants.{Deliver}
 use Rattle.str_model.specs.declared.messages.Message.{Message}
 use Rattle.str_model.specs.declared.messages.Waiter.TheVariants.{Held}
 use Rattle.str_scene.specs.Scenes.{Here, Scene}
+use Rattle.str_model.proofs.Bounds.{BodyBelow, ViewBelow, body_higher, passed_below, view_higher}
+use Rattle.str_model.proofs.BoundActs.{view_act}
 
 ignore_is : (v : View) (a : Arrived) → master_turn v a ≡ Ignore → nat_lt (proposed v a) ts_limit ≡ false
 unfolding master_turn
@@ -46,7 +46,7 @@ module _ (here : Here) (b0 : ℕ) (big : 2 ^ 62 ≤ b0) where
   held_act : (input : Input) (w : Where) → ((m : Message) → input ≡ Deliver m → BodyBelow b0 m.body) → (d e : Doing) → Act here input w d e → Held_ d → Held_ e
   held_act input w comes d e a h =
       let r = rise_act here input w d e a in
-      view_act here input w (b0 + proposed_by d) (omega (arith, big)) (λ m q. body_higher b0 (b0 + proposed_by d) m.body (omega arith) (comes m q)) (b0 + proposed_by e) (omega (arith, r)) d e a (omega (arith, r)) h
+      view_act here input w (b0 + proposed_by d) (omega (arith, big)) (λ m q valid. body_higher b0 (b0 + proposed_by d) m.body (omega arith) (comes m q)) (b0 + proposed_by e) (omega (arith, r)) d e a (omega (arith, r)) h
 
   nothing_comes : (m : Message) → nobody ≡ Deliver m → BodyBelow b0 m.body
   nothing_comes m q = absurd (cc q)

@@ -1,9 +1,6 @@
 -- What each turn leaves stays to the end of the event, and those who go on waiting do so for an undecided version.
 use Rattle.std.proofs.Common.{Bool, List, None, Option, Some, [], ap, append_assoc, arith, eqb-true, false, filter, find, if◌then◌else◌, inl, inr, length, map, nat_le, nat_lt, not, option_map, refl, slice_get, subst, suc, sym, true, zero, ℕ, ◌&&◌, ◌++◌, ◌+◌, ◌<◌, ◌∙◌, ◌∷◌, ◌≡◌, ◌≢◌, ◌≤◌, ◌⊎◌}
 use Rattle.std.proofs.lemmas.Option.{slice_get_within}
-use Rattle.si_laws.proofs.Around.{same_tx-is}
-use Rattle.si_laws.proofs.Beneath.{leaves}
-use Rattle.si_laws.proofs.Stages.{keep_without}
 use Rattle.spsi_laws.proofs.RestStages.{find_is}
 use Rattle.spsi_laws.proofs.RestTurns.{Back, DoneAt, Fit, IsStuck, PreForeign, Rests, fits-act, s_dep, s_own, s_pre, turn_rests}
 use Rattle.str_base.specs.declared.names.KeyId.{KeyId}
@@ -38,6 +35,8 @@ use Rattle.str_model.specs.declared.messages.Input.TheVariants.{Client}
 use Rattle.str_model.specs.declared.messages.Waiter.{Waiter}
 use Rattle.str_model.specs.declared.messages.Waiter.TheVariants.{Held, Read}
 use Rattle.str_scene.specs.Scenes.{Here}
+use Rattle.str_model.proofs.Pairing.{keep_without, same_tx-is}
+use Rattle.str_model.proofs.Beneath.{leaves}
 
 -- an input that brings no message
 abbrev pub nobody : Input

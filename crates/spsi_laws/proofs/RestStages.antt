@@ -4,15 +4,10 @@ use Rattle.std.proofs.Common.{Bool, List, None, Option, Some, [], ap, append-nil
 use Rattle.std.specs.List.{list_any, range_with_len}
 use Rattle.partition_map.specs.declared.rows.Asked.{Asked}
 use Rattle.dependency_set.specs.declared.names.Dep.{Dep}
-use Rattle.si_laws.proofs.Homes.{AckStep, OwnGood, a_new, a_old, acked_parts}
 use Rattle.si_laws.proofs.Linked.{IsCertified, Told, certified-lasts, certified_stays, one_of, one_place}
 use Rattle.si_laws.proofs.Linking.{node_e, placed_foreign, placed_writes, there_d}
 use Rattle.si_laws.proofs.MasterLaw.{Governed, governed-keeps, governed_opening}
-use Rattle.si_laws.proofs.Parts.{Placed, by_master, by_slave, version_step}
 use Rattle.si_laws.proofs.Seats.{own_seat, part_exists, range_in}
-use Rattle.si_laws.proofs.Stages.{has_at}
-use Rattle.si_laws.proofs.Turning.{OwnChange, o_aborts, o_acks, o_asks, o_begins, o_certifies, o_closes, o_commits, o_puts, o_rests, own_change}
-use Rattle.si_laws.specs.Laws.Asking.{Asks}
 use Rattle.si_laws.specs.Laws.Presence.{Decides}
 use Rattle.spsi_laws.proofs.RestActs.{Decided, NewMessage, d_abort, d_close, d_commit, d_old, kept_deps, n_ask, n_old, n_other, new_message, newly_decided, pre_new}
 use Rattle.str_base.specs.declared.names.Cause.{Cause}
@@ -44,6 +39,11 @@ use Rattle.str_model.specs.declared.messages.Message.{Message}
 use Rattle.str_model.specs.declared.messages.Waiter.TheVariants.{Held}
 use Rattle.str_scene.specs.declared.names.Event.{Event}
 use Rattle.str_scene.specs.Scenes.{Here, Scene, all_parts, hosts, in_part, leads, part_of, replicas, written_parts}
+use Rattle.str_model.proofs.Turning.{OwnChange, o_aborts, o_acks, o_asks, o_begins, o_certifies, o_closes, o_commits, o_puts, o_rests, own_change}
+use Rattle.str_model.proofs.Parts.{Placed, by_master, by_slave, version_step}
+use Rattle.str_model.proofs.Pairing.{has_at}
+use Rattle.str_model.proofs.Homes.{AckStep, OwnGood, a_new, a_old, acked_parts}
+use Rattle.str_model.specs.Owned.{Asks}
 
 -- a version is of a certified transaction that wrote its key
 pub record OfWriter (scene : Scene) (s : Stage) (q : Version) : Type 0 where

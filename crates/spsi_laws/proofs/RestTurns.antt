@@ -4,16 +4,11 @@ use Rattle.std.specs.List.{list_all, list_any, range_with_len}
 use Rattle.partition_map.specs.declared.rows.Asked.{Asked}
 use Rattle.dependency_set.specs.declared.names.Dep.{Dep}
 use Rattle.dependency_set.specs.Snapshots.{Snap, accept_final, holds, oldest}
-use Rattle.si_laws.proofs.Counting.{how_many, one_if}
-use Rattle.si_laws.proofs.Depending.{depends-act, earlier}
 use Rattle.si_laws.proofs.Evaluating.{Wants}
 use Rattle.si_laws.proofs.EvaluatingActs.{AllEvaluate, gives-act}
 use Rattle.si_laws.proofs.Linked.{one_of}
-use Rattle.si_laws.proofs.Owners.{Depends}
-use Rattle.si_laws.proofs.Parts.{Placed, by_master, by_slave, version_step}
 use Rattle.si_laws.proofs.Repeats.{map_length, range_length}
 use Rattle.si_laws.proofs.Seats.{own_seat, part_exists, range_in}
-use Rattle.si_laws.proofs.Stages.{any_has, has_at}
 use Rattle.spsi_laws.proofs.LeftHome.{HomeFit, fit-act}
 use Rattle.spsi_laws.proofs.RestActs.{pre_new}
 use Rattle.str_base.specs.declared.names.KeyId.{KeyId}
@@ -47,6 +42,11 @@ use Rattle.str_model.specs.declared.messages.Waiter.TheVariants.{Held}
 use Rattle.str_scene.specs.declared.names.Op.{Op}
 use Rattle.str_scene.specs.declared.names.Op.TheVariants.{Abort as Stop, Add, Del, Get, Need, Put, Puts}
 use Rattle.str_scene.specs.Scenes.{Here, all_parts, hosts_key, participants}
+use Rattle.str_model.proofs.Parts.{Placed, by_master, by_slave, version_step}
+use Rattle.str_model.proofs.Pairing.{any_has, has_at}
+use Rattle.str_model.proofs.Owners.{Depends}
+use Rattle.str_model.proofs.Depending.{depends-act, earlier}
+use Rattle.str_model.proofs.Counting.{how_many, one_if}
 
 -- it waits at its own node
 abbrev pub IsStuck : Phase → Type 0

@@ -1,5 +1,6 @@
 -- A step as a chain of single changes, each under the facts at which it is made. A law over runs looks at each
 -- change once, and never at the order in which a step makes them.
+pub use Rattle.str_model.specs.NodeFacts.{Needs, Needs, Needs, Needs, Needs, IsMasters}
 use Rattle.std.proofs.Common.{List, None, Option, Some, [], false, nat_lt, refl, slice_get, subst, sym, true, ℕ, ◌++◌, ◌+◌, ◌-◌, ◌∷◌, ◌≡◌, ◌≢◌, ◌≤◌, max}
 use Rattle.partition_map.specs.declared.rows.Asked.{Asked}
 use Rattle.str_base.specs.declared.names.Cause.{Cause}
@@ -8,7 +9,7 @@ use Rattle.str_base.specs.declared.names.KeyId.{KeyId}
 use Rattle.str_model.specs.declared.names.KeyMark.{KeyMark}
 use Rattle.str_base.specs.declared.names.NodeId.{NodeId}
 use Rattle.str_scene.specs.declared.names.Op.{Op}
-use Rattle.str_scene.specs.declared.names.Op.TheVariants.{Abort as Stop, Add, Del, Get, Need, Put, Puts}
+use Rattle.str_scene.specs.declared.names.Op.TheVariants.{Abort as Stop, Del, Put, Puts}
 use Rattle.dependency_set.specs.declared.names.Dep.{Dep}
 use Rattle.str_model.specs.Scripts.{finish, finish_next, known, noted, own_op}
 use Rattle.str_base.specs.declared.names.PartId.{PartId}
@@ -75,13 +76,6 @@ pub record GoesOn (v : View) (x y : Own) : Type 0 where
   pub same_place : y.place ≡ x.place
   pub snap : Extends v x.snap y.snap
   pub same_lc : lc_of y.phase ≡ lc_of x.phase
-
--- the operation needs the value of the key
-abbrev pub Needs : Op → KeyId → Type 0
-Needs (Get l) k = l ≡ k
-Needs (Add l n) k = l ≡ k
-Needs (Need l n) k = l ≡ k
-Needs _ k = ⊥
 
 -- the operation needs no value
 abbrev pub NeedsNone : Op → Type 0
@@ -152,11 +146,6 @@ pub data Why (here : Here) (input : Input) (d : Doing) (i : ℕ) (x : Own) : Cau
   by_certification : (u : TxId) (k : KeyId) → cert_turn here d.view x.snap x.writes ≡ Conflict u k → Why here input d i x (ByConflict u k here.node)
   by_eviction : (from : NodeId) (a : Arrived) (w : Write) → Comes here input from (Replicate a.tx a.part a.rs a.lc a.writes) → Why here input d i x (ByConflict a.tx w.key here.node)
   by_refusal : (from : NodeId) (t : TxId) (p : PartId) (u : TxId) (k : KeyId) → Comes here input from (Refusal t p u k) → Why here input d i x (ByConflict u k from)
-
--- this node is the partition's master, and not the transaction's origin
-pub record IsMasters (here : Here) (a : Arrived) : Type 0 where
-  pub master : is_master here.scene here.node a.part ≡ true
-  pub foreign : same_node a.tx.node here.node ≡ false
 
 -- a Prepare is here: it comes for the first time, or it is held
 pub data IsHere (here : Here) (input : Input) (d : Doing) (a : Arrived) : Type 0 where

@@ -1,11 +1,8 @@
 -- What is in a list that was made by the operations of the definitions.
+pub use Rattle.str_model.specs.NodeFacts.{In, In, In}
 use Rattle.std.proofs.Common.{Bool, List, Some, [], ap, false, filter, flat_map, if◌then◌else◌, inl, inr, map, not, refl, slice_get, subst, suc, sym, true, zero, ℕ, ◌++◌, ◌∙◌, ◌∷◌, ◌≡◌, ◌⊎◌}
 use Rattle.str_base.specs.declared.names.Version.{Version}
 use Rattle.str_base.specs.Versions.{insert_all, insert_version, is_before, without}
-
-abbrev pub In : {A : Type 0} → A → List A → Type 0
-In x [] = ⊥
-In x (y ∷ ys) = (y ≡ x) ⊎ In x ys
 
 pub in_at : {A : Type 0} (xs : List A) (k : ℕ) (x : A) → slice_get xs k ≡ Some x → In x xs
 in_at [] k x e = absurd cc

@@ -143,7 +143,7 @@ module _ (here : Here) (input : Input) (w : Where) where
     nth-get xs zero x e = absurd cc
     nth-get xs (suc i) x e = rw sub-one e
 
-    own_named-is : (tx : TxId) (d : Doing) (x : Own) → Returns.own_named here tx d ≡ Some x → IsOwn w d (tx.seq - 1) x
+    pub own_named-is : (tx : TxId) (d : Doing) (x : Own) → Returns.own_named here tx d ≡ Some x → IsOwn w d (tx.seq - 1) x
     own_named-is tx d x =
         if_elim (λ o. o ≡ Some x → IsOwn w d (tx.seq - 1) x) (same_node tx.node here.node) (nth d.view.own tx.seq) None
         (λ e h. (nth-get d.view.own tx.seq x h, touch (tx.seq - 1))) (λ e h. absurd (cc h))

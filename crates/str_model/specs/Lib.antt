@@ -19,3 +19,4 @@ pub mod Lines
 pub mod Traces
 pub mod Evaluation
 pub mod Owned
+pub mod NodeFacts

@@ -1,20 +1,13 @@
 -- Pre versions are of transactions that asked.
+use Rattle.str_model.specs.Owned.{Asks}
 use Rattle.std.specs.Prelude.{List, Some, slice_get, ℕ, ◌≡◌}
 use Rattle.str_base.specs.declared.names.Kind.TheVariants.{Pre}
 use Rattle.str_base.specs.declared.names.PartId.{PartId}
 use Rattle.str_base.specs.declared.names.TxId.{TxId}
 use Rattle.str_base.specs.declared.names.Version.{Version}
-use Rattle.str_model.specs.declared.messages.Body.{Body}
-use Rattle.str_model.specs.declared.messages.Body.TheVariants.{Prepare, Replicate}
 use Rattle.str_model.specs.declared.messages.Message.{Message}
 use Rattle.str_model.specs.Owned.{Always}
 use Rattle.str_model.specs.Runs.{run}
-
--- the body asks this partition for this transaction
-abbrev pub Asks : TxId → PartId → Body → Type 0
-Asks tx p (Prepare t q rs lc ws) = (t ≡ tx) × (q ≡ p)
-Asks tx p (Replicate t q rs lc ws) = (t ≡ tx) × (q ≡ p)
-Asks tx p _ = ⊥
 
 -- the transaction's origin has asked the partition
 abbrev pub HasAsked : List Message → TxId → PartId → Type 0

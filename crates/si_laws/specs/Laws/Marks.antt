@@ -1,4 +1,5 @@
 -- The law Marks: who has read a key has left its mark.
+use Rattle.str_model.specs.Owned.{WaitsFor}
 use Rattle.std.specs.Prelude.{List, Some, false, slice_get, ℕ, ◌≡◌, ◌≤◌, ◌⊎◌}
 use Rattle.partition_map.specs.declared.rows.Asked.{Asked}
 use Rattle.str_scene.specs.declared.names.Event.{Event}
@@ -17,18 +18,11 @@ use Rattle.str_scene.specs.Scenes.{Scene, nth, part_of}
 use Rattle.si_laws.specs.Standing.{Begun, HasRead, IsCommitted, IsOpen}
 use Rattle.str_model.specs.Traces.{Happening, trace}
 use Rattle.str_base.specs.Versions.{mark_of}
-use Rattle.str_model.specs.Views.{Own, Phase, ReadWait, Remote, Reply, View}
+use Rattle.str_model.specs.Views.{Own, View}
 
 -- the mark of the key at the node is at least t
 abbrev pub IsMarked : World → NodeId → KeyId → ℕ → Type 0
 IsMarked w n k t = (v : View) × (nth w.nodes n.0 ≡ Some v) × (t ≤ mark_of v.marks k)
-
--- the transaction waits for a value of the key
-abbrev pub WaitsFor : Phase → KeyId → Type 0
-WaitsFor (ReadWait k) l = k ≡ l
-WaitsFor (Remote k) l = k ≡ l
-WaitsFor (Reply k v by fc) l = k ≡ l
-WaitsFor _ l = ⊥
 
 -- it has read the key or waits to read it
 abbrev pub ReadsKey : Own → KeyId → Type 0

@@ -1,5 +1,6 @@
 -- The law Times.
-use Rattle.std.specs.Prelude.{List, None, Option, Some, false, slice_get, ℕ, ◌*◌, ◌+◌, ◌<◌, ◌^◌, ◌≡◌, ◌≤◌}
+use Rattle.str_model.specs.Owned.{AreTimed}
+use Rattle.std.specs.Prelude.{List, Some, false, slice_get, ℕ, ◌*◌, ◌+◌, ◌<◌, ◌^◌, ◌≡◌, ◌≤◌}
 use Rattle.dependency_set.specs.declared.names.Dep.{Dep}
 use Rattle.str_scene.specs.declared.names.Event.{Event}
 use Rattle.si_laws.specs.Numbers.{all_times, proposals}
@@ -7,19 +8,7 @@ use Rattle.str_model.specs.Owned.{Always, Owns}
 use Rattle.str_model.specs.Runs.{run}
 use Rattle.str_scene.specs.SceneLimits.{IsScene}
 use Rattle.str_scene.specs.Scenes.{Scene}
-use Rattle.str_model.specs.Views.{Committed, Own, View, is_decided, lc_of}
-
--- RS is below LC, LC at most FC, and all are at most the floor
-pub record IsTimed (floor : ℕ) (x : Own) : Type 0 where
-  pub rs : x.snap.rs ≤ floor
-  pub lc : (lc : ℕ) → lc_of x.phase ≡ Some lc → (x.snap.rs < lc) × (lc ≤ floor)
-  pub fc : (l : Option ℕ) (fc : ℕ) → x.phase ≡ Committed l (Some fc) → (lc : ℕ) × (l ≡ Some lc) × (lc ≤ fc) × (fc ≤ floor)
-  pub without_fc : (l : Option ℕ) → x.phase ≡ Committed l None → l ≡ None
-
--- times at a node: the floor is at least each of them, and RS does not fall along the list
-pub record AreTimed (v : View) : Type 0 where
-  pub each : (i : ℕ) (x : Own) → Owns v i x → IsTimed v.floor x
-  pub rising : (i j : ℕ) (x y : Own) → i ≤ j → Owns v i x → Owns v j y → x.snap.rs ≤ y.snap.rs
+use Rattle.str_model.specs.Views.{Own, is_decided}
 
 -- the law
 abbrev pub TimesHold : Type 0

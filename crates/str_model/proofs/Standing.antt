@@ -3,8 +3,7 @@ use Rattle.std.proofs.Common.{Bool, List, None, Option, Some, add-sub_cancel, ap
 use Rattle.dependency_set.specs.declared.names.Dep.{Dep}
 use Rattle.str_model.specs.declared.messages.Input.{Input}
 use Rattle.str_model.specs.Acts.{aborted}
-use Rattle.si_laws.specs.Laws.Times.{IsTimed}
-use Rattle.str_model.specs.Owned.{Owns}
+use Rattle.str_model.specs.Owned.{IsTimed, Owns}
 use Rattle.str_model.specs.Pass
 use Rattle.str_model.specs.Runs.{opening_view}
 use Rattle.str_scene.specs.Scenes.{Here, Scene}
@@ -14,13 +13,13 @@ use Rattle.str_model.specs.Turns
 use Rattle.str_model.specs.Views.{Aborted, Committed, Doing, Own, Phase, View, is_decided, lc_of, starts}
 use Rattle.str_model.proofs.Acting.{Act, InRule, InTurn, InWait, Where, along}
 use Rattle.str_model.proofs.Along.{StepPath, first-path, resolved_first, rest-path, turn-path}
-use Rattle.si_laws.proofs.Beneath.{Below, OpenAt, UpTo, fate_same, keeps_below, keeps_up_to, leaves, resolve_all-open}
-use Rattle.si_laws.proofs.Depending.{depends-act}
+use Rattle.str_model.proofs.Beneath.{Below, OpenAt, UpTo, fate_same, keeps_below, keeps_up_to, leaves, resolve_all-open}
+use Rattle.str_model.proofs.Depending.{depends-act}
 use Rattle.str_model.proofs.Lists.{get_set, get_set_other}
 use Rattle.str_model.proofs.Looking.{after_look}
 use Rattle.str_model.proofs.Members.{In}
-use Rattle.si_laws.proofs.Owners.{Depends, same_own}
-use Rattle.si_laws.proofs.Times.{timed_opening}
+use Rattle.str_model.proofs.Owners.{Depends, same_own}
+use Rattle.str_model.proofs.Timing.{timed_opening}
 
 -- ---- the first part of a turn leaves open dependencies alone
 
@@ -55,12 +54,18 @@ of_own-open here i (Some x) d e b = by_decided (is_decided x.phase) refl b
     by_decided false q b' = resolved-open here i x (dep_turn d.view.own x.snap) d e refl b'
 
 module _ (here : Here) (input : Input) where
-  pub turn_open : (i : ℕ) (d : Doing) → Below here i d.view → Below here (suc i) (Pass.turn here i d).view
+  -- once its dependencies were looked at, each of them is open
+  pub resolved_up : (i : ℕ) (d : Doing) → Below here i d.view → UpTo here i (resolved_first here input (InTurn i) i d).view
   unfolding resolved_first
-  turn_open i d h =
+  resolved_up i d h =
       let d1 : Doing = resolved_first here input (InTurn i) i d in
       let first : Below here i d1.view = along here input (InTurn i) (λ e. Below here i e.view) (keeps_below here input i) d d1 (first-path here input (InTurn i) i d refl) h in
-      let start : UpTo here i d1.view = record { base = first.base; below = first.below; at_it = of_own-open here i (slice_get d.view.own i) d refl first.base } in
+      record { base = first.base; below = first.below; at_it = of_own-open here i (slice_get d.view.own i) d refl first.base }
+
+  pub turn_open : (i : ℕ) (d : Doing) → Below here i d.view → Below here (suc i) (Pass.turn here i d).view
+  turn_open i d h =
+      let d1 : Doing = resolved_first here input (InTurn i) i d in
+      let start : UpTo here i d1.view = resolved_up i d h in
       let end = along here input (InTurn i) (λ e. UpTo here i e.view) (keeps_up_to here input i) d1 (Pass.turn here i d) (rest-path here input (InTurn i) i d refl) start in
       record { base = end.base; below = λ j x dep lt. by_order j x dep end (order j i lt) }
     where
@@ -88,10 +93,10 @@ module _ (here : Here) (input : Input) where
             fate_same InWait d.view e.view dep w.place l w.seq (λ t. t) ∙ h.below j x dep lt (sym (l.others j (λ t. t)) ∙ own) op m;
       }
 
-  same_length : (w : Where) → (w ≢ InRule) → (n : ℕ) (d e : Doing) → Act here input w d e → length d.view.own ≡ n → length e.view.own ≡ n
+  pub same_length : (w : Where) → (w ≢ InRule) → (n : ℕ) (d e : Doing) → Act here input w d e → length d.view.own ≡ n → length e.view.own ≡ n
   same_length w f n d e a q = (leaves here input w d e f a).same_length ∙ q
 
-  pass_length : (n : ℕ) (d : Doing) → length (Pass.pass_to here n d).view.own ≡ length d.view.own
+  pub pass_length : (n : ℕ) (d : Doing) → length (Pass.pass_to here n d).view.own ≡ length d.view.own
   pass_length zero d = refl
   pass_length (suc i) d =
       along here input (InTurn i) (λ e. length e.view.own ≡ length d.view.own) (same_length (InTurn i) (λ q. cc q) (length d.view.own))

@@ -1,8 +1,14 @@
 -- A transaction at its origin: its participants, its own versions, and the answers at which it commits.
+pub use Rattle.str_model.specs.NodeFacts.{seats, seats, final_version, final_version, Answered, Answered, OwnGood, AtHome, AtHome}
 use Rattle.dependency_set.specs.Snapshots.{Snap}
 use Rattle.dependency_set.specs.declared.names.Dep.{Dep}
 use Rattle.partition_map.specs.declared.rows.Asked.{Asked}
-use Rattle.si_laws.proofs.Turning.{DecidesOne, OwnChange, o_aborts, o_acks, o_asks, o_begins, o_certifies, o_closes, o_commits, o_puts, o_rests, own_change, own_stays}
+use Rattle.str_model.proofs.Turning.{DecidesOne, OwnChange, o_aborts, o_acks, o_asks, o_begins, o_certifies, o_closes, o_commits, o_puts, o_rests, own_change, own_stays}
+use Rattle.str_model.proofs.Acting.{Act, Where}
+use Rattle.str_model.proofs.Gaining.{and_left, and_right, if_elim}
+use Rattle.str_model.proofs.Lists.{get_set, got_push, got_set}
+use Rattle.str_model.proofs.Members.{In, in_all_new, in_map, map_in}
+use Rattle.str_model.proofs.Meeting.{filter_in}
 use Rattle.std.proofs.Common.{Bool, List, None, Option, Some, [], ap, arith, eq-eqb, false, filter, find, if◌then◌else◌, inl, inr, is_some, map, max, not, option_map, refl, slice_get, slice_set, subst, subst₂, sym, true, ℕ, ◌&&◌, ◌+◌, ◌||◌, ◌∙◌, ◌∷◌, ◌≡◌, ◌≤◌, ◌⊎◌}
 use Rattle.str_base.specs.Versions.{insert_all, of_tx, same_node, same_part, settled, stamp, without}
 use Rattle.str_base.specs.declared.names.Cause.{Cause}
@@ -11,10 +17,6 @@ use Rattle.str_base.specs.declared.names.PartId.{PartId}
 use Rattle.str_base.specs.declared.names.Ts.{Ts}
 use Rattle.str_base.specs.declared.names.Version.{Version}
 use Rattle.str_base.specs.declared.names.Write.{Write}
-use Rattle.str_model.proofs.Acting.{Act, Where}
-use Rattle.str_model.proofs.Gaining.{and_left, and_right, if_elim}
-use Rattle.str_model.proofs.Lists.{get_set, got_push, got_set}
-use Rattle.str_model.proofs.Members.{In, in_all_new, in_map, map_in}
 use Rattle.str_model.specs.Acts.{decided_versions, fresh, in_phase, is_hosted_of, local_version, with_asked}
 use Rattle.str_model.specs.Gates
 use Rattle.str_model.specs.Gates.{CommitAt, DepParts, ack_or_zero, dep_parts, gate_acks, gate_asks, gate_deps, gate_of, gate_turn, may_ask}
@@ -26,33 +28,6 @@ use Rattle.str_model.specs.Views.{Aborted, Closing, Committed, Doing, Global, Lo
 use Rattle.str_model.specs.declared.messages.Input.{Input}
 use Rattle.str_scene.specs.Scenes.{Here, hosts_key, participants}
 use Rattle.str_scene.specs.declared.names.TxPlace.{TxPlace}
-use Rattle.str_model.proofs.Meeting.{filter_in}
-
--- who takes part, without what was asked and answered
-abbrev pub seats : List Asked → List (PartId × NodeId)
-seats parts = map {A = Asked} (λ a. (a.part, a.node)) parts
-
--- the Final version that a write becomes at the origin
-abbrev pub final_version : Here → ℕ → ℕ → Write → Version
-final_version here i fc w = settled fc (local_version here i fc w)
-
--- the participant has answered at or below fc
-abbrev pub Answered : ℕ → Asked → Type 0
-Answered fc a = (ts : Ts) × (a.ack ≡ Some ts) × (ts.0 ≤ fc)
-
--- an own transaction and its versions. That its participants are those of its writes is needed to find the one at a replica; that
--- there is none before is needed for answers; its Local versions become the Final ones of its commit; and a commit
--- has the answer of each participant
-pub record OwnGood (here : Here) (vs : List Version) (i : ℕ) (x : Own) : Type 0 where
-  pub seats_are : (lc : ℕ) → lc_of x.phase ≡ Some lc → seats x.parts ≡ seats (participants here.scene here.node x.writes)
-  pub none : lc_of x.phase ≡ None → x.parts ≡ []
-  pub locals : is_decided x.phase ≡ false → (lc : ℕ) → lc_of x.phase ≡ Some lc → (w : Write) → In w x.writes → In (local_version here i lc w) vs
-  pub has_lc : (l : Option ℕ) (fc : ℕ) → x.phase ≡ Committed l (Some fc) → (lc : ℕ) × (l ≡ Some lc)
-  pub finals : (l : Option ℕ) (fc : ℕ) → x.phase ≡ Committed l (Some fc) → (w : Write) → In w x.writes → hosts_key here w.key ≡ true → In (final_version here i fc w) vs
-  pub answered : (l : Option ℕ) (fc : ℕ) → x.phase ≡ Committed l (Some fc) → (a : Asked) → In a x.parts → Answered fc a
-
-abbrev pub AtHome : Here → View → Type 0
-AtHome here v = (i : ℕ) (x : Own) → Owns v i x → OwnGood here v.versions i x
 
 -- ---- the gate
 

@@ -13,7 +13,7 @@ use Rattle.str_model.specs.declared.messages.Waiter.{Waiter}
 use Rattle.str_model.specs.declared.messages.Waiter.TheVariants.{Held}
 use Rattle.str_model.specs.Acts.{abort_came, aborted, accepted, acked, asked, begun, certified, closed, commit_came, committed, decided_versions, local_version, marked, pre_version, refused, replied, requested, taken, waits}
 use Rattle.str_model.specs.Acts
-use Rattle.si_laws.specs.Laws.Asking.{Asks}
+use Rattle.str_model.specs.Owned.{Asks}
 use Rattle.str_model.specs.Proposals.{holds_pair}
 use Rattle.str_scene.specs.Scenes.{Here, first_or, in_part, leads, others, replicas}
 use Rattle.str_model.specs.Steps.{drop_held}

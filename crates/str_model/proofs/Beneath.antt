@@ -1,5 +1,6 @@
 -- What a turn keeps of the own transactions below it.
-use Rattle.std.proofs.Common.{Bool, List, [], add-sub_cancel, ap, arith, false, if◌then◌else◌, inl, inr, length, length-append, length-set, max, nat_lt, refl, slice_get, slice_set, subst, sym, true, ℕ, ◌+◌, ◌-◌, ◌<◌, ◌∙◌, ◌∷◌, ◌≡◌, ◌≢◌}
+pub use Rattle.str_model.specs.NodeFacts.{OpenTo, OpenTo}
+use Rattle.std.proofs.Common.{Bool, List, [], add-sub_cancel, ap, arith, false, if◌then◌else◌, inl, inr, length, length-append, length-set, max, nat_lt, refl, slice_get, slice_set, subst, sym, true, ℕ, ◌+◌, ◌-◌, ◌∙◌, ◌∷◌, ◌≡◌, ◌≢◌}
 use Rattle.dependency_set.specs.declared.names.Dep.{Dep}
 use Rattle.str_model.specs.declared.messages.Input.{Input}
 use Rattle.str_model.specs.Acts.{abort_came, aborted, accepted, acked, asked, begun, certified, closed, commit_came, committed, fresh, marked, refused, replied, requested, taken, waits}
@@ -9,11 +10,11 @@ use Rattle.str_model.specs.Turns.{DepTurn, Keep, Late, Lost, own_fate}
 use Rattle.str_model.specs.Turns
 use Rattle.str_model.specs.Views.{Doing, Own, View, is_decided}
 use Rattle.str_model.proofs.Acting.{Act, InRule, InTurn, Touches, Where, act_abort, act_abort_came, act_accept, act_ack, act_ask, act_begin, act_certify, act_close, act_commit, act_commit_came, act_mark, act_put, act_refuse, act_reply, act_request, act_take, act_unwait, act_wait, touches_turn}
-use Rattle.si_laws.proofs.Depending.{depends-act, earlier}
+use Rattle.str_model.proofs.Depending.{depends-act, earlier}
 use Rattle.str_model.proofs.Gaining.{Extends, Gains, gains_it, gains_of}
 use Rattle.str_model.proofs.Lists.{get_set_other, got_set}
 use Rattle.str_model.proofs.Members.{In}
-use Rattle.si_laws.proofs.Owners.{Depends, open-fate, same_own}
+use Rattle.str_model.proofs.Owners.{Depends, open-fate, same_own}
 use Rattle.str_model.proofs.Owning.{Becomes, OwnStep, aborts, certifies, closes, commits, goes_on, own_step, rests, starts_one, turns_one}
 
 -- a change outside the rule leaves the own transactions that it does not touch
@@ -45,10 +46,6 @@ module _ (here : Here) (input : Input) (w : Where) where
   leaves d e n (act_reply tx k rs v u fc d' h) = record { others = λ j f. refl; same_length = refl }
   leaves d e n (act_commit_came from tx p fc ms d' c h) = record { others = λ j f. refl; same_length = refl }
   leaves d e n (act_abort_came from tx p d' c h) = record { others = λ j f. refl; same_length = refl }
-
--- every dependency of an own transaction below n is of an undecided one
-abbrev pub OpenTo : View → ℕ → Type 0
-OpenTo v n = (i : ℕ) (x : Own) (dep : Dep) → i < n → Owns v i x → is_decided x.phase ≡ false → In dep x.snap.deps → own_fate (slice_get v.own (dep.seq - 1)) ≡ Turns.Open
 
 abbrev pub OpenAt : View → ℕ → Type 0
 OpenAt v i = (x : Own) (dep : Dep) → Owns v i x → is_decided x.phase ≡ false → In dep x.snap.deps → own_fate (slice_get v.own (dep.seq - 1)) ≡ Turns.Open

@@ -1,7 +1,9 @@
 -- What a single change does to a pair of another node's transaction and a partition: how it becomes known or done, and that a
 -- parked one is not known.
-use Rattle.si_laws.proofs.Counting.{how_many, many_append, many_dropped, many_dropped_own, many_has, many_left, many_none, many_some, one_if}
-use Rattle.si_laws.proofs.Stages.{Has, has_at, or_right_true, pair_same}
+use Rattle.str_model.proofs.Counting.{how_many, many_append, many_dropped, many_dropped_own, many_has, many_left, many_none, many_some, one_if}
+use Rattle.str_model.proofs.Pairing.{Has, has_at, or_right_true, pair_same}
+use Rattle.str_model.proofs.Acting.{Act, Arrives, Comes, IsHere, IsMasters, Takes, Where, a_prepare, a_read, act_abort, act_abort_came, act_accept, act_ack, act_ask, act_begin, act_certify, act_close, act_commit, act_commit_came, act_mark, act_put, act_refuse, act_reply, act_request, act_take, act_unwait, act_wait, it_comes, it_waits, left_waiting}
+use Rattle.str_model.proofs.Members.{In, in_append, in_filter, in_insert_all, in_map, in_right, in_without}
 use Rattle.std.proofs.Common.{Bool, List, [], ap, arith, false, filter, inl, inr, map, refl, subst, subst₂, suc, sym, true, zero, ℕ, ◌&&◌, ◌++◌, ◌+◌, ◌∙◌, ◌∷◌, ◌≡◌, ◌≢◌, ◌≤◌, ◌⊎◌}
 use Rattle.std.specs.List.{list_any}
 use Rattle.str_base.specs.Versions.{finalise, of_pair, of_tx, same_part, same_tx, settled, without}
@@ -10,8 +12,6 @@ use Rattle.str_base.specs.declared.names.PartId.{PartId}
 use Rattle.str_base.specs.declared.names.Ts.{Ts}
 use Rattle.str_base.specs.declared.names.TxId.{TxId}
 use Rattle.str_base.specs.declared.names.Version.{Version}
-use Rattle.str_model.proofs.Acting.{Act, Arrives, Comes, IsHere, IsMasters, Takes, Where, a_prepare, a_read, act_abort, act_abort_came, act_accept, act_ack, act_ask, act_begin, act_certify, act_close, act_commit, act_commit_came, act_mark, act_put, act_refuse, act_reply, act_request, act_take, act_unwait, act_wait, it_comes, it_waits, left_waiting}
-use Rattle.str_model.proofs.Members.{In, in_append, in_filter, in_insert_all, in_map, in_right, in_without}
 use Rattle.str_model.specs.Acts.{abort_came, aborted, accepted, acked, asked, begun, certified, closed, commit_came, committed, is_hosted_of, local_version, marked, pre_version, refused, replied, requested, taken, waits}
 use Rattle.str_model.specs.Proposals.{holds_pair, is_done, is_known, is_pair, is_parked, proposed}
 use Rattle.str_model.specs.Steps.{drop_held}
@@ -223,7 +223,7 @@ module _ (here : Here) (input : Input) (w : Where) (tx : TxId) (p : PartId) wher
         let h = many_has (holds_pair tx p) d.view.waiters (Held a) (subst (In (Held a)) (sym r) (in_right kept (Held a ∷ rest) (Held a) (inl refl))) s in
         let z = q.apart k in absurd (omega (arith, h, z))
 
-    left_none : (d : Doing) (a : Arrived) → Is a.tx a.part → parked tx p d.view ≤ 1 → (h : IsHere here input d a) → how_many (holds_pair tx p) (left_waiting h) ≡ 0
+    pub left_none : (d : Doing) (a : Arrived) → Is a.tx a.part → parked tx p d.view ≤ 1 → (h : IsHere here input d a) → how_many (holds_pair tx p) (left_waiting h) ≡ 0
     left_none d a s le (it_comes from c u z m) = none_parked d a s z
     left_none d a s le (it_waits kept rest q) =
         let l = many_left (holds_pair tx p) kept rest (Held a) in
@@ -234,7 +234,7 @@ module _ (here : Here) (input : Input) (w : Where) (tx : TxId) (p : PartId) wher
     not_one zero h = refl
     not_one (suc n) h = absurd (h (omega arith))
 
-    taken_none : (d : Doing) (a : Arrived) → Is a.tx a.part → Takes here d a → AtMaster here d.view → parked tx p d.view ≡ 0
+    pub taken_none : (d : Doing) (a : Arrived) → Is a.tx a.part → Takes here d a → AtMaster here d.view → parked tx p d.view ≡ 0
     taken_none d a s t m = not_one (parked tx p d.view) (λ le. clash (many_some (holds_pair tx p) d.view.waiters le))
       where
         clash : Has (holds_pair tx p) d.view.waiters → ⊥

@@ -1,14 +1,13 @@
 -- What becomes of an own transaction on which others depend, and who owns a Local version.
-use Rattle.std.proofs.Common.{Bool, List, None, Some, ap, eq-eqb, false, filter, inl, inr, map, not, refl, slice_get, slice_set, subst, sym, true, ℕ, ◌+◌, ◌<◌, ◌==◌, ◌∙◌, ◌≡◌, ◌≢◌, ◌≤◌, ◌⊎◌}
-use Rattle.dependency_set.specs.declared.names.Dep.{Dep}
+pub use Rattle.str_model.specs.NodeFacts.{LocalOwner, WeakDep, Depends}
+use Rattle.std.proofs.Common.{Bool, List, None, Some, ap, eq-eqb, false, filter, inl, inr, map, not, refl, slice_get, slice_set, subst, sym, true, ℕ, ◌+◌, ◌==◌, ◌∙◌, ◌≡◌, ◌≢◌, ◌⊎◌}
 use Rattle.str_base.specs.declared.names.Kind.TheVariants.{Local as LocalKind}
 use Rattle.str_base.specs.declared.names.PartId.{PartId}
 use Rattle.str_base.specs.declared.names.TxId.{TxId}
 use Rattle.str_base.specs.declared.names.Version.{Version}
 use Rattle.str_model.specs.declared.messages.Arrived.{Arrived}
 use Rattle.str_model.specs.declared.messages.Input.{Input}
-use Rattle.si_laws.specs.Laws.Times.{AreTimed}
-use Rattle.str_base.specs.Versions.{finalise, insert_all, of_pair, of_tx, same_tx, settled, stamp, without}
+use Rattle.str_base.specs.Versions.{finalise, insert_all, of_pair, of_tx, same_tx, settled, without}
 use Rattle.str_model.specs.Acts.{abort_came, aborted, accepted, acked, asked, begun, certified, closed, commit_came, committed, decided_versions, in_phase, is_hosted_of, local_version, marked, pre_version, refused, replied, requested, taken, waits}
 use Rattle.str_model.specs.Owned.{Owns}
 use Rattle.str_model.specs.Proposals.{proposed}
@@ -20,32 +19,6 @@ use Rattle.str_model.proofs.Acting.{Act, Where, act_abort, act_abort_came, act_a
 use Rattle.str_model.proofs.Lists.{get_push, get_set, get_set_other, same_or_not}
 use Rattle.str_model.proofs.Members.{In, in_filter, in_insert_all, in_map, in_without}
 use Rattle.str_model.proofs.Owning.{Becomes, OwnStep, aborts, certifies, closes, commits, goes_on, own_step, rests, starts_one, turns_one}
-
--- a Local version's transaction is an own one, with the version's timestamp for its local commit timestamp
-pub record LocalOwner (here : Here) (v : View) (u : Version) : Type 0 where
-  pub place : ℕ
-  pub owner : Own
-  pub node : u.tx.node.0 ≡ here.node.0
-  pub seq : u.tx.seq ≡ place + 1
-  pub owns : Owns v place owner
-  pub lc : lc_of owner.phase ≡ Some u.ts.0
-  pub open_ : is_decided owner.phase ≡ false
-
-pub record WeakDep (v : View) (i : ℕ) (x : Own) (dep : Dep) : Type 0 where
-  pub place : ℕ
-  pub owner : Own
-  pub seq : dep.seq ≡ place + 1
-  pub before : place < i
-  pub owns : Owns v place owner
-  pub rs : stamp owner.snap.rs ≡ dep.rs
-  pub lc : ℕ
-  pub is_lc : lc_of owner.phase ≡ Some lc
-  pub below : lc ≤ x.snap.rs
-
-pub record Depends (here : Here) (v : View) : Type 0 where
-  pub times : AreTimed v
-  pub locals : (u : Version) → In u v.versions → u.kind ≡ LocalKind → LocalOwner here v u
-  pub deps : (i : ℕ) (x : Own) (dep : Dep) → Owns v i x → is_decided x.phase ≡ false → In dep x.snap.deps → WeakDep v i x dep
 
 pub open-fate : (p : Phase) → is_decided p ≡ false → phase_fate p ≡ Turns.Open
 open-fate Active e = refl

@@ -1,5 +1,6 @@
 -- A transaction that is to abort by a need stands at that need, with a value that does not meet it.
-use Rattle.std.proofs.Common.{Bool, List, None, Option, Some, [], ap, eq-eqb, false, find, if◌then◌else◌, inl, inr, refl, slice_get, slice_set, subst, sym, true, ℕ, ℤ, ◌++◌, ◌+◌, ◌∙◌, ◌∷◌, ◌≡◌}
+pub use Rattle.str_model.specs.NodeFacts.{AtNeed, AtNeed, AtUnmet, AtUnmet, Needy, AllNeedy, AllNeedy}
+use Rattle.std.proofs.Common.{Bool, List, None, Option, Some, [], ap, eq-eqb, false, find, if◌then◌else◌, inl, inr, refl, slice_get, slice_set, subst, sym, true, ℕ, ◌++◌, ◌+◌, ◌∙◌, ◌∷◌, ◌≡◌}
 use Rattle.str_base.specs.declared.names.KeyId.{KeyId}
 use Rattle.str_base.specs.declared.names.TxId.{TxId}
 use Rattle.str_base.specs.declared.names.Value.{Value}
@@ -13,30 +14,13 @@ use Rattle.str_scene.specs.Scenes.{Here}
 use Rattle.str_model.specs.declared.messages.Input.{Input}
 use Rattle.str_model.specs.declared.names.ReadDone.{ReadDone}
 use Rattle.str_model.specs.Acts.{abort_came, aborted, accepted, acked, asked, begun, certified, closed, commit_came, committed, fresh, in_phase, marked, refused, replied, requested, taken, waits}
-use Rattle.str_model.specs.Owned.{Owns}
+use Rattle.str_model.specs.Owned.{WaitsFor}
 use Rattle.str_model.specs.Runs.{opening_view}
 use Rattle.str_model.specs.Scripts.{finish, finish_next, found_read, found_write, known, noted, or_else, own_op}
-use Rattle.str_model.specs.Views.{Active, Closing, Doing, Own, Remote, View}
+use Rattle.str_model.specs.Views.{Active, Closing, Doing, Own, Remote}
 use Rattle.str_model.proofs.Acting.{Act, Change, Needs, NeedsNone, Reads, Where, act_abort, act_abort_came, act_accept, act_ack, act_ask, act_begin, act_certify, act_close, act_commit, act_commit_came, act_mark, act_put, act_refuse, act_reply, act_request, act_take, act_unwait, act_wait, ch_away, ch_blind, ch_close, ch_gate, ch_known, ch_read, ch_reply, ch_resolve, ch_take, ch_wait, reads_again, reads_new}
 use Rattle.str_model.proofs.Lists.{got_push, got_set}
-use Rattle.si_laws.specs.Laws.Marks.{WaitsFor}
-use Rattle.si_laws.proofs.Marking.{same_key-is}
-
--- the script stands at an operation that needs the key, and nothing is known of the key
-abbrev pub AtNeed : Here → Own → KeyId → Type 0
-AtNeed here x k = (op : Op) × (own_op here x ≡ Some op) × Needs op k × (known x k ≡ None)
-
--- the script stands at a need that what is known does not meet
-abbrev pub AtUnmet : Here → Own → Type 0
-AtUnmet here x = (k : KeyId) × (n : ℤ) × (a : Value) × (own_op here x ≡ Some (Need k n)) × (known x k ≡ Some a) × (is_below a n ≡ true)
-
--- Where an own transaction waits for a value or is to abort by a need. Why: so an abort as a wish has its need for a cause.
-pub record Needy (here : Here) (x : Own) : Type 0 where
-  pub unmet : x.phase ≡ Closing true → AtUnmet here x
-  pub waits : (k : KeyId) → WaitsFor x.phase k → AtNeed here x k
-
-abbrev pub AllNeedy : Here → View → Type 0
-AllNeedy here v = (i : ℕ) (x : Own) → Owns v i x → Needy here x
+use Rattle.str_model.proofs.Marking.{same_key-is}
 
 self_key : (k : KeyId) → same_key k k ≡ true
 self_key k = eq-eqb k.0 k.0 refl
@@ -94,7 +78,7 @@ module _ (here : Here) where
   read_needy x k a by snap n =
       subst (λ o. Needy here (finish_next o a (noted k a by snap x))) (sym n.1) (finish_needy n.0 k a (noted k a by snap x) n.1 n.2 (known_noted x k a by snap n.3))
 
-  reads_need : (x : Own) (k : KeyId) → Needy here x → Reads here x k → AtNeed here x k
+  pub reads_need : (x : Own) (k : KeyId) → Needy here x → Reads here x k → AtNeed here x k
   reads_need x k h (reads_new op p e n q) = (op, e, n, q)
   reads_need x k h (reads_again p) = h.waits k (subst (λ f. WaitsFor f k) (sym p) refl)
 

@@ -4,8 +4,7 @@ use Rattle.std.proofs.Common.{Some, add-sub_cancel, ap, arith, false, inl, inr, 
 use Rattle.dependency_set.specs.declared.names.Dep.{Dep}
 use Rattle.str_model.specs.declared.messages.Input.{Input}
 use Rattle.str_model.specs.Acts.{fresh}
-use Rattle.si_laws.specs.Laws.Times.{AreTimed}
-use Rattle.str_model.specs.Owned.{Owns}
+use Rattle.str_model.specs.Owned.{AreTimed, Owns}
 use Rattle.str_scene.specs.Scenes.{Here}
 use Rattle.str_base.specs.Versions.{stamp}
 use Rattle.str_model.specs.Views.{Doing, Own, View, is_decided, lc_of}
@@ -13,9 +12,9 @@ use Rattle.str_model.proofs.Acting.{Act, Where}
 use Rattle.str_model.proofs.Gaining.{Extends, Gains, gains_it, gains_of}
 use Rattle.str_model.proofs.Lists.{got_push, got_set}
 use Rattle.str_model.proofs.Members.{In}
-use Rattle.si_laws.proofs.Owners.{Depends, Locals, WeakDep, after_own, locals-act, same_own}
+use Rattle.str_model.proofs.Owners.{Depends, Locals, WeakDep, after_own, locals-act, same_own}
 use Rattle.str_model.proofs.Owning.{Becomes, OwnStep, aborts, certifies, closes, commits, goes_on, own_step, rests, starts_one, turns_one}
-use Rattle.si_laws.proofs.Times.{timed-step}
+use Rattle.str_model.proofs.Timing.{timed-step}
 
 -- ---- dependencies
 

@@ -1,8 +1,13 @@
 -- What the write buffer of a transaction covers: each key that its operations so far write; and a certified one has done them all.
+pub use Rattle.str_model.specs.NodeFacts.{WritesKey, WritesKey, WritesKey, WritesKey, WritesKey, WritesKey, WrittenIn, WrittenIn, ScriptGood}
 use Rattle.dependency_set.specs.Snapshots.{Snap}
-use Rattle.si_laws.proofs.Mastering.{AreDistinct}
-use Rattle.si_laws.proofs.Stages.{not_both, or_right_true}
-use Rattle.si_laws.specs.Commits.{wrote_key}
+use Rattle.str_model.proofs.Mastering.{AreDistinct}
+use Rattle.str_model.proofs.Pairing.{not_both, or_right_true}
+use Rattle.str_model.proofs.Acting.{Act, AsksCommit, Change, Reads, Where, act_abort, act_abort_came, act_accept, act_ack, act_ask, act_begin, act_certify, act_close, act_commit, act_commit_came, act_mark, act_put, act_refuse, act_reply, act_request, act_take, act_unwait, act_wait, asks_again, asks_new, ch_away, ch_blind, ch_close, ch_gate, ch_known, ch_read, ch_reply, ch_resolve, ch_take, ch_wait, reads_again, reads_new}
+use Rattle.str_model.proofs.Along.{step-keeps}
+use Rattle.str_model.proofs.Everywhere.{at_each_event, at_place}
+use Rattle.str_model.proofs.Gaining.{and_left, and_right, if_elim}
+use Rattle.str_model.proofs.Lists.{got_push, got_set, same_or_not}
 use Rattle.std.proofs.Common.{Bool, List, None, Option, Some, [], ap, arith, eq-eqb, eqb-true, false, if◌then◌else◌, inl, inr, map, not, refl, slice_get, slice_set, subst, suc, sym, true, ℕ, ◌&&◌, ◌+◌, ◌<◌, ◌||◌, ◌∙◌, ◌∷◌, ◌≡◌, ◌≢◌, ◌⊎◌}
 use Rattle.std.specs.List.{list_any}
 use Rattle.str_base.specs.Values.{is_below, set_write}
@@ -11,15 +16,10 @@ use Rattle.str_base.specs.declared.names.KeyId.{KeyId}
 use Rattle.str_base.specs.declared.names.TxId.{TxId}
 use Rattle.str_base.specs.declared.names.Value.{Value}
 use Rattle.str_base.specs.declared.names.Write.{Write}
-use Rattle.str_model.proofs.Acting.{Act, AsksCommit, Change, Reads, Where, act_abort, act_abort_came, act_accept, act_ack, act_ask, act_begin, act_certify, act_close, act_commit, act_commit_came, act_mark, act_put, act_refuse, act_reply, act_request, act_take, act_unwait, act_wait, asks_again, asks_new, ch_away, ch_blind, ch_close, ch_gate, ch_known, ch_read, ch_reply, ch_resolve, ch_take, ch_wait, reads_again, reads_new}
-use Rattle.str_model.proofs.Along.{step-keeps}
-use Rattle.str_model.proofs.Everywhere.{at_each_event, at_place}
-use Rattle.str_model.proofs.Gaining.{and_left, and_right, if_elim}
-use Rattle.str_model.proofs.Lists.{got_push, got_set, same_or_not}
 use Rattle.str_model.specs.Acts.{abort_came, aborted, accepted, acked, asked, begun, certified, closed, commit_came, committed, fresh, in_phase, marked, refused, replied, requested, taken, waits, with_asked}
 use Rattle.str_model.specs.Evaluation
 use Rattle.str_model.specs.Evaluation.{Unmet, eval_from, value_at}
-use Rattle.str_model.specs.Owned.{Owns}
+use Rattle.str_model.specs.Owned.{Owns, wrote_key}
 use Rattle.str_model.specs.Runs.{run}
 use Rattle.str_model.specs.Scripts
 use Rattle.str_model.specs.Scripts.{finish, finish_next, noted, own_op, wrote}
@@ -34,27 +34,6 @@ use Rattle.str_scene.specs.declared.names.Event.{Event}
 use Rattle.str_scene.specs.declared.names.Op.TheVariants.{Abort as Stop, Add, Del, Get, Need, Put, Puts}
 use Rattle.str_scene.specs.declared.names.Op.{Op}
 use Rattle.str_scene.specs.declared.names.TxPlace.{TxPlace}
-
--- the operation writes the key
-abbrev pub WritesKey : Op → KeyId → Type 0
-WritesKey (Put l n) k = l ≡ k
-WritesKey (Puts l t) k = l ≡ k
-WritesKey (Add l n) k = l ≡ k
-WritesKey (Del l) k = l ≡ k
-WritesKey _ k = ⊥
-
--- some operation of the list writes the key
-abbrev pub WrittenIn : List Op → KeyId → Type 0
-WrittenIn ops k = (j : ℕ) × (op : Op) × (slice_get ops j ≡ Some op) × WritesKey op k
-
--- the operations before the next one have their keys in the buffer; where it asks to commit or was certified there is no next one;
--- and each key of the buffer is one of the script, and stands once
-pub record ScriptGood (here : Here) (x : Own) : Type 0 where
-  pub covers : (j : ℕ) (op : Op) (k : KeyId) → j < x.next → slice_get (script_at here.scene x.place) j ≡ Some op → WritesKey op k → wrote_key k x.writes ≡ true
-  pub whole : (lc : ℕ) → lc_of x.phase ≡ Some lc → own_op here x ≡ None
-  pub waits_ : x.phase ≡ CertWait → own_op here x ≡ None
-  pub inside : (k : KeyId) → wrote_key k x.writes ≡ true → WrittenIn (script_at here.scene x.place) k
-  pub once : AreDistinct x.writes
 
 -- ---- writes
 

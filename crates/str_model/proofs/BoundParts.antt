@@ -2,8 +2,10 @@
 use Rattle.dependency_set.specs.declared.names.Dep.{Dep}
 use Rattle.dependency_set.specs.Snapshots.{Snap}
 use Rattle.partition_map.specs.declared.rows.Asked.{Asked}
-use Rattle.si_laws.proofs.Bounds.{MarksBelow, OwnBelow, VersionsBelow, ViewBelow, greatest_below, mark_below, own_at}
-use Rattle.si_laws.specs.Numbers.{final_times}
+use Rattle.str_model.proofs.Bounds.{MarksBelow, OwnBelow, VersionsBelow, ViewBelow, greatest_below, mark_below, own_at}
+use Rattle.str_model.proofs.Gaining.{Extends, Gains, gains_it, gains_of, if_elim}
+use Rattle.str_model.proofs.Members.{In, in_insert_all, in_map, in_without}
+use Rattle.str_model.specs.Owned.{final_times}
 use Rattle.std.proofs.Common.{Bool, List, None, Option, Some, [], ap, arith, find, inl, inr, is_some, map, max, not, refl, slice_set, suc, sym, true, zero, ℕ, ◌+◌, ◌-◌, ◌<◌, ◌∷◌, ◌≡◌, ◌⊎◌}
 use Rattle.str_base.specs.declared.names.KeyId.{KeyId}
 use Rattle.str_base.specs.declared.names.PartId.{PartId}
@@ -13,8 +15,6 @@ use Rattle.str_base.specs.declared.names.Value.{Value}
 use Rattle.str_base.specs.declared.names.Version.{Version}
 use Rattle.str_base.specs.Values.{is_below}
 use Rattle.str_base.specs.Versions.{insert_all, mark_of, raised, settled, without}
-use Rattle.str_model.proofs.Gaining.{Extends, Gains, gains_it, gains_of, if_elim}
-use Rattle.str_model.proofs.Members.{In, in_insert_all, in_map, in_without}
 use Rattle.str_model.specs.Acts.{raise_all, with_asked}
 use Rattle.str_model.specs.declared.messages.Waiter.{Waiter}
 use Rattle.str_model.specs.declared.names.KeyMark.{KeyMark}

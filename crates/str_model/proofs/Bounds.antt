@@ -1,14 +1,13 @@
 -- Times below a bound, and that what a turn decides from such times is below it too.
+pub use Rattle.str_model.specs.NodeFacts.{OwnBelow, WaiterBelow, WaiterBelow, WaiterBelow, MarksBelow, MarksBelow, VersionsBelow, VersionsBelow, ViewBelow}
 use Rattle.std.proofs.Common.{List, None, Option, Some, [], arith, find, inl, inr, max, nat_lt, refl, slice_get, slice_index, subst, suc, sym, zero, ℕ, ◌+◌, ◌-◌, ◌<◌, ◌∷◌, ◌≡◌, ◌≤◌}
 use Rattle.std.specs.List.{last_or}
 use Rattle.dependency_set.specs.declared.names.Dep.{Dep}
 use Rattle.dependency_set.specs.Snapshots.{Snap, accept_final, holds, oldest}
-use Rattle.partition_map.specs.declared.rows.Asked.{Asked}
-use Rattle.si_laws.specs.Numbers.{final_times}
+use Rattle.str_model.specs.Owned.{final_times}
 use Rattle.str_base.specs.declared.names.KeyId.{KeyId}
 use Rattle.str_base.specs.declared.names.Kind.{Kind}
 use Rattle.str_base.specs.declared.names.Kind.TheVariants.{Final, Local as LocalKind, Pre}
-use Rattle.str_base.specs.declared.names.Ts.{Ts}
 use Rattle.str_base.specs.declared.names.TxId.{TxId}
 use Rattle.str_base.specs.declared.names.Value.{Value}
 use Rattle.str_base.specs.declared.names.Value.TheVariants.{Absent}
@@ -26,22 +25,8 @@ use Rattle.str_model.specs.declared.messages.Waiter.TheVariants.{Held, Read}
 use Rattle.str_model.specs.declared.names.KeyMark.{KeyMark}
 use Rattle.str_model.specs.Turns.{Away, CertTurn, Certified, CommittedAt, Conflict, DepTurn, Fate, Give, Gone, Late, Open, Plain, ReadTurn, ServeTurn, ServeWait, Speculative, Wait, WaitGate, cert_turn, conflicts, dep_turn, ffc_left, gated, greatest, joined, met, own_fate, passed, phase_fate, read_turn, reply_turn, serve_turn, take_over}
 use Rattle.str_model.specs.Turns
-use Rattle.str_model.specs.Views.{Aborted, Committed, Own, Phase, View, lc_of}
+use Rattle.str_model.specs.Views.{Aborted, Committed, Own, Phase, View}
 use Rattle.str_scene.specs.Scenes.{Here, hosts_key}
-
--- the times of an own transaction
-pub record OwnBelow (b : ℕ) (x : Own) : Type 0 where
-  pub rs : x.snap.rs < b
-  pub ffc : x.snap.ffc < b
-  pub deps : (d : Dep) → In d x.snap.deps → d.rs.0 < b
-  pub lc : (lc : ℕ) → lc_of x.phase ≡ Some lc → lc < b
-  pub finals : (t : ℕ) → In t (final_times x.phase) → t < b
-  pub acks : (a : Asked) (ts : Ts) → In a x.parts → a.ack ≡ Some ts → ts.0 < b
-
--- those of one who waits
-abbrev pub WaiterBelow : ℕ → Waiter → Type 0
-WaiterBelow b (Read tx k rs) = rs.0 < b
-WaiterBelow b (Held a) = (a.rs.0 < b) × (a.lc.0 < b)
 
 -- those of a message
 abbrev pub BodyBelow : ℕ → Body → Type 0
@@ -53,20 +38,6 @@ BodyBelow b (Replicate tx p rs lc ws) = (rs.0 < b) × (lc.0 < b)
 BodyBelow b (Ack tx p ts) = ts.0 < b
 BodyBelow b (Commit tx p fc ms) = (fc.0 < b) × ((m : KeyMark) → In m ms → m.mark.0 < b)
 BodyBelow b (Abort tx p) = Unit {0}
-
-abbrev pub MarksBelow : ℕ → List ℕ → Type 0
-MarksBelow b ms = (t : ℕ) → In t ms → t < b
-
-abbrev pub VersionsBelow : ℕ → List Version → Type 0
-VersionsBelow b vs = (q : Version) → In q vs → q.ts.0 < b
-
--- those of a node's view
-pub record ViewBelow (b : ℕ) (v : View) : Type 0 where
-  pub floor : v.floor < b
-  pub marks : MarksBelow b v.marks
-  pub versions : VersionsBelow b v.versions
-  pub own : (x : Own) → In x v.own → OwnBelow b x
-  pub waiters : (r : Waiter) → In r v.waiters → WaiterBelow b r
 
 -- ---- a higher bound
 

@@ -1,12 +1,16 @@
 -- A single change keeps times below a bound, which rises by one where it proposes a timestamp.
 use Rattle.dependency_set.specs.Snapshots.{Snap}
 use Rattle.partition_map.specs.declared.rows.Asked.{Asked}
-use Rattle.si_laws.proofs.BoundParts.{Keeps, all_below, asked_ack, extends_below, finish-keeps, gate_below, in_dropped, in_set, insert_below, next-keeps, raised_below, settled_below, without_below}
-use Rattle.si_laws.proofs.Bounds.{BodyBelow, CertBelow, DepBelow, OwnBelow, TurnBelow, VersionsBelow, ViewBelow, WaiterBelow, cert_below, dep_below, own_at, own_higher, passed_below, read_below, reply_below, view_higher, waiter_higher}
-use Rattle.si_laws.proofs.Linking.{unasked_none}
-use Rattle.si_laws.proofs.Homes.{AckStep, a_new, a_old, acked_parts}
-use Rattle.si_laws.specs.Numbers.{final_times}
-use Rattle.std.proofs.Common.{List, None, Option, Some, [], ap, arith, filter, find, inl, inr, map, nat_lt, refl, slice_set, subst, sym, ℕ, ◌+◌, ◌<◌, ◌∙◌, ◌∷◌, ◌≡◌, ◌≤◌}
+use Rattle.str_model.proofs.BoundParts.{Keeps, all_below, asked_ack, extends_below, finish-keeps, gate_below, in_dropped, in_set, insert_below, next-keeps, raised_below, settled_below, without_below}
+use Rattle.str_model.proofs.Bounds.{BodyBelow, CertBelow, DepBelow, OwnBelow, TurnBelow, VersionsBelow, ViewBelow, WaiterBelow, cert_below, dep_below, own_at, own_higher, passed_below, read_below, reply_below, view_higher, waiter_higher}
+use Rattle.str_model.proofs.Pairing.{unasked_none}
+use Rattle.str_model.proofs.Homes.{AckStep, a_new, a_old, acked_parts}
+use Rattle.str_model.proofs.Acting.{Act, Arrives, Change, Comes, Goes, IsHere, IsReading, ReadsTo, Where, a_prepare, a_read, act_abort, act_abort_came, act_accept, act_ack, act_ask, act_begin, act_certify, act_close, act_commit, act_commit_came, act_mark, act_put, act_refuse, act_reply, act_request, act_take, act_unwait, act_wait, ch_away, ch_blind, ch_close, ch_gate, ch_known, ch_read, ch_reply, ch_resolve, ch_take, ch_wait, far_reading, it_comes, it_waits, left_waiting, own_reading, to_final, to_local}
+use Rattle.str_model.proofs.Gaining.{CertGood, cert_turn-good, if_elim}
+use Rattle.str_model.proofs.Going.{puts_on}
+use Rattle.str_model.proofs.Members.{In, in_append, in_left, in_map, in_right}
+use Rattle.str_model.specs.Owned.{final_times}
+use Rattle.std.proofs.Common.{true, List, None, Option, Some, [], ap, arith, filter, find, inl, inr, map, nat_lt, refl, slice_set, subst, sym, ℕ, ◌+◌, ◌<◌, ◌∙◌, ◌∷◌, ◌≡◌, ◌≤◌}
 use Rattle.str_base.specs.declared.names.KeyId.{KeyId}
 use Rattle.str_base.specs.declared.names.NodeId.{NodeId}
 use Rattle.str_base.specs.declared.names.Ts.{Ts}
@@ -15,10 +19,7 @@ use Rattle.str_base.specs.declared.names.Value.{Value}
 use Rattle.str_base.specs.declared.names.Version.{Version}
 use Rattle.str_base.specs.declared.names.Write.{Write}
 use Rattle.str_base.specs.Versions.{of_pair, of_tx, settled, stamp, without}
-use Rattle.str_model.proofs.Acting.{Act, Arrives, Change, Comes, Goes, IsHere, IsReading, ReadsTo, Where, a_prepare, a_read, act_abort, act_abort_came, act_accept, act_ack, act_ask, act_begin, act_certify, act_close, act_commit, act_commit_came, act_mark, act_put, act_refuse, act_reply, act_request, act_take, act_unwait, act_wait, ch_away, ch_blind, ch_close, ch_gate, ch_known, ch_read, ch_reply, ch_resolve, ch_take, ch_wait, far_reading, it_comes, it_waits, left_waiting, own_reading, to_final, to_local}
-use Rattle.str_model.proofs.Gaining.{CertGood, cert_turn-good, if_elim}
-use Rattle.str_model.proofs.Going.{puts_on}
-use Rattle.str_model.proofs.Members.{In, in_append, in_left, in_map, in_right}
+use Rattle.str_model.specs.Strange.{is_valid}
 use Rattle.str_model.specs.Acts.{abort_came, aborted, accepted, acked, asked, begun, certified, closed, commit_came, committed, fresh, in_phase, is_hosted_of, local_version, marked, pre_version, refused, replied, requested, taken, waits, with_asked}
 use Rattle.str_model.specs.Clients.{reading_limit}
 use Rattle.str_model.specs.declared.messages.Arrived.{Arrived}
@@ -46,9 +47,9 @@ module _ (here : Here) (input : Input) (w : Where) where
   rise d e (act_take from a d' c l) = 1
   rise d e _ = 0
 
-  module _ (b : ℕ) (big : reading_limit < b) (comes : (m : Message) → input ≡ Deliver m → BodyBelow b m.body) where
+  module _ (b : ℕ) (big : reading_limit < b) (comes : (m : Message) → input ≡ Deliver m → is_valid here m ≡ true → BodyBelow b m.body) where
     pub came_below : (from : NodeId) (body : Body) → Comes here input from body → BodyBelow b body
-    came_below from body c = subst (BodyBelow b) c.3 (comes c.0 c.1)
+    came_below from body c = subst (BodyBelow b) c.3 (comes c.0 c.1 c.4)
 
     pub arrived_below : (d : Doing) (a : Arrived) → ViewBelow b d.view → IsHere here input d a → (a.rs.0 < b) × (a.lc.0 < b)
     arrived_below d a h (it_comes from c u z m) = came_below from (Prepare a.tx a.part a.rs a.lc a.writes) c

@@ -1,24 +1,16 @@
 -- How many of a list pass a test.
-use Rattle.si_laws.proofs.Stages.{Has}
-use Rattle.std.proofs.Common.{Bool, List, [], ap, arith, false, if◌then◌else◌, inl, inr, refl, true, ℕ, ◌++◌, ◌+◌, ◌∙◌, ◌∷◌, ◌≡◌, ◌≤◌}
-use Rattle.std.specs.List.{list_any}
-use Rattle.str_base.specs.declared.names.PartId.{PartId}
-use Rattle.str_base.specs.declared.names.TxId.{TxId}
+pub use Rattle.str_model.specs.NodeFacts.{one_if, one_if, one_if, how_many, how_many, how_many}
+use Rattle.str_model.proofs.Pairing.{Has}
 use Rattle.str_model.proofs.Gaining.{if_elim, or_false_right}
 use Rattle.str_model.proofs.Members.{In}
 use Rattle.str_model.proofs.Ruling.{or_false_left}
+use Rattle.std.proofs.Common.{Bool, List, [], ap, arith, false, if◌then◌else◌, inl, inr, refl, true, ◌++◌, ◌+◌, ◌∙◌, ◌∷◌, ◌≡◌, ◌≤◌}
+use Rattle.std.specs.List.{list_any}
+use Rattle.str_base.specs.declared.names.PartId.{PartId}
+use Rattle.str_base.specs.declared.names.TxId.{TxId}
 use Rattle.str_model.specs.Proposals.{holds_pair}
 use Rattle.str_model.specs.Steps.{drop_held}
 use Rattle.str_model.specs.declared.messages.Waiter.{Waiter}
-
-abbrev pub one_if : Bool → ℕ
-one_if true = 1
-one_if false = 0
-
--- how many pass the test
-abbrev pub how_many : {A : Type 0} → (A → Bool) → List A → ℕ
-how_many test [] = 0
-how_many test (x ∷ xs) = one_if (test x) + how_many test xs
 
 pub many_append : {A : Type 0} (test : A → Bool) (xs ys : List A) → how_many test (xs ++ ys) ≡ how_many test xs + how_many test ys
 many_append test [] ys = omega arith

@@ -1,7 +1,12 @@
 -- What a single change does to a node's own transactions, with the versions that go with it.
 use Rattle.dependency_set.specs.Snapshots.{Snap}
 use Rattle.partition_map.specs.declared.rows.Asked.{Asked}
-use Rattle.si_laws.proofs.Stages.{keep_without, not_both}
+use Rattle.str_model.proofs.Pairing.{keep_without, not_both}
+use Rattle.str_model.proofs.Acting.{Act, Comes, KeepsAck, Where, act_abort, act_abort_came, act_accept, act_ack, act_ask, act_begin, act_certify, act_close, act_commit, act_commit_came, act_mark, act_put, act_refuse, act_reply, act_request, act_take, act_unwait, act_wait}
+use Rattle.str_model.proofs.Gaining.{CertGood, and_left, and_right, cert_turn-good}
+use Rattle.str_model.proofs.Going.{PutsOn, puts_on}
+use Rattle.str_model.proofs.Lists.{get_set}
+use Rattle.str_model.proofs.Members.{In, in_all_old}
 use Rattle.std.proofs.Common.{Bool, List, None, Some, [], ap, arith, eq-eqb, eqb-true, false, filter, inl, inr, map, not, refl, slice_set, subst, sym, true, ℕ, ◌&&◌, ◌++◌, ◌+◌, ◌==◌, ◌∙◌, ◌∷◌, ◌≡◌, ◌⊎◌}
 use Rattle.str_base.specs.Versions.{insert_all, of_pair, of_tx, same_node, same_part, same_tx, settled, without}
 use Rattle.str_base.specs.declared.names.Cause.{Cause}
@@ -10,11 +15,6 @@ use Rattle.str_base.specs.declared.names.PartId.{PartId}
 use Rattle.str_base.specs.declared.names.Ts.{Ts}
 use Rattle.str_base.specs.declared.names.TxId.{TxId}
 use Rattle.str_base.specs.declared.names.Version.{Version}
-use Rattle.str_model.proofs.Acting.{Act, Comes, KeepsAck, Where, act_abort, act_abort_came, act_accept, act_ack, act_ask, act_begin, act_certify, act_close, act_commit, act_commit_came, act_mark, act_put, act_refuse, act_reply, act_request, act_take, act_unwait, act_wait}
-use Rattle.str_model.proofs.Gaining.{CertGood, and_left, and_right, cert_turn-good}
-use Rattle.str_model.proofs.Going.{PutsOn, puts_on}
-use Rattle.str_model.proofs.Lists.{get_set}
-use Rattle.str_model.proofs.Members.{In, in_all_old}
 use Rattle.str_model.specs.Acts.{abort_came, aborted, accepted, acked, asked, begun, certified, closed, commit_came, committed, decided_versions, fresh, in_phase, is_hosted_of, local_version, marked, pre_version, refused, replied, requested, taken, waits, with_asked}
 use Rattle.str_model.specs.Gates.{CommitAt, gate_of}
 use Rattle.str_model.specs.Owned.{Owns}

@@ -17,7 +17,7 @@ use Rattle.str_model.specs.Views.{Active, Closing, Own, View}
 use Rattle.str_model.proofs.Acting.{JustMarked, Needs}
 use Rattle.str_model.proofs.Gaining.{if_elim}
 use Rattle.str_model.proofs.Members.{In}
-use Rattle.si_laws.specs.Laws.Marks.{WaitsFor}
+use Rattle.str_model.specs.Owned.{WaitsFor}
 
 -- ---- lists of marks
 

@@ -1,6 +1,9 @@
 -- What a single change does to the versions of a node, with the facts at which it is made.
-use Rattle.si_laws.proofs.Carrying.{hosted_name}
-use Rattle.si_laws.proofs.Stages.{has_at}
+pub use Rattle.str_model.specs.NodeFacts.{AreDistinct, AreDistinct}
+use Rattle.str_model.proofs.Pairing.{hosted_name, has_at}
+use Rattle.str_model.proofs.Acting.{Act, Comes, IsHere, Takes, Where, act_abort, act_abort_came, act_accept, act_ack, act_ask, act_begin, act_certify, act_close, act_commit, act_commit_came, act_mark, act_put, act_refuse, act_reply, act_request, act_take, act_unwait, act_wait}
+use Rattle.str_model.proofs.Gaining.{and_left, and_right}
+use Rattle.str_model.proofs.Members.{In, in_filter, in_insert_all, in_map, in_without, map_in}
 use Rattle.std.proofs.Common.{Bool, List, Some, [], ap, eq-eqb, false, filter, inl, inr, map, not, sym, true, ℕ, ◌&&◌, ◌∙◌, ◌∷◌, ◌≡◌, ◌⊎◌}
 use Rattle.std.specs.List.{list_any}
 use Rattle.str_base.specs.Versions.{insert_all, of_pair, of_tx, same_key, same_node, settled, without}
@@ -11,9 +14,6 @@ use Rattle.str_base.specs.declared.names.Ts.{Ts}
 use Rattle.str_base.specs.declared.names.TxId.{TxId}
 use Rattle.str_base.specs.declared.names.Version.{Version}
 use Rattle.str_base.specs.declared.names.Write.{Write}
-use Rattle.str_model.proofs.Acting.{Act, Comes, IsHere, Takes, Where, act_abort, act_abort_came, act_accept, act_ack, act_ask, act_begin, act_certify, act_close, act_commit, act_commit_came, act_mark, act_put, act_refuse, act_reply, act_request, act_take, act_unwait, act_wait}
-use Rattle.str_model.proofs.Gaining.{and_left, and_right}
-use Rattle.str_model.proofs.Members.{In, in_filter, in_insert_all, in_map, in_without, map_in}
 use Rattle.str_model.specs.Acts.{abort_came, aborted, accepted, acked, asked, begun, certified, closed, commit_came, committed, is_hosted_of, local_version, marked, pre_version, refused, replied, requested, taken, waits}
 use Rattle.str_model.specs.Owned.{Owns}
 use Rattle.str_model.specs.Proposals.{Accept, master_turn, proposed}
@@ -82,9 +82,6 @@ module _ (here : Here) (input : Input) (w : Where) where
   version_act d e (act_abort_came from t r d' c h) = va_fewer (λ q k. in_without (of_pair t r) d'.view.versions q k)
 
 -- ---- keys that stand once
-
-abbrev pub AreDistinct : List Write → Type 0
-AreDistinct ws = Strange.distinct_keys (map (λ (w : Write). w.key) ws) ≡ true
 
 pub one_write : (ws : List Write) → AreDistinct ws → (v w : Write) → In v ws → In w ws → v.key ≡ w.key → v ≡ w
 one_write [] dist v w h k e = absurd h
