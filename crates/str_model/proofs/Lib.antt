@@ -61,3 +61,16 @@ pub mod Costs
 pub mod NeedTurns
 pub mod NeedRules
 pub mod NeedBound
+pub mod PruneLists
+pub mod PruneOrder
+pub mod PruneTurns
+pub mod PruneMaster
+pub mod Twins
+pub mod Twinning
+pub mod Keeping
+pub mod TwinSteps
+pub mod TwinRules
+pub mod TwinStep
+pub mod PruneGood
+pub mod TwinGood
+pub mod PruneBounds

@@ -8,3 +8,4 @@ pub mod Rows3
 pub mod Rows4
 pub mod Rows5
 pub mod Rows6
+pub mod Pruned

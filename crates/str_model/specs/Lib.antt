@@ -20,3 +20,5 @@ pub mod Traces
 pub mod Evaluation
 pub mod Owned
 pub mod NodeFacts
+pub mod Pruning
+pub mod PrunedRuns
