@@ -11,7 +11,7 @@ use Rattle.str_model.specs.Owned.{Owns}
 use Rattle.str_model.specs.Views.{Own, View, name_of}
 use Rattle.str_scene.proofs.Mapped.{part-mapped}
 use Rattle.str_scene.specs.Scenes.{Here, map_of, part_of}
-use Rattle.str_model.proofs.NodeUses.{all_written}
+use Rattle.str_model.proofs.ViewFacts.NodeUses.{all_written}
 
 -- the partitions of the writes are the same by the map
 by_map : (here : Here) (ws : List Write) (p : PartId) → is_written (Maps.part_of (map_of here.scene)) ws p ≡ is_written (part_of here.scene) ws p

@@ -4,8 +4,8 @@ use Rattle.lamport_log.specs.Replays.{Came, came}
 use Rattle.str_base.specs.Versions.{same_node}
 use Rattle.str_base.specs.declared.names.NodeId.{NodeId}
 use Rattle.str_base.specs.declared.names.SessionId.{SessionId}
-use Rattle.str_model.proofs.Everywhere.{at_place}
-use Rattle.str_model.proofs.Lists.{set_got}
+use Rattle.str_model.proofs.Principle.Everywhere.{at_place}
+use Rattle.str_model.proofs.Lists.ListReads.{set_got}
 use Rattle.str_model.specs.Clients.{client_rule, go_on_last, in_session, last_index, of_session}
 use Rattle.str_model.specs.Runs.{World, client_event, deliver_event, give, happens, step_at}
 use Rattle.str_model.specs.Runs

@@ -10,8 +10,8 @@ use Rattle.lamport_log.specs.Merge.{MergeHolds, events_of, merged, told}
 use Rattle.lamport_log.specs.Merging.{CanMerge, IsMerged, IsRun, Lists}
 use Rattle.lamport_log.specs.Replays.{Leads}
 use Rattle.str_base.specs.declared.names.NodeId.{NodeId}
-use Rattle.str_model.proofs.Everywhere.{at_place}
-use Rattle.str_model.proofs.Lists.{got_replicate}
+use Rattle.str_model.proofs.Principle.Everywhere.{at_place}
+use Rattle.str_model.proofs.Lists.ListReads.{got_replicate}
 use Rattle.str_model.specs.Runs.{World, opening_view, run}
 use Rattle.str_model.specs.Views.{View}
 use Rattle.str_scene.specs.Scenes.{Scene}

@@ -13,8 +13,8 @@ use Rattle.lamport_log.specs.Replays.{Came, Leads, MayBeIdle, Says, came, input_
 use Rattle.lamport_log.specs.declared.logs.LogInput.{LogInput}
 use Rattle.lamport_log.specs.declared.logs.LogInput.TheVariants.{Client as ClientEntry, Taken}
 use Rattle.str_base.specs.declared.names.NodeId.{NodeId}
-use Rattle.str_model.proofs.Everywhere.{at_place}
-use Rattle.str_model.proofs.Lists.{got_set}
+use Rattle.str_model.proofs.Principle.Everywhere.{at_place}
+use Rattle.str_model.proofs.Lists.ListReads.{got_set}
 use Rattle.str_model.specs.Runs.{World, give, happens, run_from}
 use Rattle.str_model.specs.Steps.{step}
 use Rattle.str_model.specs.Views.{View}

@@ -15,7 +15,7 @@ use Rattle.lamport_log.specs.declared.logs.LogInput.{LogInput}
 use Rattle.lamport_log.specs.declared.logs.LogInput.TheVariants.{Client, Taken}
 use Rattle.str_base.specs.Versions.{same_node}
 use Rattle.str_base.specs.declared.names.NodeId.{NodeId}
-use Rattle.str_model.proofs.Members.{In, at_in, in_filter, in_flat_map, in_left, in_map, in_right, map_in}
+use Rattle.str_model.proofs.Lists.Members.{In, at_in, in_filter, in_flat_map, in_left, in_map, in_right, map_in}
 use Rattle.str_model.specs.Runs.{opening_view}
 use Rattle.str_model.specs.Steps.{step}
 use Rattle.str_model.specs.Views.{View}

@@ -10,8 +10,8 @@ use Rattle.lamport_log.specs.declared.logs.LogEntry.{LogEntry}
 use Rattle.lamport_log.specs.declared.logs.LogInput.{LogInput}
 use Rattle.lamport_log.specs.declared.logs.LogInput.TheVariants.{Client, Taken}
 use Rattle.str_base.specs.declared.names.NodeId.{NodeId}
-use Rattle.str_model.proofs.Members.{In, at_in, in_at, in_flat_map, in_left, in_map, in_right}
-use Rattle.str_model.proofs.Lists.{same_or_not}
+use Rattle.str_model.proofs.Lists.Members.{In, at_in, in_at, in_flat_map, in_left, in_map, in_right}
+use Rattle.str_model.proofs.Lists.ListReads.{same_or_not}
 use Rattle.str_scene.specs.Scenes.{nth}
 
 -- an entry of the list has the stamp

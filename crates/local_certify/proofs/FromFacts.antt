@@ -12,11 +12,11 @@ use Rattle.str_model.specs.Strange.{has_node}
 use Rattle.str_model.specs.Views.{Own, View}
 use Rattle.str_scene.specs.SceneLimits.{IsScene}
 use Rattle.str_scene.specs.Scenes.{Here, map_of}
-use Rattle.str_model.proofs.Bounds.{mark_below}
-use Rattle.str_model.proofs.FewOwn.{times_low}
-use Rattle.str_model.proofs.Members.{in_all_new, in_all_old, in_at}
-use Rattle.str_model.proofs.NodeUses.{have_marks}
-use Rattle.str_model.proofs.VersionsKept.{write_key}
+use Rattle.str_model.proofs.ViewFacts.TimesBelow.{mark_below}
+use Rattle.str_model.proofs.OwnFacts.FewOwn.{times_low}
+use Rattle.str_model.proofs.Lists.Members.{in_all_new, in_all_old, in_at}
+use Rattle.str_model.proofs.ViewFacts.NodeUses.{have_marks}
+use Rattle.str_model.proofs.ViewFacts.VersionsKept.{write_key}
 use Rattle.snapshot_read.proofs.FromFacts.{each-of}
 use Rattle.version_chain.specs.ChainLists.{merged}
 

@@ -22,13 +22,13 @@ use Rattle.str_model.specs.Strange.{below_limit, distinct_keys, has_key, has_nod
 use Rattle.str_model.specs.Views.{View}
 use Rattle.str_scene.specs.SceneLimits.{IsScene}
 use Rattle.str_scene.specs.Scenes.{Here, hosts, part_of}
-use Rattle.str_model.proofs.Gaining.{and_left, and_right}
-use Rattle.str_model.proofs.Members.{in_at, in_insert, map_in}
-use Rattle.str_model.proofs.NodeRoom.{locals_few}
-use Rattle.str_model.proofs.NodeUses.{have_marks, held_open, is_beside, none_of_key}
-use Rattle.str_model.proofs.Pairing.{has_at, not_both, pair-is}
-use Rattle.str_model.proofs.Validity.{NamedWrites, all_in, came_named}
-use Rattle.str_model.proofs.Acting.{Comes}
+use Rattle.str_model.proofs.Changes.SnapshotsGain.{and_left, and_right}
+use Rattle.str_model.proofs.Lists.Members.{in_at, in_insert, map_in}
+use Rattle.str_model.proofs.Room.SmallNumbers.{locals_few}
+use Rattle.str_model.proofs.ViewFacts.NodeUses.{have_marks, held_open, is_beside, none_of_key}
+use Rattle.str_model.proofs.Changes.PairWords.{has_at, not_both, pair-is}
+use Rattle.str_model.proofs.ViewFacts.ValidMessages.{NamedWrites, all_in, came_named}
+use Rattle.str_model.proofs.Principle.SingleChanges.{Comes}
 use Rattle.version_chain.specs.ChainLists.{Apart, Each}
 
 module _ (here : Here) (v : View) (h : MomentFacts here v) where

@@ -1,10 +1,12 @@
--- The times at a node, over every run.
-use Rattle.si_laws.specs.Laws.Times.{TimesHold}
-use Rattle.str_model.specs.Owned.{AreTimed}
-use Rattle.str_model.proofs.Everywhere.{at_each_node}
-use Rattle.str_model.proofs.Owning.{own_step}
-use Rattle.str_model.proofs.Timing.{timed-step, timed_opening}
+-- The law Times: the order of timestamps at a node, and the bound on all timestamps of a run.
+-- Each timestamp is below the limit and the number of proposals, of which there are few.
 
-pub times_hold : TimesHold
-times_hold scene is =
-    at_each_node scene is AreTimed (timed_opening scene) (λ here ok input w d e a t. timed-step d.view e.view (own_step here input w d e a) t)
+pub mod TimesHold
+pub mod LettersBelow
+pub mod TimesBounded
+pub mod ProposalsCounted
+pub mod AcksOnce
+pub mod ProposalsFew
+pub mod ParticipantsFew
+pub mod BegunFew
+pub mod NoRepeats

@@ -11,9 +11,9 @@ use Rattle.str_base.specs.Versions.{is_local}
 use Rattle.str_model.specs.NodeFacts.{In, how_many, one_if}
 use Rattle.str_model.specs.Views.{Own, View}
 use Rattle.str_scene.specs.Scenes.{Here}
-use Rattle.str_model.proofs.FewOwn.{is_certain}
-use Rattle.str_model.proofs.Members.{in_all_new, in_all_old}
-use Rattle.str_model.proofs.NodeUses.{IsCertain, ReadReady}
+use Rattle.str_model.proofs.OwnFacts.FewOwn.{is_certain}
+use Rattle.str_model.proofs.Lists.Members.{in_all_new, in_all_old}
+use Rattle.str_model.proofs.ViewFacts.NodeUses.{IsCertain, ReadReady}
 use Rattle.version_chain.specs.ChainLists.{Each, merged}
 
 -- the certified undecided transactions of a list, the first of which has the number n + 1

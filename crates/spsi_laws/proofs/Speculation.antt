@@ -1,17 +1,6 @@
--- The law Speculation: newest reads, live dependencies and ordered pairs.
-use Rattle.si_laws.proofs.PrefixLaw.{prefix_law}
-use Rattle.spsi_laws.proofs.Live.{dependencies_live}
-use Rattle.spsi_laws.proofs.Newest.{newest_holds}
-use Rattle.spsi_laws.proofs.Pairs.{pairs_hold}
-use Rattle.spsi_laws.specs.Laws.Speculation.{SpeculationHolds}
-use Rattle.std.proofs.Common.{inl, inr}
+-- Speculative snapshot isolation of every run, with newest reads.
+-- The headline of the one run of a scene.
 
-pub speculation_holds : SpeculationHolds
-speculation_holds scene ok es = record {
-  newest = λ n v i x there own op r h. elim ((prefix_law scene ok es).reads n v i x there own op r h) [
-    | inl a ↦ inl a
-    | inr b ↦ (elim b [ inl c ↦ inr (inl c) | inr o ↦ inr (inr (newest_holds scene ok es n v i x there own op r h o)) ])
-  ];
-  live = dependencies_live scene ok es;
-  pairs = pairs_hold scene ok es;
-}
+pub mod NewestReads
+pub mod SpeculationHolds
+pub mod HeadlineHolds

@@ -1,5 +1,5 @@
 -- The answers of the one actual run of a scene.
-use Rattle.si_laws.proofs.IsolationLaw.{isolated_run}
+use Rattle.si_laws.proofs.Isolation.IsolationHolds.{isolated_run}
 use Rattle.si_laws.specs.SnapshotIsolation.{SIRun}
 use Rattle.str_model.specs.Drains.{cluster_events, cluster_run}
 use Rattle.str_scene.specs.SceneLimits.{IsScene}

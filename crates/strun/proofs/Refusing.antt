@@ -1,7 +1,7 @@
 -- Why an input is refused, and what is told of it.
 use Rattle.std.proofs.Common.{Err, IfErr, List, Ok, Option, Result, ap, arith, inl, inr, length, refl, subst, sym, ℕ, ◌<◌, ◌∙◌, ◌≡◌, ◌≤◌, ◌⊎◌}
 use Rattle.std.specs.Io.KnownBytes.{Consumes, IsAtEnd}
-use Rattle.scene_text.proofs.FirstBadLaws.{first_bad_no_text, first_bad_unique, one_scene_of}
+use Rattle.scene_text.proofs.FirstBad.FirstBadLaws.{first_bad_no_text, first_bad_unique, one_scene_of}
 use Rattle.scene_text.specs.FirstBad.{FirstBad}
 use Rattle.scene_text.specs.Reading.{IsFaultOf}
 use Rattle.scene_text.specs.declared.read.TextFault.{TextFault}

@@ -1,5 +1,5 @@
 use Rattle.std.proofs.Common.{refl, sym, ◌∙◌}
-use Rattle.scene_text.proofs.ArgumentLemmas.{client_no_reading, client_no_session, client_too_great}
+use Rattle.scene_text.proofs.Spelling.Arguments.{client_no_reading, client_no_session, client_too_great}
 use Rattle.scene_text.proofs.arguments.client_line.Goals as goal
 
 pub returns-in_err-session-2-clause-none : goal.returns-in_err-session-2-clause-none

@@ -1,4 +1,4 @@
-use Rattle.scene_text.proofs.ArgumentLemmas.{get_too_great}
+use Rattle.scene_text.proofs.Spelling.Arguments.{get_too_great}
 use Rattle.scene_text.proofs.arguments.get_line.Goals as goal
 
 pub returns-in-None-clause-line : goal.returns-in-None-clause-line

@@ -1,4 +1,4 @@
-use Rattle.scene_text.proofs.ArgumentLemmas.{need_too_great}
+use Rattle.scene_text.proofs.Spelling.Arguments.{need_too_great}
 use Rattle.scene_text.proofs.arguments.need_line.Goals as goal
 
 pub returns-in-None-clause-line : goal.returns-in-None-clause-line

@@ -1,5 +1,5 @@
 use Rattle.std.proofs.Common.{refl, sym, ◌∙◌}
-use Rattle.scene_text.proofs.RowLemmas.{part_no_number, part_no_row, part_no_space, part_too_great}
+use Rattle.scene_text.proofs.Spelling.PartRows.{part_no_number, part_no_row, part_no_space, part_too_great}
 use Rattle.scene_text.proofs.arguments.part_line.Goals as goal
 
 pub returns-in_err-part-clause-none : goal.returns-in_err-part-clause-none

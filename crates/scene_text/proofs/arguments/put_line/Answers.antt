@@ -1,4 +1,4 @@
-use Rattle.scene_text.proofs.ArgumentLemmas.{put_too_great}
+use Rattle.scene_text.proofs.Spelling.Arguments.{put_too_great}
 use Rattle.scene_text.proofs.arguments.put_line.Goals as goal
 
 pub returns-in-None-clause-line : goal.returns-in-None-clause-line

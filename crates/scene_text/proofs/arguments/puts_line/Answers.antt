@@ -1,5 +1,5 @@
 use Rattle.std.proofs.Common.{refl, sym, ◌∙◌}
-use Rattle.scene_text.proofs.ArgumentLemmas.{puts_no_bytes, puts_no_key, puts_too_great}
+use Rattle.scene_text.proofs.Spelling.Arguments.{puts_no_bytes, puts_no_key, puts_too_great}
 use Rattle.scene_text.proofs.arguments.puts_line.Goals as goal
 
 pub returns-in_err-name-clause-none : goal.returns-in_err-name-clause-none

@@ -1,5 +1,5 @@
 use Rattle.std.proofs.Common.{refl}
-use Rattle.scene_text.proofs.ArgumentLemmas.{key_number_no_key, key_number_no_number}
+use Rattle.scene_text.proofs.Spelling.Arguments.{key_number_no_key, key_number_no_number}
 use Rattle.scene_text.proofs.arguments.read_key_number.Goals as goal
 
 pub returns-in_err-name-clause-none : goal.returns-in_err-name-clause-none

@@ -1,5 +1,5 @@
 use Rattle.std.proofs.Common.{refl, rules}
-use Rattle.scene_text.proofs.RowLemmas.{row_ends, row_goes_on, row_no_last, row_no_word}
+use Rattle.scene_text.proofs.Spelling.PartRows.{row_ends, row_goes_on, row_no_last, row_no_word}
 use Rattle.scene_text.proofs.arguments.read_row.Goals as goal
 
 pub returns-in_err-read_small-clause-none : goal.returns-in_err-read_small-clause-none

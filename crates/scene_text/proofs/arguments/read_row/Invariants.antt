@@ -1,5 +1,5 @@
 use Rattle.std.proofs.Common.{length}
-use Rattle.scene_text.proofs.RowLemmas.{RowSoFar}
+use Rattle.scene_text.proofs.Spelling.PartRows.{RowSoFar}
 use Rattle.scene_text.proofs.arguments.read_row.Given as goal
 
 abbrev pub invariant-loop-word : goal.invariant-loop-word

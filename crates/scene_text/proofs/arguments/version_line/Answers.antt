@@ -1,5 +1,5 @@
 use Rattle.std.proofs.Common.{inl, inr, refl, sym, ◌∙◌}
-use Rattle.scene_text.proofs.ArgumentLemmas.{numeral_one, numeral_two, version_kept, version_none}
+use Rattle.scene_text.proofs.Spelling.Arguments.{numeral_one, numeral_two, version_kept, version_none}
 use Rattle.scene_text.proofs.arguments.version_line.Goals as goal
 
 pub returns-then-is_same-clause-line : goal.returns-then-is_same-clause-line

@@ -2,7 +2,7 @@ use Rattle.std.proofs.Common.{arith, false, true, ◌≡◌, ap}
 use Rattle.std.proofs.lemmas.Grind.{common_steps}
 use Rattle.std.specs.List.{list_all}
 use Rattle.std.specs.Prelude.{Some}
-use Rattle.scene_text.proofs.KeyLemmas.{bytes_kept, bytes_too_many, odd_none, other_none}
+use Rattle.scene_text.proofs.Spelling.KeyWords.{bytes_kept, bytes_too_many, odd_none, other_none}
 use Rattle.scene_text.specs.HexDigits.{is_hex}
 use Rattle.scene_text.proofs.keys.read_bytes.Goals as goal
 

@@ -1,5 +1,5 @@
 use Rattle.std.proofs.Common.{refl, subst}
-use Rattle.scene_text.proofs.KeyLemmas.{key_no_name, key_no_number, key_too_great}
+use Rattle.scene_text.proofs.Spelling.KeyWords.{key_no_name, key_no_number, key_too_great}
 use Rattle.scene_text.specs.LineReading.{Spells}
 use Rattle.scene_text.proofs.keys.read_key.Goals as goal
 

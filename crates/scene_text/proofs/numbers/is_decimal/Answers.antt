@@ -2,7 +2,7 @@ use Rattle.std.proofs.Common.{[], arith, rules, subst, sym, true, get_or, â—Œ<â—
 use Rattle.std.proofs.lemmas.Grind.{common_steps}
 use Rattle.std.specs.Char.{is_ascii_digit}
 use Rattle.std.specs.List.{list_all}
-use Rattle.scene_text.proofs.NumeralLemmas.{numeral-digits, numeral_of_digits, numeral_starts}
+use Rattle.scene_text.proofs.Spelling.Numerals.{numeral-digits, numeral_of_digits, numeral_starts}
 use Rattle.scene_text.proofs.numbers.is_decimal.Goals as goal
 
 pub returns-then-starts_plain-clause-yes : goal.returns-then-starts_plain-clause-yes

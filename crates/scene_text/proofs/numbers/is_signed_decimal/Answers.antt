@@ -1,4 +1,4 @@
-use Rattle.scene_text.proofs.NumberReading.{minus_none, minus_number, minus_zero, not_is_false, plain_number, true_not}
+use Rattle.scene_text.proofs.Spelling.NumbersRead.{minus_none, minus_number, minus_zero, not_is_false, plain_number, true_not}
 use Rattle.scene_text.proofs.numbers.is_signed_decimal.Goals as goal
 
 pub returns-then-is_decimal-clause-yes : goal.returns-then-is_decimal-clause-yes

@@ -1,5 +1,5 @@
 use Rattle.std.proofs.Common.{rules}
-use Rattle.scene_text.proofs.NumberReading.{kept_number}
+use Rattle.scene_text.proofs.Spelling.NumbersRead.{kept_number}
 use Rattle.scene_text.proofs.numbers.read_number.Goals as goal
 
 pub returns-then-is_decimal-clause-number : goal.returns-then-is_decimal-clause-number

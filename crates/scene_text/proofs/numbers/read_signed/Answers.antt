@@ -1,5 +1,5 @@
 use Rattle.std.proofs.Common.{rules}
-use Rattle.scene_text.proofs.NumberReading.{kept_signed}
+use Rattle.scene_text.proofs.Spelling.NumbersRead.{kept_signed}
 use Rattle.scene_text.proofs.numbers.read_signed.Goals as goal
 
 pub returns-then-is_signed_decimal-clause-number : goal.returns-then-is_signed_decimal-clause-number

@@ -1,4 +1,4 @@
-use Rattle.scene_text.proofs.SplitLemmas.{take_parted_some}
+use Rattle.scene_text.proofs.Spelling.PartedBytes.{take_parted_some}
 use Rattle.scene_text.proofs.parting.next_feed.Goals as goal
 
 pub returns-clause-passed : goal.returns-clause-passed

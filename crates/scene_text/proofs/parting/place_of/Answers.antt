@@ -1,5 +1,5 @@
 use Rattle.std.proofs.Common.{arith}
-use Rattle.scene_text.proofs.SplitLemmas.{is_without_more}
+use Rattle.scene_text.proofs.Spelling.PartedBytes.{is_without_more}
 use Rattle.scene_text.proofs.parting.place_of.Goals as goal
 
 pub loop-i-preserved : goal.loop-i-preserved

@@ -1,4 +1,4 @@
-use Rattle.scene_text.proofs.SplitLemmas.{not_stripped, stripped}
+use Rattle.scene_text.proofs.Spelling.PartedBytes.{not_stripped, stripped}
 use Rattle.scene_text.proofs.parting.rest_after.Goals as goal
 
 pub returns-clause-rest : goal.returns-clause-rest

@@ -1,5 +1,5 @@
 use Rattle.std.proofs.Common.{rules, slice_range, sym, ◌∙◌}
-use Rattle.scene_text.proofs.FirstLine.{first_cut, first_none, first_other, first_read}
+use Rattle.scene_text.proofs.FirstBad.FirstLine.{first_cut, first_none, first_other, first_read}
 use Rattle.scene_text.proofs.read.first_line.Goals as goal
 
 pub returns-in_default-clause-bad : goal.returns-in_default-clause-bad

@@ -1,8 +1,8 @@
 use Rattle.std.proofs.Common.{arith, rules, slice_range}
 use Rattle.std.proofs.lemmas.Grind.{common_steps}
-use Rattle.scene_text.proofs.FinishLemmas.{end_finishes}
-use Rattle.scene_text.proofs.FirstLine.{all_read, fault_bad, next_reached}
-use Rattle.scene_text.proofs.ReaderLemmas.{bad_end, bad_tail, end_text}
+use Rattle.scene_text.proofs.Taking.Finished.{end_finishes}
+use Rattle.scene_text.proofs.FirstBad.FirstLine.{all_read, fault_bad, next_reached}
+use Rattle.scene_text.proofs.FirstBad.ReaderKnows.{bad_end, bad_tail, end_text}
 use Rattle.scene_text.proofs.read.read_scene.Goals as goal
 
 pub returns-in-Err-clause-bad : goal.returns-in-Err-clause-bad

@@ -1,5 +1,5 @@
 use Rattle.std.proofs.Common.{refl}
-use Rattle.scene_text.proofs.WordLemmas.{word_no_word}
+use Rattle.scene_text.proofs.Spelling.FirstWords.{word_no_word}
 use Rattle.scene_text.proofs.read_line.word_line.Goals as goal
 
 pub returns-in_err-word-clause-none : goal.returns-in_err-word-clause-none

@@ -1,6 +1,6 @@
 use Rattle.std.proofs.Common.{arith, length, take, ◌++◌, ◌+◌, ◌∷◌, ◌≡◌, []}
 use Rattle.std.proofs.lemmas.Grind.{common_steps}
-use Rattle.scene_text.proofs.WriteLemmas.{parts_more}
+use Rattle.scene_text.proofs.Spelling.TextParts.{parts_more}
 use Rattle.scene_text.proofs.write.push_parts.Goals as goal
 
 pub loop-row-preserved : goal.loop-row-preserved

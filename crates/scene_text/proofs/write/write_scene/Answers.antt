@@ -1,6 +1,6 @@
 use Rattle.std.proofs.Common.{arith}
 use Rattle.std.proofs.lemmas.Grind.{common_steps}
-use Rattle.scene_text.proofs.WriteLemmas.{scene_written}
+use Rattle.scene_text.proofs.Spelling.TextParts.{scene_written}
 use Rattle.scene_text.proofs.write.write_scene.Goals as goal
 
 pub returns : goal.returns

@@ -1,5 +1,5 @@
 use Rattle.si_laws.proofs.laws.decided_stay.Goals as goal
-use Rattle.si_laws.proofs.Staying.{decided_stay}
+use Rattle.si_laws.proofs.Changes.DecidedStay.{decided_stay}
 
 pub returns : goal.returns
 returns c = decided_stay

@@ -1,5 +1,5 @@
 use Rattle.spsi_laws.proofs.laws.cascades_end.Goals as goal
-use Rattle.spsi_laws.proofs.Cascades.{cascades_end}
+use Rattle.spsi_laws.proofs.Dependencies.CascadesEnd.{cascades_end}
 
 pub returns : goal.returns
 returns c = cascades_end

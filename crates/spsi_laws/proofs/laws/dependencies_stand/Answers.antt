@@ -1,5 +1,5 @@
 use Rattle.spsi_laws.proofs.laws.dependencies_stand.Goals as goal
-use Rattle.spsi_laws.proofs.Dependencies.{dependencies_stand}
+use Rattle.spsi_laws.proofs.Dependencies.DependenciesHold.{dependencies_stand}
 
 pub returns : goal.returns
 returns c = dependencies_stand

@@ -1,5 +1,5 @@
 use Rattle.spsi_laws.proofs.laws.left_at_opening.Goals as goal
-use Rattle.spsi_laws.proofs.Work.{left_at_opening}
+use Rattle.spsi_laws.proofs.Work.WorkHolds.{left_at_opening}
 
 pub returns : goal.returns
 returns c = left_at_opening

@@ -1,5 +1,5 @@
 use Rattle.spsi_laws.proofs.laws.speculative_isolation_holds.Goals as goal
-use Rattle.spsi_laws.proofs.Speculation.{speculation_holds}
+use Rattle.spsi_laws.proofs.Speculation.SpeculationHolds.{speculation_holds}
 
 pub returns : goal.returns
 returns c = speculation_holds

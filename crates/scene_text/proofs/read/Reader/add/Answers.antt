@@ -1,5 +1,5 @@
 use Rattle.std.proofs.Common.{ap, arith}
-use Rattle.scene_text.proofs.Judging.{never_version}
+use Rattle.scene_text.proofs.Taking.BuildCalls.{never_version}
 use Rattle.scene_text.proofs.read.Reader.add.Goals as goal
 
 pub returns-in-Version-clause-refused : goal.returns-in-Version-clause-refused

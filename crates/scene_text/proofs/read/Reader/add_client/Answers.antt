@@ -1,6 +1,6 @@
 use Rattle.std.proofs.Common.{ap, arith}
 use Rattle.std.proofs.lemmas.Result.{err_from_is_err_and}
-use Rattle.scene_text.proofs.Judging.{client_refused}
+use Rattle.scene_text.proofs.Taking.BuildCalls.{client_refused}
 use Rattle.scene_text.proofs.read.Reader.add_client.Goals as goal
 
 pub returns-in_err-entry-clause-refused : goal.returns-in_err-entry-clause-refused

@@ -1,6 +1,6 @@
 use Rattle.std.proofs.Common.{ap, arith}
 use Rattle.std.proofs.lemmas.Result.{err_from_is_err_and}
-use Rattle.scene_text.proofs.Judging.{deliver_refused}
+use Rattle.scene_text.proofs.Taking.BuildCalls.{deliver_refused}
 use Rattle.scene_text.proofs.read.Reader.add_deliver.Goals as goal
 
 pub returns-in_err-entry-clause-refused : goal.returns-in_err-entry-clause-refused

@@ -1,6 +1,6 @@
 use Rattle.std.proofs.Common.{ap}
 use Rattle.std.proofs.lemmas.Result.{err_from_is_err_and}
-use Rattle.scene_text.proofs.Judging.{drain_refused}
+use Rattle.scene_text.proofs.Taking.BuildCalls.{drain_refused}
 use Rattle.scene_text.proofs.read.Reader.add_drain.Goals as goal
 
 pub returns-in_err-drain-clause-refused : goal.returns-in_err-drain-clause-refused

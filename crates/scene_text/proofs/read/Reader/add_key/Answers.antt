@@ -1,5 +1,5 @@
 use Rattle.std.proofs.Common.{ap}
-use Rattle.scene_text.proofs.TableRoom.{keys_refused}
+use Rattle.scene_text.proofs.Taking.TableRoom.{keys_refused}
 use Rattle.scene_text.proofs.read.Reader.add_key.Goals as goal
 
 pub returns-clause-refused : goal.returns-clause-refused

@@ -1,6 +1,6 @@
 use Rattle.std.proofs.Common.{ap}
 use Rattle.std.proofs.lemmas.Result.{err_from_is_err_and}
-use Rattle.scene_text.proofs.Judging.{nodes_refused}
+use Rattle.scene_text.proofs.Taking.BuildCalls.{nodes_refused}
 use Rattle.scene_text.proofs.read.Reader.add_nodes.Goals as goal
 
 pub returns-in_err-nodes-clause-refused : goal.returns-in_err-nodes-clause-refused

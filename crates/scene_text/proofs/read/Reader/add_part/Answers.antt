@@ -1,6 +1,6 @@
 use Rattle.std.proofs.Common.{ap, arith}
 use Rattle.std.proofs.lemmas.Result.{err_from_is_err_and}
-use Rattle.scene_text.proofs.Judging.{part_refused, part_taken}
+use Rattle.scene_text.proofs.Taking.BuildCalls.{part_refused, part_taken}
 use Rattle.scene_text.proofs.read.Reader.add_part.Goals as goal
 
 pub returns-in_err-part-clause-refused : goal.returns-in_err-part-clause-refused

@@ -1,6 +1,6 @@
 use Rattle.std.proofs.Common.{ap, ◌∙◌}
 use Rattle.std.proofs.lemmas.Result.{err_from_is_err_and}
-use Rattle.scene_text.proofs.TableRoom.{puts_refused_as}
+use Rattle.scene_text.proofs.Taking.TableRoom.{puts_refused_as}
 use Rattle.scene_text.proofs.read.Reader.add_puts.Goals as goal
 
 pub returns-in_err-text-clause-refused : goal.returns-in_err-text-clause-refused

@@ -1,6 +1,6 @@
 use Rattle.std.proofs.Common.{ap, ◌∙◌}
 use Rattle.std.proofs.lemmas.Result.{err_from_is_err_and}
-use Rattle.scene_text.proofs.Judging.{session_refused, session_taken}
+use Rattle.scene_text.proofs.Taking.BuildCalls.{session_refused, session_taken}
 use Rattle.scene_text.proofs.read.Reader.add_session.Goals as goal
 
 pub returns-in_err-session-clause-refused : goal.returns-in_err-session-clause-refused

@@ -1,6 +1,6 @@
 use Rattle.std.proofs.Common.{ap, arith, length, ◌∙◌}
 use Rattle.std.proofs.lemmas.Result.{err_from_is_err_and}
-use Rattle.scene_text.proofs.Judging.{tx_memory}
+use Rattle.scene_text.proofs.Taking.BuildCalls.{tx_memory}
 use Rattle.scene_text.proofs.read.Reader.close.Goals as goal
 
 pub returns-in_err-tx-clause-memory : goal.returns-in_err-tx-clause-memory

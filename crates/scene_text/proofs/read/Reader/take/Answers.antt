@@ -1,5 +1,5 @@
 use Rattle.std.proofs.Common.{Some, ap, ◌∙◌, refl, rules}
-use Rattle.scene_text.proofs.Judging.{order_is, text_unfit, texts_refused}
+use Rattle.scene_text.proofs.Taking.BuildCalls.{order_is, text_unfit, texts_refused}
 use Rattle.scene_text.proofs.read.Reader.take.Goals as goal
 
 pub returns-in_default-line-clause-bad : goal.returns-in_default-line-clause-bad

@@ -1,0 +1,174 @@
+-- The guard of a read by a Commit under way: it stays, and the Commit that comes brings the mark to the key's master.
+use Rattle.si_laws.proofs.Dependencies.AroundLocal.{Stand}
+use Rattle.str_model.proofs.Changes.PairWords.{pair-is}
+use Rattle.si_laws.proofs.Guards.ReadGuards.{Clear}
+use Rattle.si_laws.proofs.Guards.GuardGrounds.{Committer, Grounds, committer}
+use Rattle.si_laws.proofs.Guards.GuardsKept.{MarkSent, clear_some_up, open_not, there_d, there_e}
+use Rattle.si_laws.proofs.Stages.LinkedStates.{one_certified, one_of}
+use Rattle.str_model.proofs.ViewFacts.MarksRise.{raise_all-rises}
+use Rattle.si_laws.proofs.Order.MasterFacts.{IsBefore}
+use Rattle.si_laws.proofs.Guards.VersionOrigins.{HasWritten, Origin, og_came, og_commit, og_local, og_old, og_pre, origin}
+use Rattle.si_laws.proofs.Changes.ReadLetters.{ReadLetter, is_other, letters_act, rl_commit, rl_other, rl_reply, rl_request}
+use Rattle.si_laws.proofs.Reads.FinalsReported.{CommittedIn}
+use Rattle.si_laws.proofs.Guards.DecidedAbove.{came_above}
+use Rattle.str_model.proofs.Principle.SingleChanges.{Act, Where}
+use Rattle.str_model.proofs.Principle.Everywhere.{IsSeen, Sent, Stage, at_place, during}
+use Rattle.str_model.proofs.Lists.ListReads.{get_set_other, same_or_not}
+use Rattle.str_model.proofs.Lists.Members.{In, in_append, in_at, in_left, in_right}
+use Rattle.std.proofs.Common.{Bool, List, Some, [], ap, arith, eq-eqb, false, inl, inr, length, length-set, max, refl, slice_get, slice_index, slice_set, subst, subst₂, suc, sym, true, zero, ℕ, ◌++◌, ◌+◌, ◌<◌, ◌∙◌, ◌∷◌, ◌≡◌, ◌≢◌, ◌≤◌, ◌⊎◌}
+use Rattle.str_base.specs.Versions.{mark_of, raised, same_tx, stamp}
+use Rattle.str_base.specs.declared.names.KeyId.{KeyId}
+use Rattle.str_base.specs.declared.names.Kind.TheVariants.{Final, Pre}
+use Rattle.str_base.specs.declared.names.PartId.{PartId}
+use Rattle.str_base.specs.declared.names.Ts.{Ts}
+use Rattle.str_base.specs.declared.names.TxId.{TxId}
+use Rattle.str_base.specs.declared.names.Value.{Value}
+use Rattle.str_base.specs.declared.names.Version.{Version}
+use Rattle.str_model.specs.Acts.{marks_in, raise_all}
+use Rattle.str_model.specs.Views.{Doing, Own, View, name_of}
+use Rattle.str_model.specs.declared.messages.Body.TheVariants.{Commit}
+use Rattle.str_model.specs.declared.messages.Input.{Input}
+use Rattle.str_model.specs.declared.messages.Message.{Message}
+use Rattle.str_model.specs.declared.names.KeyMark.{KeyMark}
+use Rattle.str_scene.specs.Scenes.{Scene, hosts, is_master, part_of}
+
+index_set : (ms : List ℕ) (i t : ℕ) → i < length ms → slice_index (slice_set ms i t) i ≡ t
+index_set [] i t h = absurd (omega (arith, h))
+index_set (m ∷ ms) zero t h = refl
+index_set (m ∷ ms) (suc i) t h = index_set ms i t (omega (arith, h))
+
+-- a mark that is carried is reached
+raise_all_reaches : (ks : List KeyMark) (ms : List ℕ) (c : KeyMark) → In c ks → c.key.0 < length ms → c.mark.0 ≤ mark_of (raise_all ks ms) c.key
+raise_all_reaches [] ms c m l = absurd m
+raise_all_reaches (k ∷ ks) ms c (inl q) l =
+    let up = (raise_all-rises ks (raised ms k.key k.mark.0)).above c.key in
+    let l' : k.key.0 < length ms = omega (arith, l, ap (λ (z : KeyMark). z.key.0) q) in
+    let at : mark_of (raised ms k.key k.mark.0) k.key ≡ max (mark_of ms k.key) k.mark.0 = index_set ms k.key.0 (max (mark_of ms k.key) k.mark.0) l' in
+    let at' : mark_of (raised ms k.key k.mark.0) c.key ≡ max (mark_of ms k.key) k.mark.0 = ap (λ (z : KeyMark). mark_of (raised ms k.key k.mark.0) z.key) (sym q) ∙ at in
+    omega (arith, up, at', ap (λ (z : KeyMark). z.mark.0) q)
+raise_all_reaches (k ∷ ks) ms c (inr m) l =
+    raise_all_reaches ks (raised ms k.key k.mark.0) c m (omega (arith, l, length-set ms k.key.0 (max (mark_of ms k.key) k.mark.0)))
+
+pub same_or_other : (t u : TxId) → (t ≡ u) ⊎ (t ≢ u)
+same_or_other t u = by_test (same_tx t u) refl
+  where
+    same_names : t ≡ u → same_tx t u ≡ true
+    same_names q = rw (eq-eqb t.node.0 u.node.0 (ap (λ (z : TxId). z.node.0) q), eq-eqb t.seq u.seq (ap (λ (z : TxId). z.seq) q)) refl
+
+    by_test : (b : Bool) → same_tx t u ≡ b → (t ≡ u) ⊎ (t ≢ u)
+    by_test true e = inl (Rattle.str_model.proofs.Changes.PairWords.same_tx-is t u e)
+    by_test false e = inr (λ q. absurd (cc (same_names q, e)))
+
+module _ (scene : Scene) (s : Stage) (i : ℕ) (v : View) (input : Input) (w : Where) (d e : Doing) (is : slice_get s.nodes i ≡ Some v) (seen : IsSeen s input)
+    (act : Act (at_place scene i) input w d e) (h : Grounds scene (during s i d)) (u : TxId) (k : KeyId) (a : Value) (rs f : ℕ) (c : CommittedIn (during s i d) u f) (wr : HasWritten scene (during s i d) u k a)
+    (g : MarkSent scene (during s i d) u k rs f) where
+  st : Stand (at_place scene i) d.view
+  st = h.governed_.stand i d.view (there_d scene s i v input w d e is seen act h)
+
+  letters_up : (m : Message) (fc : Ts) (ms : List KeyMark) → In m (s.sent ++ e.sent) → m.body ≡ Commit u (part_of scene k) fc ms → (q : KeyMark) × In q ms × (q.key ≡ k) × (rs ≤ q.mark.0)
+  letters_up m fc ms j body = elim (in_append s.sent e.sent m j) [
+    | inl z ↦ g.letters m fc ms (in_left s.sent d.sent m z) body
+    | inr z ↦ (elim (letters_act (at_place scene i) input w d e act m z) [ inl y ↦ g.letters m fc ms (in_right s.sent d.sent m y) body | inr y ↦ fresh_ y ])
+  ]
+    where
+      fresh_ : ReadLetter (at_place scene i) input d e m → (q : KeyMark) × In q ms × (q.key ≡ k) × (rs ≤ q.mark.0)
+      fresh_ (rl_request n l x own b) = absurd (cc (b, body))
+      fresh_ (rl_reply t l r y by fc' sv sn b q) = absurd (cc (b, body))
+      fresh_ (rl_other b) = absurd (cc (ap is_other body, b))
+      fresh_ (rl_commit n lc' f' y q o o' inp recv b) =
+          let both : Commit (name_of (at_place scene i) n) q.part (stamp f') (marks_in (at_place scene i) d.view q.part y.writes) ≡ Commit u (part_of scene k) fc ms = sym b ∙ body in
+          let who : name_of (at_place scene i) n ≡ u = cc both in
+          absurd (open_not scene s i v input w d e is seen act h n f y u o o'.0 (sym who) c)
+
+  -- the Commit has just come
+  module _ (here : g.n ≡ i) (q : Version) (m : In q e.view.versions) (tx : q.tx ≡ u) (key : q.key ≡ k) (fin : q.kind ≡ Final) where
+    hosted_here : hosts scene (record { 0 = i + 1 }) (part_of scene k) ≡ true
+    hosted_here = subst (λ (z : ℕ). hosts scene (record { 0 = z + 1 }) (part_of scene k) ≡ true) here g.hosted
+
+    same_view : g.view ≡ d.view
+    same_view =
+        one_of g.view d.view (slice_get (slice_set s.nodes i d.view) i) (subst (λ (z : ℕ). slice_get (slice_set s.nodes i d.view) z ≡ Some g.view) here g.there) (there_d scene s i v input w d e is seen act h)
+
+    -- u's snapshot is below its final timestamp
+    below_final : (rs' lc : ℕ) (ws : List Rattle.str_base.specs.declared.names.Write.Write) → Rattle.si_laws.proofs.Stages.LinkedStates.IsCertified scene (during s i d) u rs' lc ws → rs' ≤ f
+    below_final rs' lc ws ce =
+        let z : Committer scene (during s i d) u f = committer scene (during s i d) u f c in
+        let o = one_certified scene (during s i d) z.at_.n z.at_.i z.at_.view z.x u rs' lc ws z.at_.there z.at_.own z.at_.name ce in
+        let t = (h.governed_.stand z.at_.n z.at_.view z.at_.there).base.times.each z.at_.i z.x z.at_.own in
+        let fc = t.fc z.is.0 f z.is.1 in
+        let l = t.lc fc.0 (ap Rattle.str_model.specs.Views.lc_of z.is.1 ∙ fc.1) in omega (arith, l.0, fc.2, o.1)
+
+    old_under : (p : Version) → In p d.view.versions → p.key ≡ k → p.tx ≡ u → p.kind ≡ Pre → (z : Version) → In z d.view.versions → z.key ≡ k → (z.tx ≡ u) ⊎ ((z.kind ≢ Pre) × (z.ts.0 ≤ f))
+    old_under p pm pk pt pre z zm zk = elim (same_or_other z.tx u) [ inl y ↦ inl y | inr y ↦ inr (ordered y) ]
+      where
+        mas : is_master scene (record { 0 = i + 1 }) z.part ≡ true
+        mas = subst₂ (λ (n : ℕ) (b : PartId). is_master scene (record { 0 = n + 1 }) b ≡ true) here
+            (sym (h.governed_.masters.parts i d.view (there_d scene s i v input w d e is seen act h) z zm ∙ ap (part_of scene) zk)) g.master
+
+        by_order : IsBefore scene (during s i d) z p ⊎ IsBefore scene (during s i d) p z → (z.kind ≢ Pre) × (z.ts.0 ≤ f)
+        by_order (inl b) = ((λ q. cc (b.final, q)), (let l = below_final b.rs b.lc b.ws (subst (λ (t : TxId). Rattle.si_laws.proofs.Stages.LinkedStates.IsCertified scene (during s i d) t b.rs b.lc b.ws) pt b.certified) in omega (arith, l, b.below)))
+        by_order (inr b) = absurd (cc (b.final, pre))
+
+        ordered : z.tx ≢ u → (z.kind ≢ Pre) × (z.ts.0 ≤ f)
+        ordered ne =
+            by_order (h.governed_.masters.order i d.view (there_d scene s i v input w d e is seen act h) z p zm pm (zk ∙ sym pk) mas (λ y. ne (y ∙ pt))
+            (λ loc. st.apart z p zm loc pm pre (pk ∙ sym zk)) (λ loc. cc (pre, loc)))
+
+    by_origin : Origin (at_place scene i) input d e q → Clear e.view k rs (Some u) f
+    by_origin (og_old j) =
+        clear_some_up scene s i v input w d e is seen act h k rs a f u c wr hosted_here
+        (subst (λ (z : View). Clear z k rs (Some u) f) same_view (g.once q (subst (λ (z : View). In q z.versions) (sym same_view) j) tx key fin))
+    by_origin (og_local n lc snap x y own ce own' j same) = absurd (cc (ap (λ (z : Version). z.kind) same, fin))
+    by_origin (og_pre b ts y p less j same) = absurd (cc (ap (λ (z : Version). z.kind) same, fin))
+    by_origin (og_commit n lc fc x p own o t none le j name hd same) =
+        absurd (g.far (ap (λ (z : TxId). z.node.0) (sym tx ∙ (ap (λ (z : Version). z.tx) same ∙ name)) ∙ ap (λ z. z + 1) (sym here)))
+    by_origin (og_came from t r fc ms p co dec marks only j o same) =
+        let pair = pair-is t r p o in
+        let pt : p.tx ≡ u = ap (λ (z : Version). z.tx) (sym same) ∙ tx in
+        let pk : p.key ≡ k = ap (λ (z : Version). z.key) (sym same) ∙ key in
+        let pre = (came_above scene s i v input w d e is seen act h.governed_ h.written from t r fc ms p co dec j o).0 in
+        let part : r ≡ part_of scene k = sym pair.1 ∙ (h.governed_.masters.parts i d.view (there_d scene s i v input w d e is seen act h) p j ∙ ap (part_of scene) pk) in
+        let who : t ≡ u = sym pair.0 ∙ pt in
+        let body : co.0.body ≡ Commit u (part_of scene k) fc ms = co.3 ∙ (λ n. Commit (who n) (part n) fc ms) in
+        let sent : Sent s co.0 = subst (IsSeen s) co.1 seen in
+        let km = g.letters co.0 fc ms (in_left s.sent d.sent co.0 (in_at s.sent sent.0 co.0 sent.1)) body in
+        let len = h.far.marks i d.view (there_d scene s i v input w d e is seen act h) in
+        let in_range : km.0.key.0 < length d.view.marks = omega (arith, g.within, len, ap (λ (z : KeyId). z.0) km.2) in
+        let reached = raise_all_reaches ms d.view.marks km.0 km.1 in_range in
+        let at_k : mark_of e.view.marks k ≡ mark_of (raise_all ms d.view.marks) km.0.key = subst₂ (λ (xs : List ℕ) (y : KeyId). mark_of xs k ≡ mark_of (raise_all ms d.view.marks) y) (sym marks) (sym km.2) refl in
+        record {
+          mark = omega (arith, reached, at_k, km.3);
+          each = λ z zm zk. elim (only z zm) [ inl y ↦ inr (old_under p j pk pt pre z y zk) | inr y ↦ inr (inl (y ∙ who)) ];
+        }
+
+  once_here : g.n ≡ i → (q : Version) → In q e.view.versions → q.tx ≡ u → q.key ≡ k → q.kind ≡ Final → Clear e.view k rs (Some u) f
+  once_here here q m tx key fin = by_origin here q m tx key fin (origin (at_place scene i) input w d e act q m)
+
+  pub sent_up : MarkSent scene (during s i e) u k rs f
+  sent_up = elim (same_or_not g.n i) [
+    | inl p ↦ record {
+      n = i;
+      view = e.view;
+      there = there_e scene s i v input w d e is seen act h;
+      within = g.within;
+      master = subst (λ (m : ℕ). is_master scene (record { 0 = m + 1 }) (part_of scene k) ≡ true) p g.master;
+      hosted = hosted_here_ p;
+      far = λ q. g.far (q ∙ ap (λ z. z + 1) (sym p));
+      letters = letters_up;
+      once = λ q m tx key fin. once_here p q m tx key fin;
+    }
+    | inr p ↦ record {
+      n = g.n;
+      view = g.view;
+      there = get_set_other s.nodes i g.n e.view p ∙ (sym (get_set_other s.nodes i g.n d.view p) ∙ g.there);
+      within = g.within;
+      master = g.master;
+      hosted = g.hosted;
+      far = g.far;
+      letters = letters_up;
+      once = g.once;
+    }
+  ]
+    where
+      hosted_here_ : g.n ≡ i → hosts scene (record { 0 = i + 1 }) (part_of scene k) ≡ true
+      hosted_here_ p = subst (λ (m : ℕ). hosts scene (record { 0 = m + 1 }) (part_of scene k) ≡ true) p g.hosted

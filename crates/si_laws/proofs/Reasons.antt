@@ -1,0 +1,17 @@
+-- The gate law, and true causes.
+-- Nothing commits before what it depends on or has read from, and each abort names why.
+
+pub mod AbortChanges
+pub mod AbortLinks
+pub mod AbortsAll
+pub mod CausesTrue
+pub mod ConflictReasons
+pub mod CausesNamed
+pub mod WithoutRefuse
+pub mod RefuseSent
+pub mod MessagesSent
+pub mod RefuseReasons
+pub mod CommitsAfter
+pub mod DependenciesFirst
+pub mod WritersFirst
+pub mod KeysWritten
