@@ -1,7 +1,7 @@
 //! The limits of a scene, of its text and of what one transaction takes.
 
 /// The nodes of a scene. A partition has a replica at each node at most.
-pub const NODES: u8 = 8;
+pub const NODES: usize = 8;
 
 /// The replicas of a partition.
 pub const REPLICAS: usize = 8;
