@@ -11,7 +11,7 @@ use Rattle.si_laws.proofs.Guards.VersionOrigins.{HasWritten}
 use Rattle.si_laws.proofs.Order.WritersApart.{master_of}
 use Rattle.str_model.proofs.OwnFacts.LocalOwners.{same_own}
 use Rattle.si_laws.proofs.Changes.ReadLetters.{ReadLetter, is_other, letters_act, marks_act, rl_commit, rl_other, rl_reply, rl_request}
-use Rattle.si_laws.proofs.Reads.FinalsReported.{CommittedIn}
+use Rattle.si_laws.proofs.Sources.FinalsReported.{CommittedIn}
 use Rattle.si_laws.proofs.Guards.DecidedAbove.{all_moved}
 use Rattle.str_model.proofs.Changes.OwnTurns.{OwnChange, o_acks, o_aborts, o_asks, o_begins, o_certifies, o_closes, o_commits, o_puts, o_rests, own_change}
 use Rattle.str_model.proofs.Principle.SingleChanges.{Act, Where}

@@ -8,7 +8,7 @@ use Rattle.si_laws.proofs.Guards.GuardedNewest.{newest_none}
 use Rattle.si_laws.proofs.CommitLists.NextAnswer.{Covered, Keeps}
 use Rattle.si_laws.proofs.Guards.VersionOrigins.{HasWritten}
 use Rattle.si_laws.proofs.CommitLists.ReadsSeen.{IsAbove, IsRight, Reads, of_none, of_one, reads_keep, reads_seen, top_of}
-use Rattle.si_laws.proofs.Reads.FinalsReported.{CommittedIn}
+use Rattle.si_laws.proofs.Sources.FinalsReported.{CommittedIn}
 use Rattle.str_model.proofs.OwnFacts.ScriptsCovered.{ScriptGood, scripts_after}
 use Rattle.str_model.proofs.Changes.PairWords.{has_at}
 use Rattle.str_model.proofs.Principle.Everywhere.{at_place, stage_of}

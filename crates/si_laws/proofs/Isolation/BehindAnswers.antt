@@ -6,7 +6,7 @@ use Rattle.si_laws.proofs.Stages.LinkedStates.{one_certified, one_of}
 use Rattle.str_model.proofs.Changes.MasterChanges.{AreDistinct, one_write}
 use Rattle.si_laws.proofs.Guards.GuardedNewest.{NoneBetween, newest_some}
 use Rattle.si_laws.proofs.Guards.VersionOrigins.{HasWritten}
-use Rattle.si_laws.proofs.Reads.FinalsReported.{CommittedIn}
+use Rattle.si_laws.proofs.Sources.FinalsReported.{CommittedIn}
 use Rattle.si_laws.proofs.Sessions.SessionAnswers.{entry, session_holds}
 use Rattle.si_laws.proofs.Sessions.SessionHolds.{good_everywhere}
 use Rattle.str_model.proofs.Changes.PairWords.{any_has}

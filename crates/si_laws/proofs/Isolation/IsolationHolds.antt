@@ -126,7 +126,7 @@ module _ (scene : Scene) (ok : IsScene scene) (es : List Event) where
         by_kind B (by_abort f) = f _
         by_kind B (by_need kept gets stops) =
             let r = own_reads scene ok es n si so n a ia (omega arith) B kept (unmet_of gets B.x) stops in
-            let q = reads_seen scene (take n (run scene es).answers) a (unmet_of gets B.x) (named (take n (run scene es).answers) si.placed.names) (Isolating.above scene ok es n si so n a ia) r.0 in
+            let q = reads_seen scene (take n (run scene es).answers) a (unmet_of gets B.x) (named (take n (run scene es).answers) si.placed.names) (AnswersFollow.above scene ok es n si so n a ia) r.0 in
             inl (ap (λ (z : Evaluated). z.stop) q)
 
     wish_ : (o : Outcome) → a.outcome ≡ o → IsWish (seen scene (take n (run scene es).answers) a) o

@@ -4,7 +4,7 @@ use Rattle.si_laws.proofs.Guards.GuardReads.{Guarded, guarded_opening, guarded_s
 use Rattle.si_laws.proofs.Guards.GuardsKept.{committed_up}
 use Rattle.si_laws.proofs.Stages.LinkedStates.{one_of}
 use Rattle.si_laws.proofs.CommitLists.AnswersBefore.{Precedes, in_event, lower_first, new_released, precedes_across, precedes_event, precedes_right}
-use Rattle.si_laws.proofs.Reads.FinalsReported.{CommittedIn, ReadOk, ro_committed, ro_gone, ro_listed}
+use Rattle.si_laws.proofs.Sources.FinalsReported.{CommittedIn, ReadOk, ro_committed, ro_gone, ro_listed}
 use Rattle.si_laws.proofs.Isolation.WishOrigins.{HasWished, WishOrigin, wish_origin, wo_now, wo_old, wo_stop}
 use Rattle.str_model.proofs.Principle.SingleChanges.{Act, Where}
 use Rattle.str_model.proofs.Principle.StepPaths.{StepPath, step-keeps}

@@ -4,7 +4,7 @@ use Rattle.si_laws.proofs.Stages.LinksKept.{placed_writes}
 use Rattle.si_laws.proofs.Stages.AllLinksKept.{linked_opening, linked_step}
 use Rattle.str_model.proofs.Changes.VersionChanges.{Placed, by_master, by_slave}
 use Rattle.si_laws.proofs.Changes.ReadLetters.{ReadLetter, is_other, letters_act, rl_commit, rl_other, rl_reply, rl_request}
-use Rattle.si_laws.proofs.Reads.GivenVersions.{OwnFrom, change_from, got_from, serve_from, still_from}
+use Rattle.si_laws.proofs.Sources.GivenVersions.{OwnFrom, change_from, got_from, serve_from, still_from}
 use Rattle.str_model.proofs.Principle.SingleChanges.{Act, Comes, Where, act_abort, act_abort_came, act_accept, act_ack, act_ask, act_begin, act_certify, act_close, act_commit, act_commit_came, act_mark, act_put, act_refuse, act_reply, act_request, act_take, act_unwait, act_wait}
 use Rattle.str_model.proofs.Principle.Everywhere.{IsSeen, Sent, Stage, at_place, during, stage_of}
 use Rattle.str_model.proofs.Lists.ListReads.{get_set, get_set_other, got_push, got_replicate, got_set}

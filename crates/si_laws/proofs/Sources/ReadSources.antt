@@ -27,7 +27,7 @@ use Rattle.str_model.proofs.Lists.Members.{In, in_append}
 use Rattle.si_laws.proofs.Dependencies.AroundKept.{cert_rs}
 use Rattle.str_model.proofs.ViewFacts.MarksRise.{finish-looks, finish_next-looks}
 use Rattle.si_laws.proofs.Changes.ReadTurns.{local-is, plain-is, reply-is}
-use Rattle.si_laws.proofs.Reads.GivenVersions.{finish_reply}
+use Rattle.si_laws.proofs.Sources.GivenVersions.{finish_reply}
 
 -- where a read comes from
 pub data ReadBack (d : Doing) (i : ℕ) (y : Own) (r : ReadDone) : Type 0 where
