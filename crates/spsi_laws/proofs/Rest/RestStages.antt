@@ -108,7 +108,7 @@ find_is {A = A} p (x ∷ xs) a e = by_test (p x) refl (find_is p xs a) e
 
 module _ (here : Here) where
   -- who is asked next, with no dependency that wrote there
-  asks_free : (v : View) (lc : ℕ) (x : Own) (p : PartId) → gate_of here v lc x ≡ Ask p → (a : Asked) × In a x.parts × (a.part ≡ p) × (Gates.is_written (map (dep_parts here v.own) x.snap.deps) p ≡ true → ⊥)
+  asks_free : (v : View) (lc : ℕ) (x : Own) (p : PartId) → gate_of here v lc x ≡ Ask p → (a : Asked) × In a x.parts × (a.part ≡ p) × (Gates.dependency_wrote (map (dep_parts here v.own) x.snap.deps) p ≡ true → ⊥)
   unfolding gate_turn
   asks_free v lc x p e = by_ask (find (Gates.may_ask (map (dep_parts here v.own) x.snap.deps)) x.parts) refl e
     where
@@ -121,12 +121,12 @@ module _ (here : Here) where
       by_deps (d ∷ ds) k = cc k
 
       by_ask : (o : Option Asked) → find (Gates.may_ask (map (dep_parts here v.own) x.snap.deps)) x.parts ≡ o → Gates.gate_asks x.snap lc x.parts o ≡ Ask p
-          → (a : Asked) × In a x.parts × (a.part ≡ p) × (Gates.is_written (map (dep_parts here v.own) x.snap.deps) p ≡ true → ⊥)
+          → (a : Asked) × In a x.parts × (a.part ≡ p) × (Gates.dependency_wrote (map (dep_parts here v.own) x.snap.deps) p ≡ true → ⊥)
       by_ask (Some a) q k =
           let f = find_is (Gates.may_ask (map (dep_parts here v.own) x.snap.deps)) x.parts a q in
           let part : a.part ≡ p = cc k in
-          let n : not (Gates.is_written (map (dep_parts here v.own) x.snap.deps) a.part) ≡ true = and_right (not a.asked) (not (Gates.is_written (map (dep_parts here v.own) x.snap.deps) a.part)) f.1 in
-          (a, f.0, part, λ t. cc (ap (λ r. not (Gates.is_written (map (dep_parts here v.own) x.snap.deps) r)) (sym part) ∙ n, ap not t))
+          let n : not (Gates.dependency_wrote (map (dep_parts here v.own) x.snap.deps) a.part) ≡ true = and_right (not a.asked) (not (Gates.dependency_wrote (map (dep_parts here v.own) x.snap.deps) a.part)) f.1 in
+          (a, f.0, part, λ t. cc (ap (λ r. not (Gates.dependency_wrote (map (dep_parts here v.own) x.snap.deps) r)) (sym part) ∙ n, ap not t))
       by_ask None q k = absurd (by_deps x.snap.deps k)
 
   gate_apart : (v : View) (i j lc : ℕ) (x z : Own) (p : PartId) (dep : Dep) (wr : Write) → OwnGood here v.versions i x → gate_of here v lc x ≡ Ask p → In dep x.snap.deps → dep.seq ≡ j + 1 → Owns v j z

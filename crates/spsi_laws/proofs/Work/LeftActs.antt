@@ -215,7 +215,7 @@ module _ (here : Here) where
       by_ask : (o : Option Asked) → find (Gates.may_ask wrote) parts ≡ o → Gates.gate_asks snap lc parts o ≡ Ask p → (a : Asked) × In a parts × (a.part ≡ p) × (a.asked ≡ false)
       by_ask (Some a) q k =
           let f = find_is (Gates.may_ask wrote) parts a q in
-          (a, f.0, (let s : a.part ≡ p = cc k in s), not_so a.asked (and_left (not a.asked) (not (Gates.is_written wrote a.part)) f.1))
+          (a, f.0, (let s : a.part ≡ p = cc k in s), not_so a.asked (and_left (not a.asked) (not (Gates.dependency_wrote wrote a.part)) f.1))
       by_ask None q k = absurd (by_deps snap.deps k)
 
   -- a partition is asked

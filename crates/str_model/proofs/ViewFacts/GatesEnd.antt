@@ -147,7 +147,7 @@ gate_open snap lc parts wrote p e = by_ask (find (may_ask wrote) parts) refl e
     is_not false q = refl
 
     by_ask : (o : Option Asked) → find (may_ask wrote) parts ≡ o → Gates.gate_asks snap lc parts o ≡ Ask p → (a : Asked) × In a parts × (a.part ≡ p) × (a.asked ≡ false)
-    by_ask (Some a) f q = (a, find_some (may_ask wrote) parts a f, cc q, is_not a.asked (and_left (not a.asked) (not (Gates.is_written wrote a.part)) (find_true (may_ask wrote) parts a f)))
+    by_ask (Some a) f q = (a, find_some (may_ask wrote) parts a f, cc q, is_not a.asked (and_left (not a.asked) (not (Gates.dependency_wrote wrote a.part)) (find_true (may_ask wrote) parts a f)))
     by_ask None f q = absurd (by_deps snap.deps q)
 
 -- ---- the participants of a transaction are of the scene
