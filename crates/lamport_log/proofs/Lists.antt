@@ -1,6 +1,7 @@
 -- Lists read at one place.
 use Rattle.std.proofs.Common.{List, None, Some, [], ap, length, refl, slice_get, slice_set, suc, zero, ℕ, ◌++◌, ◌+◌, ◌<◌, ◌∷◌, ◌≡◌, ◌≤◌, arith, suc-add, zero-add}
 use Rattle.str_scene.specs.Scenes.{nth}
+use Rattle.std.proofs.lemmas.Option.{slice_get_past, slice_get_within}
 
 -- lists with the same elements are one
 pub same_lists : {A : Type 0} (xs ys : List A) → ((i : ℕ) → slice_get xs i ≡ slice_get ys i) → xs ≡ ys
@@ -12,22 +13,11 @@ same_lists (x ∷ xs) (y ∷ ys) h =
     let p : x ≡ y = cc in
     λ j. p j ∷ same_lists xs ys (λ i. h (suc i)) j
 
--- what stands there is within
-pub get_within : {A : Type 0} (xs : List A) (i : ℕ) (x : A) → slice_get xs i ≡ Some x → i < length xs
-get_within [] i x e = absurd cc
-get_within (y ∷ xs) zero x e = omega arith
-get_within (y ∷ xs) (suc i) x e = let h = get_within xs i x e in omega arith
-
 -- within, something stands
 pub get_there : {A : Type 0} (xs : List A) (i : ℕ) → i < length xs → (x : A) × (slice_get xs i ≡ Some x)
 get_there [] i h = absurd (omega arith)
 get_there (y ∷ xs) zero h = (y, refl)
 get_there (y ∷ xs) (suc i) h = get_there xs i (omega arith)
-
-pub get_none : {A : Type 0} (xs : List A) (i : ℕ) → length xs ≤ i → slice_get xs i ≡ None
-get_none [] i h = refl
-get_none (y ∷ xs) zero h = absurd (omega arith)
-get_none (y ∷ xs) (suc i) h = get_none xs i (omega arith)
 
 pub get_left : {A : Type 0} (xs ys : List A) (i : ℕ) → i < length xs → slice_get (xs ++ ys) i ≡ slice_get xs i
 get_left [] ys i h = absurd (omega arith)
@@ -41,7 +31,7 @@ get_right (x ∷ xs) ys i = rw (suc-add (length xs) i) (get_right xs ys i)
 -- the same, counted from 1
 pub nth_within : {A : Type 0} (xs : List A) (k : ℕ) (x : A) → nth xs k ≡ Some x → (1 ≤ k) × (k ≤ length xs)
 nth_within xs zero x e = absurd cc
-nth_within xs (suc i) x e = let h = get_within xs i x e in (omega arith, omega arith)
+nth_within xs (suc i) x e = let h = slice_get_within xs i x e in (omega arith, omega arith)
 
 pub nth_left : {A : Type 0} (xs ys : List A) (k : ℕ) → k ≤ length xs → nth (xs ++ ys) k ≡ nth xs k
 nth_left xs ys zero h = refl

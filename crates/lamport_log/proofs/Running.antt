@@ -5,7 +5,7 @@ use Rattle.std.proofs.lemmas.List.{map-append}
 use Rattle.std.proofs.lemmas.List.Concat.{flat_map-append}
 use Rattle.lamport_log.proofs.Entering.{client_is, deliver_is, entered}
 use Rattle.lamport_log.proofs.Giving.{Within, given_client, given_deliver, within_client, within_deliver}
-use Rattle.lamport_log.proofs.Lists.{get_none, get_there, length_set, none_past, nth_within, same_lists}
+use Rattle.lamport_log.proofs.Lists.{get_there, length_set, none_past, nth_within, same_lists}
 use Rattle.lamport_log.proofs.Numbering.{mine, number_found, number_stays}
 use Rattle.lamport_log.specs.Logs.{Item, Log, letter_of, letters, replies}
 use Rattle.lamport_log.specs.Merge.{done_of, event_of, given_by, number_of}
@@ -24,6 +24,7 @@ use Rattle.str_model.specs.declared.messages.Message.{Message}
 use Rattle.str_scene.specs.Scenes.{Scene, nth}
 use Rattle.str_scene.specs.declared.names.Event.{Event}
 use Rattle.str_scene.specs.declared.names.Event.TheVariants.{Client as ClientEvent, Deliver as DeliverEvent}
+use Rattle.std.proofs.lemmas.Option.{slice_get_past}
 
 -- the name of the i-th node, counted from 0
 abbrev pub node_at : ℕ → NodeId
@@ -172,7 +173,7 @@ module _ (scene : Scene) (logs : List Log) (views : List View) (all : List Item)
   runs [] before ns eq long go w = λ j. so_far all (same_lists ns views (λ i. at_each i (slice_get ns i) refl) j) ((sym (append-nil before) ∙ eq) j)
     where
       at_each : (i : ℕ) (o : Option View) → slice_get ns i ≡ o → slice_get ns i ≡ slice_get views i
-      at_each i None q = let far = none_past ns i q in q ∙ sym (get_none views i (omega (arith, far, long)))
+      at_each i None q = let far = none_past ns i q in q ∙ sym (slice_get_past views i (omega (arith, far, long)))
       at_each i (Some v) q = let r = go i v q in q ∙ ap (λ z. Some z) r.2 ∙ sym r.1
   runs (it ∷ rest) before ns eq long go w =
       let f = fits before it rest eq in

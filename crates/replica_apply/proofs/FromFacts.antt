@@ -26,10 +26,11 @@ use Rattle.str_model.proofs.Changes.SnapshotsGain.{and_left, and_right}
 use Rattle.str_model.proofs.Lists.Members.{in_at, in_insert, map_in}
 use Rattle.str_model.proofs.Room.SmallNumbers.{locals_few}
 use Rattle.str_model.proofs.ViewFacts.NodeUses.{have_marks, held_open, is_beside, none_of_key}
-use Rattle.str_model.proofs.Changes.PairWords.{has_at, not_both, pair-is}
+use Rattle.str_model.proofs.Changes.PairWords.{has_at, pair-is}
 use Rattle.str_model.proofs.ViewFacts.ValidMessages.{NamedWrites, all_in, came_named}
 use Rattle.str_model.proofs.Principle.SingleChanges.{Comes}
 use Rattle.version_chain.specs.ChainLists.{Apart, Each}
+use Rattle.std.proofs.lemmas.Bool.{false_from_ne_true}
 
 module _ (here : Here) (v : View) (h : MomentFacts here v) where
   -- who is evicted is an undecided own transaction
@@ -106,7 +107,7 @@ pub cache_other : (here : Here) (tx : TxId) (p : PartId) → hosts here.scene he
     → Each (λ u. of_pair tx p u ≡ false) cache
 cache_other here tx p hs [] f = tt
 cache_other here tx p hs (u ∷ us) f = (
-  not_both (of_pair tx p u) (λ e. let q : u.part ≡ p = (pair-is tx p u e).1 in cc (sym (f u (inl refl)) ∙ ap (λ z. hosts here.scene here.node z) q, hs)),
+  false_from_ne_true (of_pair tx p u) (λ e. let q : u.part ≡ p = (pair-is tx p u e).1 in cc (sym (f u (inl refl)) ∙ ap (λ z. hosts here.scene here.node z) q, hs)),
   cache_other here tx p hs us (λ z k. f z (inr k)),
 )
 

@@ -15,13 +15,9 @@ use Rattle.str_scene.specs.Scenes.{Scene}
 use Rattle.si_laws.specs.SnapshotIsolation.{AnswersPlaced, CommittedSnapshots, IsAnswer, IsCommittedAt, IsCommittedSnapshot, IsPlaced, IsWish, NoOverlap, SI, SIRun, SessionOrder, Wishes, of_one_session}
 use Rattle.str_model.proofs.Lists.ListReads.{got_push}
 use Rattle.si_laws.proofs.CommitLists.NextAnswer.{IsNext, SeenNext, seen_next}
+use Rattle.std.proofs.lemmas.Option.{slice_get_within}
 
 -- ---- lists
-
-got_less : {A : Type 0} (xs : List A) (i : ℕ) (x : A) → slice_get xs i ≡ Some x → i < length xs
-got_less [] i x e = absurd cc
-got_less (y ∷ xs) zero x e = omega arith
-got_less (y ∷ xs) (suc i) x e = let k : i < length xs = got_less xs i x e in omega arith
 
 take_before : {A : Type 0} (xs : List A) (i : ℕ) (y z : A) → slice_get xs i ≡ Some z → take i (xs ++ y ∷ []) ≡ take i xs
 take_before [] i y z e = absurd cc
@@ -148,7 +144,7 @@ sessions_next scene all a si next = record {
 }
   where
     not_after : (i j : ℕ) (y : Answer) → i < j → i ≡ length all → IsAnswer all j y → ⊥
-    not_after i j y l q m = let k : j < length all = got_less all j y m in omega arith
+    not_after i j y l q m = let k : j < length all = slice_get_within all j y m in omega arith
 
     rs_ : (i j : ℕ) (x y : Answer) → i < j → Which all a i x → Which all a j y → x.place.session ≡ y.place.session → x.rs.0 ≤ y.rs.0
     rs_ i j x y l (inl h) (inl m) q = let u : i ≡ j = h.0 ∙ sym m.0 in absurd (omega arith)

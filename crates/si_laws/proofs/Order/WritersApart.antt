@@ -5,7 +5,7 @@ use Rattle.str_model.proofs.OwnFacts.AtHome.{OwnGood}
 use Rattle.si_laws.proofs.Stages.LinkedStates.{IsCertified, one_certified, one_of}
 use Rattle.si_laws.proofs.Order.OrderAtMaster.{governed, one_pre}
 use Rattle.si_laws.proofs.Order.MasterFacts.{IsBefore}
-use Rattle.str_model.proofs.OwnFacts.ScriptsCovered.{ScriptGood, WritesKey, eval_keys, or_first, scripts_after}
+use Rattle.str_model.proofs.OwnFacts.ScriptsCovered.{ScriptGood, WritesKey, eval_keys, scripts_after}
 use Rattle.si_laws.proofs.Stages.ParticipantSeats.{of_nth}
 use Rattle.si_laws.proofs.Sessions.SessionAnswers.{committed_phase, entry, session_holds}
 use Rattle.si_laws.proofs.Sessions.SessionHolds.{get_within, good_everywhere}
@@ -37,6 +37,7 @@ use Rattle.str_scene.specs.declared.names.Event.{Event}
 use Rattle.str_scene.specs.declared.names.Op.TheVariants.{Abort as Stop, Add, Del, Get, Need, Put, Puts}
 use Rattle.str_scene.specs.declared.names.Op.{Op}
 use Rattle.str_scene.specs.declared.names.TxPlace.{TxPlace}
+use Rattle.std.proofs.lemmas.Bool.{or_left}
 
 none_above : {A : Type 0} (xs : List A) (n j : ℕ) (x : A) → slice_get xs n ≡ None → slice_get xs j ≡ Some x → j < n
 none_above [] n j x e f = absurd (cc f)
@@ -77,7 +78,7 @@ master_of scene ok k less =
   where
     by_row : (row : List NodeId) → 1 ≤ length row → (r : NodeId) × (leads r row ≡ true) × (list_any (λ n. same_node n r) row ≡ true)
     by_row [] le = absurd (omega (arith, le))
-    by_row (r ∷ rs) le = (r, eq-eqb r.0 r.0 refl, or_first (same_node r r) (list_any (λ n. same_node n r) rs) (eq-eqb r.0 r.0 refl))
+    by_row (r ∷ rs) le = (r, eq-eqb r.0 r.0 refl, or_left (same_node r r) (list_any (λ n. same_node n r) rs) (eq-eqb r.0 r.0 refl))
 
     by_part : {p : PartId} (m : ℕ) → p.0 ≡ m → Exists m (length scene.parts) → part_of scene k ≡ p → (r : NodeId) × (is_master scene r (part_of scene k) ≡ true) × (hosts scene r (part_of scene k) ≡ true)
     by_part {p} zero q x part = absurd (omega (arith, x.0))

@@ -16,8 +16,9 @@ use Rattle.str_model.proofs.Lists.Members.{In, in_append}
 use Rattle.str_model.proofs.Changes.OwnChanges.{own_step}
 use Rattle.str_model.proofs.OwnFacts.PlacesInOrder.{InOrder, PlacedIn, order-step}
 use Rattle.si_laws.proofs.Sessions.SessionOrder.{Told, ours-step, rising-step, told-step, told_in}
-use Rattle.str_model.proofs.Changes.AnswerChanges.{Rising, none_pass, not_true, r_none, tell_step}
+use Rattle.str_model.proofs.Changes.AnswerChanges.{Rising, none_pass, r_none, tell_step}
 use Rattle.str_model.proofs.OwnFacts.NodeTimes.{timed-step, timed_opening}
+use Rattle.std.proofs.lemmas.Bool.{false_from_ne_true}
 
 -- what holds of a node
 pub record NodeGood (scene : Scene) (n : ℕ) (answers : List Answer) (v : View) : Type 0 where
@@ -73,7 +74,7 @@ get_within (x ∷ xs) (suc i) h = get_within xs i (omega (arith, h))
 other_session : (scene : Scene) (i s : ℕ) (text : Session) (bs : List Answer) → nth scene.sessions s ≡ Some text → text.node.0 ≢ i + 1
     → ((a : Answer) → In a bs → PlacedIn scene i a.place) → filter (told_in s) bs ≡ []
 other_session scene i s text bs q n ours =
-    none_pass (told_in s) bs (λ a k. not_true (told_in s a) (λ t.
+    none_pass (told_in s) bs (λ a k. false_from_ne_true (told_in s a) (λ t.
     let p = ours a k in
     let e : a.place.session.0 ≡ s = eqb-true a.place.session.0 s t in
     let both : Some p.text ≡ Some text = sym p.session ∙ (ap (λ m. nth scene.sessions m) e ∙ q) in

@@ -1,6 +1,6 @@
 -- Sessions: own transactions stand in order of their places, and a session's answers are those of its decided ones.
 use Rattle.std.proofs.Common.{Bool, List, Some, [], ap, append_assoc, arith, eqb-true, false, filter, inl, inr, length, refl, slice_get, slice_set, subst, sym, true, ℕ, ◌++◌, ◌+◌, ◌<◌, ◌==◌, ◌∙◌, ◌∷◌, ◌≡◌, ◌≢◌, ◌≤◌, ◌⊎◌}
-use Rattle.std.proofs.lemmas.Bool.{cases_lt, cases_order}
+use Rattle.std.proofs.lemmas.Bool.{cases_lt, cases_order, false_from_ne_true}
 use Rattle.std.proofs.lemmas.List.{length-append}
 use Rattle.std.proofs.lemmas.List.Elements.{filter-append}
 use Rattle.str_scene.specs.declared.names.TxPlace.{TxPlace}
@@ -13,7 +13,7 @@ use Rattle.str_model.proofs.Principle.SingleChanges.{NextPlace, is_first, is_nex
 use Rattle.str_model.proofs.Changes.SnapshotsGain.{if_elim}
 use Rattle.str_model.proofs.Lists.ListReads.{get_push, get_set, got_push, got_set}
 use Rattle.str_model.proofs.Lists.Members.{In, at_in, in_right}
-use Rattle.str_model.proofs.Changes.AnswerChanges.{IsLastOf, Rising, TellStep, in_release, last_index-none, last_index-some, not_true, release-last, release-other, release-rising, t_begins, t_decides, t_goes, t_rests, told}
+use Rattle.str_model.proofs.Changes.AnswerChanges.{IsLastOf, Rising, TellStep, in_release, last_index-none, last_index-some, release-last, release-other, release-rising, t_begins, t_decides, t_goes, t_rests, told}
 use Rattle.str_model.proofs.OwnFacts.PlacesInOrder.{InOrder, PlacedIn, get_set_cases}
 
 -- the answer is of the session
@@ -132,7 +132,7 @@ told_more here n s i x y own all is opn dec p of_y ord h =
 
     here_index : y.place.index ≡ length all + 1
     here_index =
-        ap (λ (m : TxPlace). m.index) p ∙ (h.last i x is of_x (λ j z less g. not_true (z.place.session.0 == s) (not_later j z less g)) ∙ ap (λ b. place_after b (length all)) opn)
+        ap (λ (m : TxPlace). m.index) p ∙ (h.last i x is of_x (λ j z less g. false_from_ne_true (z.place.session.0 == s) (not_later j z less g)) ∙ ap (λ b. place_after b (length all)) opn)
 
     by_answer : (c : ℕ) (a : Answer) → ((c ≡ length all) × (a ≡ told here i y)) ⊎ (slice_get all c ≡ Some a) → Made here (slice_set own i y) a × (a.place.index ≡ c + 1)
     by_answer c a (inl q) =

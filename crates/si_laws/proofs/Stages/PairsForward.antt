@@ -24,7 +24,8 @@ use Rattle.str_model.proofs.Changes.SnapshotsGain.{and_left}
 use Rattle.str_model.proofs.Lists.ListReads.{get_set, get_set_other, got_set}
 use Rattle.str_model.proofs.Lists.Members.{In, in_all_new, in_all_old, in_append, in_left, in_right, map_in}
 use Rattle.str_model.proofs.Changes.VersionChanges.{wait_step}
-use Rattle.str_model.proofs.Changes.PairWords.{Has, SomeWrites, any_has, has_at, joined_pair, keep_held, keep_without, not_both, pair_same, some_step}
+use Rattle.str_model.proofs.Changes.PairWords.{Has, SomeWrites, any_has, has_at, joined_pair, keep_held, keep_without, pair_same, some_step}
+use Rattle.std.proofs.lemmas.Bool.{false_from_ne_true}
 
 -- ---- names
 
@@ -70,7 +71,7 @@ module _ (here : Here) (input : Input) (w : Where) (tx : TxId) (p : PartId) (oth
   done-act d e (act_abort_came from t q d' c h) k = pushed d.view ((t, q) ∷ []) k
 
   foreign : (i : ℕ) (x : Version) → of_pair tx p x ≡ true → of_tx (name_of here i) x ≡ false
-  foreign i x e = not_both (of_tx (name_of here i) x) (λ q.
+  foreign i x e = false_from_ne_true (of_tx (name_of here i) x) (λ q.
       let a = pair_same x.tx tx x.part p e in
       let b : x.tx.node.0 ≡ here.node.0 = eqb-true x.tx.node.0 here.node.0 (and_left (same_node x.tx.node here.node) (x.tx.seq == i + 1) q) in
       other (sym a.node ∙ b))

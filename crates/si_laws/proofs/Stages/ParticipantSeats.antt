@@ -1,7 +1,7 @@
 -- Who takes part in a transaction: the replicas, but its origin, of each partition that it wrote in.
 use Rattle.partition_map.specs.declared.rows.Asked.{Asked}
 use Rattle.str_model.proofs.OwnFacts.AtHome.{OwnGood, seats}
-use Rattle.str_model.proofs.Changes.PairWords.{any_has, has_at, not_both}
+use Rattle.str_model.proofs.Changes.PairWords.{any_has, has_at}
 use Rattle.str_model.proofs.Lists.ListReads.{same_or_not}
 use Rattle.str_model.proofs.Lists.Members.{In, in_filter, in_flat_map, in_left, in_map, in_right, map_in}
 use Rattle.str_model.proofs.Changes.VersionsMet.{filter_in}
@@ -15,6 +15,7 @@ use Rattle.str_base.specs.declared.names.Version.{Version}
 use Rattle.str_base.specs.declared.names.Write.{Write}
 use Rattle.str_model.specs.Views.{Own, lc_of}
 use Rattle.str_scene.specs.Scenes.{Here, Scene, all_parts, hosts, in_part, nth, or_none, others, part_of, participants, replicas, unasked, written_parts}
+use Rattle.std.proofs.lemmas.Bool.{false_from_ne_true}
 
 pub of_nth : {A : Type 0} (xs : List A) (n : ℕ) (x : A) → nth xs n ≡ Some x → (i : ℕ) × (n ≡ i + 1) × (slice_get xs i ≡ Some x)
 of_nth xs zero x e = absurd (cc e)
@@ -63,7 +64,7 @@ takes_part scene origin r ws w h k other =
     let written : In p (written_parts scene ws) = filter_in (λ (q : PartId). list_any (in_part scene q) ws) (all_parts scene) p all own in
     let host = any_has (λ (n : NodeId). same_node n r) (replicas scene p) k in
     let is : host.0 ≡ r = λ j. record { 0 = eqb-true host.0.0 r.0 host.2 j } in
-    let not_origin : not (same_node host.0 origin) ≡ true = ap not (not_both (same_node host.0 origin) (λ q. other (ap (λ (z : NodeId). z.0) (sym is) ∙ eqb-true host.0.0 origin.0 q))) in
+    let not_origin : not (same_node host.0 origin) ≡ true = ap not (false_from_ne_true (same_node host.0 origin) (λ q. other (ap (λ (z : NodeId). z.0) (sym is) ∙ eqb-true host.0.0 origin.0 q))) in
     let there : In host.0 (others origin (replicas scene p)) = filter_in (λ (n : NodeId). not (same_node n origin)) (replicas scene p) host.0 host.1 not_origin in (
       unasked p host.0,
       flat_map_in (λ (q : PartId). map (unasked q) (others origin (replicas scene q))) (written_parts scene ws) p (unasked p host.0) written (map_in (unasked p) (others origin (replicas scene p)) host.0 there),

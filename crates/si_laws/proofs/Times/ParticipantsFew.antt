@@ -1,6 +1,6 @@
 -- A transaction has at most 112 participants: at most 16 written partitions, each with at most 7 replicas beside the origin.
 use Rattle.partition_map.specs.declared.rows.Asked.{Asked}
-use Rattle.si_laws.proofs.Times.NoRepeats.{Once, fits, map_length, once_filter, once_map, once_places, once_range, range_length}
+use Rattle.si_laws.proofs.Times.NoRepeats.{Once, fits, map_length, once_filter, once_map, once_places, once_range}
 use Rattle.str_model.proofs.OwnFacts.AtHome.{OwnGood, seats}
 use Rattle.str_model.proofs.OwnFacts.ScriptsCovered.{ScriptGood, WritesKey}
 use Rattle.si_laws.proofs.Stages.ParticipantSeats.{flat_map_in, range_in}
@@ -23,6 +23,7 @@ use Rattle.str_scene.specs.declared.names.Op.TheVariants.{Abort as Stop, Add, De
 use Rattle.str_scene.specs.declared.names.TxPlace.{TxPlace}
 use Rattle.str_scene.specs.SceneLimits.{Exists, IsRow, IsScene, key_of}
 use Rattle.str_scene.specs.Scenes.{Here, Scene, Session, all_parts, in_part, nth, ops_at, or_none, others, part_of, participants, replicas, script_at, unasked, written_parts}
+use Rattle.std.proofs.lemmas.List.FromFn.{length-range_with_len}
 
 -- ---- writes
 
@@ -123,7 +124,7 @@ others_few scene ok origin here p = by_row p.0 (nth scene.parts p.0) refl
         ) in
         let fit = fits all (range_with_len 1 scene.nodes) (once_map (λ (n : NodeId). n.0) (origin ∷ beside) node_same once) (λ k h. in_nodes k (in_map (λ (n : NodeId). n.0) (origin ∷ beside) k h)) in
         let a : length all ≡ length (origin ∷ beside) = map_length (λ (n : NodeId). n.0) (origin ∷ beside) in
-        let b = range_length 1 scene.nodes in
+        let b = length-range_with_len 1 scene.nodes in
         let c = ok.nodes.1 in omega (arith, fit, a, b, c)
       where
         in_nodes : (k : ℕ) → (n : NodeId) × In n (origin ∷ others origin row) × (n.0 ≡ k) → In k (range_with_len 1 scene.nodes)

@@ -16,7 +16,6 @@ use Rattle.str_model.proofs.Principle.StepPaths.{turn-path, wait_turns-path, wai
 use Rattle.str_model.proofs.Changes.SnapshotsGain.{and_left, and_right, if_elim, in_last}
 use Rattle.str_model.proofs.Lists.Members.{In, in_all_old, in_append, in_filter, in_flat_map, in_right}
 use Rattle.str_model.proofs.Principle.RulePaths.{rule-path}
-use Rattle.str_model.proofs.Changes.AnswerChanges.{not_true}
 use Rattle.str_model.specs.Acts
 use Rattle.str_model.specs.Acts.{aborted, accepted, acked, asked, begun, certified, closed, commit_came, committed, is_hosted_of, local_version, marked, pre_version, refused, replied, requested, taken, waits, with_waiters}
 use Rattle.str_model.specs.Owned.{Owns}
@@ -37,6 +36,7 @@ use Rattle.str_model.specs.declared.messages.Waiter.TheVariants.{Held, Read}
 use Rattle.str_scene.specs.Scenes.{Here}
 use Rattle.str_model.proofs.Changes.PairWords.{keep_without, same_tx-is}
 use Rattle.str_model.proofs.OwnFacts.TurnsBelow.{leaves}
+use Rattle.std.proofs.lemmas.Bool.{false_from_ne_true}
 
 -- an input that brings no message
 abbrev pub nobody : Input
@@ -44,7 +44,7 @@ nobody = Client (record { 0 = 0 }) 0
 
 module _ (here : Here) where
   other_name : (i : ℕ) (q : Version) → q.tx.node.0 ≢ here.node.0 → of_tx (name_of here i) q ≡ false
-  other_name i q ne = not_true (of_tx (name_of here i) q) (λ t. ne (ap (λ (x : TxId). x.node.0) (same_tx-is q.tx (name_of here i) t)))
+  other_name i q ne = false_from_ne_true (of_tx (name_of here i) q) (λ t. ne (ap (λ (x : TxId). x.node.0) (same_tx-is q.tx (name_of here i) t)))
 
   -- outside a rule no Pre version goes, where no message comes
   pre_stays : (w : Where) (d e : Doing) → Act here nobody w d e → PreForeign here d.view → (q : Version) → In q d.view.versions → q.kind ≡ Pre → In q e.view.versions

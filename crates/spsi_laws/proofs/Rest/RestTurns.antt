@@ -7,7 +7,7 @@ use Rattle.dependency_set.specs.Snapshots.{Snap, accept_final, holds, oldest}
 use Rattle.si_laws.proofs.Scripts.ReadsEvaluate.{Wants}
 use Rattle.si_laws.proofs.Scripts.EvaluationKept.{AllEvaluate, gives-act}
 use Rattle.si_laws.proofs.Stages.LinkedStates.{one_of}
-use Rattle.si_laws.proofs.Times.NoRepeats.{map_length, range_length}
+use Rattle.si_laws.proofs.Times.NoRepeats.{map_length}
 use Rattle.si_laws.proofs.Stages.ParticipantSeats.{own_seat, part_exists, range_in}
 use Rattle.spsi_laws.proofs.Work.LeftHome.{HomeFit, fit-act}
 use Rattle.spsi_laws.proofs.Rest.RestActs.{pre_new}
@@ -47,6 +47,7 @@ use Rattle.str_model.proofs.Changes.PairWords.{any_has, has_at}
 use Rattle.str_model.proofs.OwnFacts.LocalOwners.{Depends}
 use Rattle.str_model.proofs.OwnFacts.EarlierDependencies.{depends-act, earlier}
 use Rattle.str_model.proofs.Lists.ListCounts.{how_many, one_if}
+use Rattle.std.proofs.lemmas.List.FromFn.{length-range_with_len}
 
 -- it waits at its own node
 abbrev pub IsStuck : Phase → Type 0
@@ -363,7 +364,7 @@ module _ (here : Here) where
   unasked_most x =
       let a = many_most (open_part x.parts) (all_parts here.scene) in
       let b : length (all_parts here.scene) ≡ length (range_with_len 1 (length here.scene.parts)) = map_length (λ (n : ℕ). record { 0 = n }) (range_with_len 1 (length here.scene.parts)) in
-      let c = range_length 1 (length here.scene.parts) in
+      let c = length-range_with_len 1 (length here.scene.parts) in
       omega (arith, a, b, c)
 
   -- asking leaves fewer that are not asked

@@ -13,7 +13,6 @@ use Rattle.str_base.specs.declared.names.SessionId.{SessionId}
 use Rattle.str_model.proofs.Principle.Everywhere.{at_place}
 use Rattle.str_model.proofs.Lists.ListReads.{set_got}
 use Rattle.str_model.proofs.Lists.Members.{in_at}
-use Rattle.str_model.proofs.Changes.AnswerChanges.{not_true}
 use Rattle.str_model.specs.Runs.{World, give, happens}
 use Rattle.str_model.specs.Runs
 use Rattle.str_model.specs.Steps.{step}
@@ -26,6 +25,7 @@ use Rattle.str_scene.specs.declared.names.Event.{Event}
 use Rattle.str_scene.specs.declared.names.Event.TheVariants.{Client as ClientEvent, Deliver as DeliverEvent}
 use Rattle.str_scene.specs.Scenes.{Here, Scene, Session, nth}
 use Rattle.str_model.proofs.OwnFacts.PlacesInOrder.{InOrder}
+use Rattle.std.proofs.lemmas.Bool.{false_from_ne_true}
 
 less_one : (j : ℕ) → suc j - 1 ≡ j
 less_one j = omega arith
@@ -75,7 +75,7 @@ module _ (scene : Scene) (vs : List View) (order : (n : ℕ) (v : View) → slic
     where
       elsewhere : (j : ℕ) (u : View) → j ≢ i → slice_get vs j ≡ Some u → count_by (mine s) u.own ≡ 0
       elsewhere j u ne k =
-          count_none (mine s) u.own (λ m x o. not_true (mine s x) (λ t.
+          count_none (mine s) u.own (λ m x o. false_from_ne_true (mine s x) (λ t.
           let p = (order j u k).placed m x o in
           let e : x.place.session.0 ≡ s = eqb-true x.place.session.0 s t in
           let both : Some p.text ≡ Some text = sym p.session ∙ (ap (λ n. nth scene.sessions n) e ∙ se) in

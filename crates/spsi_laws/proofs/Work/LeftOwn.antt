@@ -7,7 +7,7 @@ use Rattle.partition_map.specs.declared.rows.Asked.{Asked}
 use Rattle.si_laws.proofs.Times.NoRepeats.{map_length}
 use Rattle.si_laws.proofs.Stages.ParticipantSeats.{flat_map_in}
 use Rattle.spsi_laws.proofs.Work.LeftHome.{Together}
-use Rattle.spsi_laws.proofs.Work.LeftSums.{filter_few, length_flat, sum_at_least, sum_filter_less, sum_map_each}
+use Rattle.spsi_laws.proofs.Work.LeftSums.{filter_few, sum_at_least, sum_filter_less, sum_map_each}
 use Rattle.str_base.specs.Values.{is_below}
 use Rattle.str_base.specs.declared.names.KeyId.{KeyId}
 use Rattle.str_base.specs.declared.names.NodeId.{NodeId}
@@ -34,6 +34,7 @@ use Rattle.str_model.proofs.OwnFacts.ScriptsCovered.{ScriptGood, WritesKey}
 use Rattle.str_model.proofs.Changes.PairWords.{any_has, has_at}
 use Rattle.str_model.proofs.OwnFacts.AtHome.{OwnGood, seats}
 use Rattle.str_model.proofs.Lists.ListCounts.{how_many, many_append, one_if}
+use Rattle.std.proofs.lemmas.List.Concat.{length-flat_map}
 
 -- what an own transaction counts for
 unfoldable pub left_of : Here → Own → ℕ
@@ -222,8 +223,8 @@ module _ (here : Here) where
   fewer_parts x g =
       let f = λ (p : PartId). map (unasked p) (others here.node (replicas here.scene p)) in
       let ops : List Op = script_at here.scene x.place in
-      let a = length_flat f (written_parts here.scene x.writes) in
-      let b = length_flat f (written_parts here.scene (flat_map may_write ops)) in
+      let a = length-flat_map f (written_parts here.scene x.writes) in
+      let b = length-flat_map f (written_parts here.scene (flat_map may_write ops)) in
       let c = sum_filter_less (λ p. length (f p)) (λ (p : PartId). list_any (in_part here.scene p) x.writes) (λ (p : PartId). list_any (in_part here.scene p) (flat_map may_write ops)) (all_parts here.scene) named in
       omega (arith, a, b, c)
     where

@@ -3,6 +3,7 @@ use Rattle.std.proofs.Common.{Bool, List, None, Option, Some, [], ap, arith, con
 use Rattle.std.proofs.lemmas.List.Sums.{sum_by-cons}
 use Rattle.std.specs.List.{count_by, sum_by}
 use Rattle.str_model.proofs.Lists.ListCounts.{one_if}
+use Rattle.std.proofs.lemmas.List.Concat.{length-flat_map}
 
 -- ---- sums
 
@@ -105,14 +106,6 @@ drop_place (y ∷ xs) zero x e = let q : y ≡ x = cc e in ap (λ z. z ∷ xs) q
 drop_place (y ∷ xs) (suc c) x e = drop_place xs c x e
 
 -- ---- lengths
-
-pub length_flat : {A B : Type 0} (f : A → List B) (xs : List A) → length (flat_map f xs) ≡ sum_by (λ x. length (f x)) xs
-length_flat f [] = refl
-length_flat f (x ∷ xs) =
-    let r = length_flat f xs in
-    let a = Rattle.std.proofs.Common.length-append (f x) (flat_map f xs) in
-    let b = sum_by-cons (λ x. length (f x)) x xs in
-    omega (arith, r, a, b)
 
 -- fewer of a list that is filtered by a stronger test count for less
 pub sum_filter_less : {A : Type 0} (f : A → ℕ) (p q : A → Bool) (xs : List A) → ((x : A) → p x ≡ true → q x ≡ true) → sum_by f (filter p xs) ≤ sum_by f (filter q xs)

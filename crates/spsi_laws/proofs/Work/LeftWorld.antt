@@ -20,7 +20,6 @@ use Rattle.str_model.proofs.Principle.Everywhere.{IsSeen, Stage, at_place, durin
 use Rattle.str_model.proofs.Lists.ListReads.{got_replicate, got_set}
 use Rattle.str_model.proofs.Lists.Members.{In, in_append, in_map}
 use Rattle.str_model.proofs.Principle.RulePaths.{rule-path}
-use Rattle.str_model.proofs.Changes.AnswerChanges.{not_true}
 use Rattle.str_model.specs.Acts.{abort_letters, aborted, accepted, acked, asked, asked_ones, begun, certified, closed, commit_came, commit_letters, committed, copies, fresh, marked, marks_in, refused, replied, requested, taken, waits}
 use Rattle.str_model.specs.Acts
 use Rattle.str_model.specs.Gates.{dep_parts}
@@ -42,6 +41,7 @@ use Rattle.str_scene.specs.declared.names.Op.{Op}
 use Rattle.str_scene.specs.declared.names.TxPlace.{TxPlace}
 use Rattle.str_scene.specs.Scenes.{Here, Scene, Session, first_or, in_part, leads, nth, ops_at, or_none, others, replicas, script_at}
 use Rattle.str_model.proofs.Lists.ListCounts.{one_if}
+use Rattle.std.proofs.lemmas.Bool.{false_from_ne_true}
 
 -- ---- a whole step
 
@@ -100,7 +100,7 @@ module _ (here : Here) (input : Input) where
         node = node;
         script = at_number b.text.txs b.place.index (count_by (mine s) v.own) b.ops b.script b.number;
         one_more = counts s ∙ ap (λ z. count_by (mine s) v.own + one_if z) (eq-eqb s s refl);
-        same = λ n ne. counts n ∙ (ap (λ z. count_by (mine n) v.own + one_if z) (not_true (b.place.session.0 == n) (λ q. ne (sym (eqb-true b.place.session.0 n q)))) ∙ plus_zero (count_by (mine n) v.own));
+        same = λ n ne. counts n ∙ (ap (λ z. count_by (mine n) v.own + one_if z) (false_from_ne_true (b.place.session.0 == n) (λ q. ne (sym (eqb-true b.place.session.0 n q)))) ∙ plus_zero (count_by (mine n) v.own));
         less =
             let a = l.less in
             let t : todo here r ≡ todo here (starts v) + left_of here (fresh b.place b.rs) = ap (todo here) b.is ∙ begun_todo b.place b.rs (starts v) in
@@ -147,7 +147,7 @@ module _ (here : Here) (input : Input) (w : Where) where
   some_other : (n : NodeId) (rs : List NodeId) (r : NodeId) → In r rs → r.0 ≢ n.0 → 1 ≤ length (others n rs)
   some_other n [] r h ne = absurd h
   some_other n (x ∷ rs) r (inl q) ne =
-      let f : same_node x n ≡ false = not_true (same_node x n) (λ t. ne (ap (λ (z : NodeId). z.0) (sym q) ∙ eqb-true x.0 n.0 t)) in rw f (omega arith)
+      let f : same_node x n ≡ false = false_from_ne_true (same_node x n) (λ t. ne (ap (λ (z : NodeId). z.0) (sym q) ∙ eqb-true x.0 n.0 t)) in rw f (omega arith)
   some_other n (x ∷ rs) r (inr k) ne =
       let rec = some_other n rs r k ne in
       Rattle.str_model.proofs.Changes.SnapshotsGain.if_elim (λ (zs : List NodeId). 1 ≤ length zs) (not (same_node x n)) (x ∷ others n rs) (others n rs) (λ t. omega arith) (λ t. rec)

@@ -1,7 +1,7 @@
 -- What a single change does to a node's own transactions, with the versions that go with it.
 use Rattle.dependency_set.specs.Snapshots.{Snap}
 use Rattle.partition_map.specs.declared.rows.Asked.{Asked}
-use Rattle.str_model.proofs.Changes.PairWords.{keep_without, not_both}
+use Rattle.str_model.proofs.Changes.PairWords.{keep_without}
 use Rattle.str_model.proofs.Principle.SingleChanges.{Act, Comes, KeepsAck, Where, act_abort, act_abort_came, act_accept, act_ack, act_ask, act_begin, act_certify, act_close, act_commit, act_commit_came, act_mark, act_put, act_refuse, act_reply, act_request, act_take, act_unwait, act_wait}
 use Rattle.str_model.proofs.Changes.SnapshotsGain.{CertGood, and_left, and_right, cert_turn-good}
 use Rattle.str_model.proofs.Changes.OwnGoesOn.{PutsOn, puts_on}
@@ -26,6 +26,7 @@ use Rattle.str_model.specs.declared.messages.Body.TheVariants.{Ack}
 use Rattle.str_model.specs.declared.messages.Input.{Input}
 use Rattle.str_scene.specs.Scenes.{Here, hosts, participants}
 use Rattle.str_scene.specs.declared.names.TxPlace.{TxPlace}
+use Rattle.std.proofs.lemmas.Bool.{false_from_ne_true}
 
 -- the own transactions before and after a change
 pub data OwnChange (here : Here) (input : Input) (d e : View) : Type 0 where
@@ -98,7 +99,7 @@ module _ (here : Here) (input : Input) (w : Where) where
 
     pair_other : (t : TxId) (p : PartId) (d : Doing) → decides here t p d.view ≡ true → In v d.view.versions → In v (without (of_pair t p) d.view.versions)
     pair_other t p d c h =
-        keep_without (of_pair t p) d.view.versions v h (not_both (of_pair t p v) (λ q. not_foreign here t p d.view v.tx c (and_left (same_tx v.tx t) (same_part v.part p) q) (ap (λ (z : TxId). z.node.0) mine)))
+        keep_without (of_pair t p) d.view.versions v h (false_from_ne_true (of_pair t p v) (λ q. not_foreign here t p d.view v.tx c (and_left (same_tx v.tx t) (same_part v.part p) q) (ap (λ (z : TxId). z.node.0) mine)))
 
     pub own_stays : (d e : Doing) → Act here input w d e → In v d.view.versions → In v e.view.versions ⊎ DecidesOne d.view e.view i
     unfolding begun marked aborted committed closed certified asked acked requested accepted taken refused waits replied commit_came abort_came

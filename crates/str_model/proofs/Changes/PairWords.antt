@@ -29,19 +29,16 @@ use Rattle.str_model.specs.Owned.{Owns}
 use Rattle.partition_map.specs.declared.rows.Asked.{Asked}
 use Rattle.str_base.specs.declared.names.NodeId.{NodeId}
 use Rattle.str_model.specs.Strange
+use Rattle.std.proofs.lemmas.Bool.{false_from_ne_true, or_right}
 
 -- a member passes the test
 abbrev pub Has : {A : Type 0} → (A → Bool) → List A → Type 0
 Has {A = A} p xs = (x : A) × In x xs × (p x ≡ true)
 
-pub or_right_true : (a b : Bool) → b ≡ true → (a || b) ≡ true
-or_right_true true b e = refl
-or_right_true false b e = e
-
 pub has_at : {A : Type 0} (p : A → Bool) (xs : List A) (x : A) → In x xs → p x ≡ true → list_any p xs ≡ true
 has_at p [] x h e = absurd h
 has_at p (y ∷ xs) x (inl q) e = rw (ap p q ∙ e) refl
-has_at p (y ∷ xs) x (inr h) e = or_right_true (p y) (list_any p xs) (has_at p xs x h e)
+has_at p (y ∷ xs) x (inr h) e = or_right (p y) (list_any p xs) (has_at p xs x h e)
 
 pub any_has : {A : Type 0} (p : A → Bool) (xs : List A) → list_any p xs ≡ true → Has p xs
 any_has p [] e = absurd (cc e)
@@ -99,10 +96,6 @@ keep_held t q (y ∷ ws) x h = by_test (keep_held t q ws x) (holds_pair t q y) r
     by_test rec true e (inr k) = inl k
     by_test rec false e (inl k) = inl (inl k)
     by_test rec false e (inr k) = elim (rec k) [ inl j ↦ inl (inr j) | inr j ↦ inr j ]
-
-pub not_both : (b : Bool) → (b ≡ true → ⊥) → b ≡ false
-not_both true h = absurd (h refl)
-not_both false h = refl
 
 abbrev pub SomeWrites : View → Type 0
 SomeWrites v = (a : Arrived) → In (Held a) v.waiters → (w : Write) × In w a.writes

@@ -42,16 +42,13 @@ use Rattle.str_model.proofs.Principle.EvictionsClear.{all_evicted}
 use Rattle.str_model.proofs.Principle.SingleChanges.{Comes, InRule, IsOwn, NextPlace, NoneHeld, Path, PathTo, Takes, Touches, Where, a_prepare, a_read, act_abort, act_abort_came, act_accept, act_ack, act_begin, act_commit_came, act_mark, act_put, act_refuse, act_reply, act_take, act_wait, and_then, by_eviction, by_refusal, ch_reply, is_first, is_next, it_comes, more, one, stay, asked_now, JustMarked, far_reading}
 use Rattle.str_model.proofs.Changes.SnapshotsGain.{and_left, and_right, if_elim, or_false_right}
 use Rattle.str_model.proofs.Principle.OwnPaths.{IsFresh, at_own-path, free_at, just_marked, nor_left, nor_right, op_or_commit-path, phase-goes}
-
-not_is : (b : Bool) → not b ≡ true → b ≡ false
-not_is true e = absurd cc
-not_is false e = refl
+use Rattle.std.proofs.lemmas.Bool.{not-true}
 
 pub none_of_three : (a b c d : Bool) → (a && (not b && (not c && not d))) ≡ true → (b ≡ false) × (c ≡ false) × (d ≡ false)
 none_of_three false b c d e = absurd cc
 none_of_three true true c d e = absurd cc
 none_of_three true false true d e = absurd cc
-none_of_three true false false d e = (refl, refl, not_is d e)
+none_of_three true false false d e = (refl, refl, not-true d e)
 
 -- what is taken: the node is a slave, not the origin, and the pair is new
 pub takes_parts : (here : Here) (a : Arrived) (d : Doing) → takes here d.view a ≡ true
@@ -183,7 +180,7 @@ module _ (here : Here) (input : Input) (w : Where) where
         (is_master here.scene here.node a.part && (not (same_node a.tx.node here.node) && not (Proposals.is_known d.view a.tx a.part || Proposals.is_parked d.view a.tx a.part)))
         (master_turn d.view a) Ignore
         (λ e h. let n = and_right _ _ (and_right _ _ e) in
-        record { is = refl; unknown = nor_left (Proposals.is_known d.view a.tx a.part) (Proposals.is_parked d.view a.tx a.part) n; unparked = nor_right (Proposals.is_known d.view a.tx a.part) (Proposals.is_parked d.view a.tx a.part) n; mine = record { master = and_left _ _ e; foreign = not_is (same_node a.tx.node here.node) (and_left _ _ (and_right _ _ e)) } })
+        record { is = refl; unknown = nor_left (Proposals.is_known d.view a.tx a.part) (Proposals.is_parked d.view a.tx a.part) n; unparked = nor_right (Proposals.is_known d.view a.tx a.part) (Proposals.is_parked d.view a.tx a.part) n; mine = record { master = and_left _ _ e; foreign = not-true (same_node a.tx.node here.node) (and_left _ _ (and_right _ _ e)) } })
         (λ e h. absurd (h refl))
 
     prepare_rule-path : (from : NodeId) (a : Arrived) (d : Doing) → Comes here input from (Prepare a.tx a.part a.rs a.lc a.writes) → PathTo here input w d (Arrivals.prepare_rule here a d)

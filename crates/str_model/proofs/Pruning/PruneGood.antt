@@ -20,7 +20,7 @@ use Rattle.str_model.proofs.Principle.SingleChanges.{Act, Where, act_abort, act_
 use Rattle.str_model.proofs.Lists.ListReads.{get_push, get_set, get_set_other, same_or_not}
 use Rattle.str_model.proofs.Lists.Members.{In, in_filter, in_insert_all, in_map, in_without}
 use Rattle.str_model.proofs.Changes.OwnChanges.{Becomes, OwnStep, aborts, certifies, closes, commits, goes_on, own_step, rests, starts_one, turns_one}
-use Rattle.str_model.proofs.Pruning.PruneLists.{and_cases, or_left, or_right}
+use Rattle.std.proofs.lemmas.Bool.{and_parts, not-true, or_left, or_right}
 
 -- the version's transaction is one of another node whose pair is done, or an own one that has its decision
 pub data Finished (here : Here) (v : View) (q : Version) : Type 0 where
@@ -87,12 +87,8 @@ finished_stays here input w d e a q (f_own i x n at z) = f_own i x n (stays_deci
 
 tx_same : (a b : TxId) → same_tx a b ≡ true → a ≡ b
 tx_same a b h =
-    let r = and_cases (same_node a.node b.node) (a.seq == b.seq) h in
+    let r = and_parts (same_node a.node b.node) (a.seq == b.seq) h in
     let n = eqb-true a.node.0 b.node.0 r.0 in let s = eqb-true a.seq b.seq r.1 in (λ j. record { node = record { 0 = n j }; seq = s j })
-
-not_false : (b : Bool) → not b ≡ true → b ≡ false
-not_false true e = absurd cc
-not_false false e = refl
 
 last_done : (xs : List (TxId × PartId)) (tx : TxId) (p : PartId) (t : TxId) (r : PartId) → t ≡ tx → r.0 ≡ p.0 → list_any (is_pair t r) (xs ++ (tx, p) ∷ []) ≡ true
 last_done xs tx p t r e f =
@@ -123,7 +119,7 @@ finals_by here input w d e (act_commit i lc fc x d' own l n le f g) q m k h s =
     elim (in_insert_all (map (settled fc) (filter (Acts.is_hosted_of here (name_of here i)) d'.view.versions)) (without (of_tx (name_of here i)) d'.view.versions) q m) [
       | inl j ↦ (let r = in_map (settled fc) (filter (Acts.is_hosted_of here (name_of here i)) d'.view.versions) q j in
           let u = in_filter (Acts.is_hosted_of here (name_of here i)) d'.view.versions r.0 r.1 in
-          let t = tx_same r.0.tx (name_of here i) (and_cases (of_tx (name_of here i) r.0) (hosts here.scene here.node r.0.part) u.1).0 in
+          let t = tx_same r.0.tx (name_of here i) (and_parts (of_tx (name_of here i) r.0) (hosts here.scene here.node r.0.part) u.1).0 in
           f_own i _ (ap (λ (z : Version). z.tx) (sym r.2) ∙ t) (get_set d'.view.own i x _ own.0) refl)
       | inr j ↦ s (h q (in_without (of_tx (name_of here i)) d'.view.versions q j) k)
     ]
@@ -145,10 +141,10 @@ finals_by here input w d e (act_reply tx l rs v u fc d' c) q m k h s = s (h q m 
 finals_by here input w d e (act_commit_came from tx p fc ms d' c g) q m k h s =
     elim (in_insert_all (map (settled fc.0) (filter (of_pair tx p) d'.view.versions)) (without (of_pair tx p) d'.view.versions) q m) [
       | inl j ↦ (let r = in_map (settled fc.0) (filter (of_pair tx p) d'.view.versions) q j in
-          let u = and_cases (same_tx r.0.tx tx) (same_part r.0.part p) (in_filter (of_pair tx p) d'.view.versions r.0 r.1).1 in
+          let u = and_parts (same_tx r.0.tx tx) (same_part r.0.part p) (in_filter (of_pair tx p) d'.view.versions r.0 r.1).1 in
           let t : q.tx ≡ tx = ap (λ (z : Version). z.tx) (sym r.2) ∙ tx_same r.0.tx tx u.0 in
           let part : q.part.0 ≡ p.0 = ap (λ (z : Version). z.part.0) (sym r.2) ∙ eqb-true r.0.part.0 p.0 u.1 in
-          let f = not_false (same_node tx.node here.node) (and_cases (not (same_node tx.node here.node)) (not (is_done d'.view tx p)) (and_cases (hosts here.scene here.node p) (not (same_node tx.node here.node) && not (is_done d'.view tx p)) g).1).0 in
+          let f = not-true (same_node tx.node here.node) (and_parts (not (same_node tx.node here.node)) (not (is_done d'.view tx p)) (and_parts (hosts here.scene here.node p) (not (same_node tx.node here.node) && not (is_done d'.view tx p)) g).1).0 in
           f_done (ap (λ (z : TxId). same_node z.node here.node) t ∙ f) (last_done d'.view.done tx p q.tx q.part t part))
       | inr j ↦ s (h q (in_without (of_pair tx p) d'.view.versions q j) k)
     ]

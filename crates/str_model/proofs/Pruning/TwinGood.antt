@@ -21,12 +21,13 @@ use Rattle.str_model.proofs.Principle.SingleChanges.{Act, Arrives, IsHere, Where
 use Rattle.str_model.proofs.Pruning.PruneKept.{Above, above-act, order-act}
 use Rattle.str_model.proofs.Lists.Members.{In, in_append, in_left, in_right}
 use Rattle.str_model.proofs.Pruning.PruneGood.{Finals, Finished, f_done, f_own, finals-act}
-use Rattle.str_model.proofs.Pruning.PruneLists.{and_cases, pruned_again}
+use Rattle.str_model.proofs.Pruning.PruneLists.{pruned_again}
 use Rattle.str_model.proofs.Pruning.PruneOrder.{InOrder, PassesOpen, in_pruned, order_pruned}
 use Rattle.str_model.proofs.Pruning.TwinChoices.{Fit}
 use Rattle.str_model.proofs.Pruning.TwinRules.{BothTo, IsOpen, IsReady}
 use Rattle.str_model.proofs.Pruning.TwinStep.{BodyFar, InputFar, twin_step}
 use Rattle.str_model.proofs.Pruning.TwinTurns.{Far, Ready}
+use Rattle.std.proofs.lemmas.Bool.{and_parts}
 
 -- a read request or a Prepare is of a transaction that has its decision, or its snapshot is at or above the mark
 abbrev pub BodyHigh : ℕ → (TxId → Type 0) → Body → Type 0
@@ -102,7 +103,7 @@ module _ (g : ℕ) (Dec : TxId → Type 0) (here : Here) (input : Input) (high :
 
   tx_same : (a b : TxId) → same_tx a b ≡ true → a ≡ b
   tx_same a b h =
-      let r = and_cases (same_node a.node b.node) (a.seq == b.seq) h in
+      let r = and_parts (same_node a.node b.node) (a.seq == b.seq) h in
       let n = eqb-true a.node.0 b.node.0 r.0 in let s = eqb-true a.seq b.seq r.1 in (λ j. record { node = record { 0 = n j }; seq = s j })
 
   undecided_or : (b : Bool) → (b ≡ false → ⊥) → b ≡ true
@@ -130,7 +131,7 @@ module _ (g : ℕ) (Dec : TxId → Type 0) (here : Here) (input : Input) (high :
   good_open d a tx p f h z m e = undecided_or (is_undecided z.kind) (λ k. never (a.finals z m k))
     where
       r : (same_tx z.tx tx ≡ true) × (same_part z.part p ≡ true)
-      r = and_cases (same_tx z.tx tx) (same_part z.part p) e
+      r = and_parts (same_tx z.tx tx) (same_part z.part p) e
 
       t : z.tx ≡ tx
       t = tx_same z.tx tx r.0

@@ -23,7 +23,8 @@ use Rattle.str_model.proofs.Changes.SnapshotsGain.{and_left, and_right}
 use Rattle.str_model.proofs.Lists.ListReads.{get_set}
 use Rattle.str_model.proofs.Lists.Members.{in_filter, in_flat_map, in_map, map_in}
 use Rattle.str_model.proofs.OwnFacts.LocalOwners.{same_own}
-use Rattle.str_model.proofs.Changes.PairWords.{any_has, has_at, not_both}
+use Rattle.str_model.proofs.Changes.PairWords.{any_has, has_at}
+use Rattle.std.proofs.lemmas.Bool.{and_from, false_from_ne_true, not-true}
 
 -- ---- partitions that may be asked
 
@@ -88,10 +89,6 @@ not_or_right : (a b : Bool) → not (a || b) ≡ true → not b ≡ true
 not_or_right true b e = absurd cc
 not_or_right false b e = e
 
-both : (a b : Bool) → a ≡ true → b ≡ true → (a && b) ≡ true
-both true b p q = q
-both false b p q = absurd cc
-
 -- what is open after a partition was asked was open
 still_open : (p q : PartId) (parts : List Asked) → open_at (with_asked p parts) q ≡ true → (open_at parts q ≡ true) × ((same_part q p ≡ true) → ⊥)
 still_open p q parts e =
@@ -100,7 +97,7 @@ still_open p q parts e =
     let t : (same_part r.0.part q && not (r.0.asked || same_part r.0.part p)) ≡ true = ap (λ (z : Asked). same_part z.part q && not z.asked) r.2 ∙ h.2 in
     let s = and_left (same_part r.0.part q) (not (r.0.asked || same_part r.0.part p)) t in
     let n = and_right (same_part r.0.part q) (not (r.0.asked || same_part r.0.part p)) t in (
-      has_at (λ (a : Asked). same_part a.part q && not a.asked) parts r.0 r.1 (both (same_part r.0.part q) (not r.0.asked) s (not_or_left r.0.asked (same_part r.0.part p) n)),
+      has_at (λ (a : Asked). same_part a.part q && not a.asked) parts r.0 r.1 (and_from (same_part r.0.part q) (not r.0.asked) s (not_or_left r.0.asked (same_part r.0.part p) n)),
       λ z. clash r.0.part s z (not_or_right r.0.asked (same_part r.0.part p) n),
     )
   where
@@ -113,8 +110,8 @@ asked_less scene p parts a h e f o =
     let self : same_part p p ≡ true = eq-eqb p.0 p.0 refl in
     many_less (open_at (with_asked p parts)) (open_at parts) (all_parts scene) p (λ q k. (still_open p q parts k).0)
     (subst (λ q. In q (all_parts scene)) e (o a h))
-    (not_both (open_at (with_asked p parts) p) (λ k. (still_open p p parts k).1 self))
-    (has_at (λ (b : Asked). same_part b.part p && not b.asked) parts a h (both (same_part a.part p) (not a.asked) (ap (λ q. same_part q p) e ∙ self) (ap not f)))
+    (false_from_ne_true (open_at (with_asked p parts) p) (λ k. (still_open p p parts k).1 self))
+    (has_at (λ (b : Asked). same_part b.part p && not b.asked) parts a h (and_from (same_part a.part p) (not a.asked) (ap (λ q. same_part q p) e ∙ self) (ap not f)))
 
 asked_of : (scene : Scene) (p : PartId) (parts : List Asked) → OfScene scene parts → OfScene scene (with_asked p parts)
 asked_of scene p parts o b h =
@@ -142,12 +139,8 @@ gate_open snap lc parts wrote p e = by_ask (find (may_ask wrote) parts) refl e
     by_deps [] q = by_missing (find (λ a. not (is_some a.ack)) parts) q
     by_deps (d ∷ ds) q = cc q
 
-    is_not : (b : Bool) → not b ≡ true → b ≡ false
-    is_not true q = absurd cc
-    is_not false q = refl
-
     by_ask : (o : Option Asked) → find (may_ask wrote) parts ≡ o → Gates.gate_asks snap lc parts o ≡ Ask p → (a : Asked) × In a parts × (a.part ≡ p) × (a.asked ≡ false)
-    by_ask (Some a) f q = (a, find_some (may_ask wrote) parts a f, cc q, is_not a.asked (and_left (not a.asked) (not (Gates.dependency_wrote wrote a.part)) (find_true (may_ask wrote) parts a f)))
+    by_ask (Some a) f q = (a, find_some (may_ask wrote) parts a f, cc q, not-true a.asked (and_left (not a.asked) (not (Gates.dependency_wrote wrote a.part)) (find_true (may_ask wrote) parts a f)))
     by_ask None f q = absurd (by_deps snap.deps q)
 
 -- ---- the participants of a transaction are of the scene

@@ -26,10 +26,11 @@ use Rattle.str_model.proofs.OwnFacts.FewOwn.{is_certain, others_few}
 use Rattle.str_model.proofs.Changes.SnapshotsGain.{and_left, and_right}
 use Rattle.str_model.proofs.ViewFacts.GatesEnd.{find_true}
 use Rattle.str_model.proofs.OwnFacts.LocalOwners.{same_own}
-use Rattle.str_model.proofs.Changes.PairWords.{any_has, has_at, not_both, same_part-is}
+use Rattle.str_model.proofs.Changes.PairWords.{any_has, has_at, same_part-is}
 use Rattle.str_model.proofs.Changes.PairChanges.{unknown_not}
 use Rattle.str_model.proofs.OwnFacts.DependenciesStand.{fate_open}
 use Rattle.str_model.proofs.ViewFacts.ValidMessages.{NamedWrites}
+use Rattle.std.proofs.lemmas.Bool.{false_from_ne_true}
 
 -- ---- whom a read and a certification are told of
 
@@ -88,7 +89,7 @@ module _ (here : Here) (v : View) (h : MomentFacts here v) where
 
   -- one that isn't certified has none
   pub none_before : (i : ℕ) (x : Own) → Owns v i x → lc_of x.phase ≡ None → (u : Version) → In u v.versions → of_tx (name_of here i) u ≡ false
-  none_before i x own none u m = not_both (of_tx (name_of here i) u) (λ e.
+  none_before i x own none u m = false_from_ne_true (of_tx (name_of here i) u) (λ e.
       let n = same_named i u e in
       let o = (h.versions u m).own n.0 in
       let same = same_own v o.place i o.owner x o.owns own (omega (arith, o.seq, n.1)) in
@@ -122,14 +123,14 @@ module _ (here : Here) (v : View) (h : MomentFacts here v) where
 
   -- a pair that is not known has no version
   pub unknown_none : (a : Arrived) → is_known v a.tx a.part ≡ false → (u : Version) → In u v.versions → of_pair a.tx a.part u ≡ false
-  unknown_none a f u m = not_both (of_pair a.tx a.part u) (λ e. unknown_not a.tx a.part v f (inr (u, m, e)))
+  unknown_none a f u m = false_from_ne_true (of_pair a.tx a.part u) (λ e. unknown_not a.tx a.part v f (inr (u, m, e)))
 
   -- a version elsewhere is beside what arrives here: of another partition, and of none of the keys
   pub is_beside : (a : Arrived) → NamedWrites here a.tx a.part a.rs a.lc a.writes → hosts here.scene here.node a.part ≡ true → (u : Version) → In u v.versions → hosts here.scene here.node u.part ≡ false
       → (same_part u.part a.part ≡ false) × (list_any (λ w. same_key u.key w.key) a.writes ≡ false)
   is_beside a n hs u m f = (
-    not_both (same_part u.part a.part) (λ e. other (same_part-is u.part a.part e)),
-    not_both (list_any (λ (w : Write). same_key u.key w.key) a.writes) (λ e.
+    false_from_ne_true (same_part u.part a.part) (λ e. other (same_part-is u.part a.part e)),
+    false_from_ne_true (list_any (λ (w : Write). same_key u.key w.key) a.writes) (λ e.
         let r = any_has (λ (w : Write). same_key u.key w.key) a.writes e in
         let key : u.key ≡ r.0.key = λ i. record { 0 = eqb-true u.key.0 r.0.key.0 r.2 i } in
         other ((h.versions u m).part ∙ (ap (λ z. part_of here.scene z) key ∙ same_part-is (part_of here.scene r.0.key) a.part (n.keys r.0 r.1).1))),
