@@ -5,7 +5,7 @@ use Rattle.std.proofs.lemmas.List.{map-append}
 use Rattle.std.proofs.lemmas.List.Concat.{flat_map-append}
 use Rattle.lamport_log.proofs.Entering.{client_is, deliver_is, entered}
 use Rattle.lamport_log.proofs.Giving.{Within, given_client, given_deliver, within_client, within_deliver}
-use Rattle.lamport_log.proofs.Lists.{get_there, length_set, none_past, nth_within, same_lists}
+use Rattle.lamport_log.proofs.Lists.{length_set, nth_within}
 use Rattle.lamport_log.proofs.Numbering.{mine, number_found, number_stays}
 use Rattle.lamport_log.specs.Logs.{Item, Log, letter_of, letters, replies}
 use Rattle.lamport_log.specs.Merge.{done_of, event_of, given_by, number_of}
@@ -14,7 +14,6 @@ use Rattle.lamport_log.specs.declared.logs.LogInput.{LogInput}
 use Rattle.lamport_log.specs.declared.logs.LogInput.TheVariants.{Client as ClientEntry, Taken}
 use Rattle.str_base.specs.declared.names.NodeId.{NodeId}
 use Rattle.str_model.proofs.Principle.Everywhere.{at_place}
-use Rattle.str_model.proofs.Lists.ListReads.{got_set}
 use Rattle.str_model.specs.Runs.{World, give, happens, run_from}
 use Rattle.str_model.specs.Steps.{step}
 use Rattle.str_model.specs.Views.{View}
@@ -25,6 +24,7 @@ use Rattle.str_scene.specs.Scenes.{Scene, nth}
 use Rattle.str_scene.specs.declared.names.Event.{Event}
 use Rattle.str_scene.specs.declared.names.Event.TheVariants.{Client as ClientEvent, Deliver as DeliverEvent}
 use Rattle.std.proofs.lemmas.Option.{slice_get_past}
+use Rattle.str_base.proofs.Lists.{got_set, same_by_places, slice_get_none, slice_get_there}
 
 -- the name of the i-th node, counted from 0
 abbrev pub node_at : ℕ → NodeId
@@ -170,15 +170,15 @@ module _ (scene : Scene) (logs : List Log) (views : List View) (all : List Item)
   pub runs : (rest before : List Item) (ns : List View) → before ++ rest ≡ all → length ns ≡ length views → Go ns rest
       → Within (events_by all before) (length (letters before))
       → run_from scene (so_far all ns before) (events_by all rest) ≡ so_far all views all
-  runs [] before ns eq long go w = λ j. so_far all (same_lists ns views (λ i. at_each i (slice_get ns i) refl) j) ((sym (append-nil before) ∙ eq) j)
+  runs [] before ns eq long go w = λ j. so_far all (same_by_places ns views (λ i. at_each i (slice_get ns i) refl) j) ((sym (append-nil before) ∙ eq) j)
     where
       at_each : (i : ℕ) (o : Option View) → slice_get ns i ≡ o → slice_get ns i ≡ slice_get views i
-      at_each i None q = let far = none_past ns i q in q ∙ sym (slice_get_past views i (omega (arith, far, long)))
+      at_each i None q = let far = slice_get_none ns i q in q ∙ sym (slice_get_past views i (omega (arith, far, long)))
       at_each i (Some v) q = let r = go i v q in q ∙ ap (λ z. Some z) r.2 ∙ sym r.1
   runs (it ∷ rest) before ns eq long go w =
       let f = fits before it rest eq in
       let i = f.place in
-      let there = get_there ns i (omega (arith, f.within, long)) in
+      let there = slice_get_there ns i (omega (arith, f.within, long)) in
       let v = there.0 in
       let r = go i v there.1 in
       let first : mine (node_at i) (it ∷ rest) ≡ it ∷ mine (node_at i) rest = rw (eq-eqb it.node.0 (i + 1) (ap (λ (n : NodeId). n.0) f.node)) refl in

@@ -13,9 +13,9 @@ use Rattle.str_model.specs.Owned.{wrote_key}
 use Rattle.str_model.specs.Evaluation.{Evaluated}
 use Rattle.str_scene.specs.Scenes.{Scene}
 use Rattle.si_laws.specs.SnapshotIsolation.{AnswersPlaced, CommittedSnapshots, IsAnswer, IsCommittedAt, IsCommittedSnapshot, IsPlaced, IsWish, NoOverlap, SI, SIRun, SessionOrder, Wishes, of_one_session}
-use Rattle.str_model.proofs.Lists.ListReads.{got_push}
 use Rattle.si_laws.proofs.CommitLists.NextAnswer.{IsNext, SeenNext, seen_next}
 use Rattle.std.proofs.lemmas.Option.{slice_get_within}
+use Rattle.str_base.proofs.Lists.{got_push}
 
 -- ---- lists
 

@@ -12,9 +12,10 @@ use Rattle.str_scene.specs.Scenes.{Scene}
 use Rattle.si_laws.specs.SnapshotIsolation.{IsAnswer, IsCommittedAt, SI}
 use Rattle.str_base.specs.Versions.{same_key, stamp}
 use Rattle.si_laws.proofs.CommitLists.SnapshotValues.{one_time}
-use Rattle.str_model.proofs.Lists.Members.{In, at_in, in_append, in_at, in_left}
 use Rattle.si_laws.proofs.CommitLists.NextAnswer.{Covered, IsNext, SeenNext, rs_below}
 use Rattle.si_laws.proofs.CommitLists.ReadsSeen.{IsRight, LastBelow, NoneBelow, Reads, of_none, of_one}
+use Rattle.str_base.proofs.Members.{at_in, in_append, in_at, in_left}
+use Rattle.str_base.specs.Members.{In}
 
 -- the new answer, where it is a commit at or below the snapshot of b that wrote the key, is below another that did so
 abbrev pub IsGuarded : Scene → List Answer → Answer → Answer → KeyId → Type 0

@@ -15,10 +15,11 @@ use Rattle.str_base.specs.Versions.{same_key}
 use Rattle.si_laws.proofs.CommitLists.AnswerAdded.{lower_before, not_before_itself, not_both}
 use Rattle.si_laws.proofs.CommitLists.CommitMembers.{AllBefore, all_before_next, before_first, filter_none, in_rest, members_rest, rest, stands_before}
 use Rattle.si_laws.proofs.CommitLists.CommitOrder.{InOrder, Named, commits_order, in_commits}
-use Rattle.str_model.proofs.Lists.Members.{In, in_filter}
 use Rattle.si_laws.proofs.CommitLists.NextAnswer.{members_in}
 use Rattle.si_laws.proofs.CommitLists.SeenAgain.{filter_in}
 use Rattle.std.proofs.lemmas.Bool.{and_parts}
+use Rattle.str_base.proofs.Members.{in_filter}
+use Rattle.str_base.specs.Members.{In}
 
 -- ---- each member is of an answer
 

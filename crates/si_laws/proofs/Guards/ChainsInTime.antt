@@ -1,9 +1,7 @@
 -- Versions of a key stand in order of their timestamps, at every moment; so the last one at or below a timestamp is the greatest.
 use Rattle.str_model.proofs.Changes.VersionChanges.{VersionStep, v_decided, v_finals, v_locals, v_pres, v_rests, v_without, version_step}
 use Rattle.str_model.proofs.Principle.SingleChanges.{Act, Where}
-use Rattle.str_model.proofs.Changes.SnapshotsGain.{and_left, and_right, in_last}
-use Rattle.str_model.proofs.Changes.VersionsMet.{filter_in}
-use Rattle.str_model.proofs.Lists.Members.{In, in_filter, in_insert}
+use Rattle.str_model.proofs.Changes.SnapshotsGain.{in_last}
 use Rattle.std.proofs.Common.{Bool, List, None, Option, Some, [], arith, eq-eqb, eqb-true, false, filter, if◌then◌else◌, inl, inr, le-leb, leb-true, lt-ltb, ltb-false, ltb-true, map, nat_le, nat_lt, not, refl, subst, sym, true, ℕ, ◌&&◌, ◌<◌, ◌==◌, ◌||◌, ◌∙◌, ◌∷◌, ◌≡◌, ◌≤◌, ◌⊎◌, ap}
 use Rattle.std.specs.List.{last_or}
 use Rattle.str_base.specs.Versions.{insert_all, insert_version, is_before, is_pre, is_undecided, last_pre, last_undecided, of_pair, of_tx, same_key, settled, tx_before, visible, without}
@@ -14,6 +12,9 @@ use Rattle.str_model.specs.Views.{Doing, name_of}
 use Rattle.str_model.specs.declared.messages.Input.{Input}
 use Rattle.str_scene.specs.Scenes.{Here}
 use Rattle.std.proofs.lemmas.Bool.{and_from, or_cases, or_parts}
+use Rattle.str_base.proofs.Tests.{and_true_left, and_true_right}
+use Rattle.str_base.proofs.Members.{filter_in, in_filter, in_insert}
+use Rattle.str_base.specs.Members.{In}
 
 -- the key of the one is less, or it is the same and the timestamp is not greater
 abbrev pub NotAfter : Version → Version → Type 0
@@ -33,12 +34,12 @@ after_trans a b c (inr p) (inr q) = inr (p.0 ∙ q.0, omega (arith, p.1, q.1))
 before_not_after : (u v : Version) → is_before u v ≡ true → NotAfter u v
 before_not_after u v e = elim (or_cases (nat_lt u.key.0 v.key.0) _ e) [
   | inl p ↦ inl (ltb-true u.key.0 v.key.0 p)
-  | inr p ↦ (let k = eqb-true u.key.0 v.key.0 (and_left (same_key u.key v.key) _ p) in
+  | inr p ↦ (let k = eqb-true u.key.0 v.key.0 (and_true_left (same_key u.key v.key) _ p) in
       inr (
         k,
-        elim (or_cases (nat_lt u.ts.0 v.ts.0) _ (and_right (same_key u.key v.key) _ p)) [
+        elim (or_cases (nat_lt u.ts.0 v.ts.0) _ (and_true_right (same_key u.key v.key) _ p)) [
           | inl q ↦ (let l = ltb-true u.ts.0 v.ts.0 q in omega (arith, l))
-          | inr q ↦ (let l = eqb-true u.ts.0 v.ts.0 (and_left (u.ts.0 == v.ts.0) (tx_before u.tx v.tx) q) in omega (arith, l))
+          | inr q ↦ (let l = eqb-true u.ts.0 v.ts.0 (and_true_left (u.ts.0 == v.ts.0) (tx_before u.tx v.tx) q) in omega (arith, l))
         ],
       ))
 ]
@@ -155,11 +156,11 @@ visible_one vs k r v h e = elim (in_last None (filter test vs) v e) [ inl q ↦ 
     is : In v (filter test vs) → IsVisible vs k r v
     is m =
         let f = in_filter test vs v m in
-        let kv = eqb-true v.key.0 k.0 (and_left (same_key v.key k) _ f.1) in
+        let kv = eqb-true v.key.0 k.0 (and_true_left (same_key v.key k) _ f.1) in
         record {
           is_in = f.0;
           key = λ j. record { 0 = kv j };
-          below = leb-true v.ts.0 r (and_right (same_key v.key k) _ f.1);
+          below = leb-true v.ts.0 r (and_true_right (same_key v.key k) _ f.1);
           greatest = λ q n key. by_order q n key (nat_le q.ts.0 r) refl;
         }
       where
@@ -167,7 +168,7 @@ visible_one vs k r v h e = elim (in_last None (filter test vs) v e) [ inl q ↦ 
         by_order q n key true p =
             let kq = ap (λ (z : KeyId). z.0) key in
             let j = filter_in test vs q n (and_from (same_key q.key k) _ (eq-eqb q.key.0 k.0 kq) p) in
-            let kv = eqb-true v.key.0 k.0 (and_left (same_key v.key k) _ (in_filter test vs v m).1) in
+            let kv = eqb-true v.key.0 k.0 (and_true_left (same_key v.key k) _ (in_filter test vs v m).1) in
             inr (last_greatest None (filter test vs) v q (filter_in_time test vs h) e j (kq ∙ sym kv))
         by_order q n key false p = inl (Rattle.std.proofs.Common.leb-false q.ts.0 r p)
 

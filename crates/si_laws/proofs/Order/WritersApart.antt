@@ -8,10 +8,9 @@ use Rattle.si_laws.proofs.Order.MasterFacts.{IsBefore}
 use Rattle.str_model.proofs.OwnFacts.ScriptsCovered.{ScriptGood, WritesKey, eval_keys, scripts_after}
 use Rattle.si_laws.proofs.Stages.ParticipantSeats.{of_nth}
 use Rattle.si_laws.proofs.Sessions.SessionAnswers.{committed_phase, entry, session_holds}
-use Rattle.si_laws.proofs.Sessions.SessionHolds.{get_within, good_everywhere}
+use Rattle.si_laws.proofs.Sessions.SessionHolds.{good_everywhere}
 use Rattle.str_model.proofs.Changes.PairWords.{any_has}
 use Rattle.str_model.proofs.Principle.Everywhere.{at_place, stage_of}
-use Rattle.str_model.proofs.Lists.Members.{In}
 use Rattle.si_laws.specs.Commits.{seen}
 use Rattle.si_laws.specs.Laws.Apart.{ApartHolds}
 use Rattle.si_laws.specs.SnapshotIsolation.{IsAnswer, IsCommittedAt, NoOverlap}
@@ -38,6 +37,8 @@ use Rattle.str_scene.specs.declared.names.Op.TheVariants.{Abort as Stop, Add, De
 use Rattle.str_scene.specs.declared.names.Op.{Op}
 use Rattle.str_scene.specs.declared.names.TxPlace.{TxPlace}
 use Rattle.std.proofs.lemmas.Bool.{or_left}
+use Rattle.str_base.proofs.Lists.{slice_get_there}
+use Rattle.str_base.specs.Members.{In}
 
 none_above : {A : Type 0} (xs : List A) (n j : ℕ) (x : A) → slice_get xs n ≡ None → slice_get xs j ≡ Some x → j < n
 none_above [] n j x e f = absurd (cc f)
@@ -71,7 +72,7 @@ script_op scene ok place j op e = by_session (nth scene.sessions place.session.0
 -- a key of the table has a master
 pub master_of : (scene : Scene) → IsScene scene → (k : KeyId) → k.0 < length scene.keys.names → (r : NodeId) × (is_master scene r (part_of scene k) ≡ true) × (hosts scene r (part_of scene k) ≡ true)
 master_of scene ok k less =
-    let key = get_within scene.keys.names k.0 less in
+    let key = slice_get_there scene.keys.names k.0 less in
     let part : part_of scene k ≡ key.0.1 = ap named_part key.1 in
     let exists = (ok.table.keys k.0 key.0 key.1).part in
     by_part key.0.1.0 refl exists part
@@ -83,7 +84,7 @@ master_of scene ok k less =
     by_part : {p : PartId} (m : ℕ) → p.0 ≡ m → Exists m (length scene.parts) → part_of scene k ≡ p → (r : NodeId) × (is_master scene r (part_of scene k) ≡ true) × (hosts scene r (part_of scene k) ≡ true)
     by_part {p} zero q x part = absurd (omega (arith, x.0))
     by_part {p} (suc i) q x part =
-        let row = get_within scene.parts i (omega (arith, x.1)) in
+        let row = slice_get_there scene.parts i (omega (arith, x.1)) in
         let all : replicas scene (part_of scene k) ≡ row.0 = ap (λ (z : PartId). or_none (nth scene.parts z.0)) part ∙ (ap (λ (z : ℕ). or_none (nth scene.parts z)) q ∙ ap or_none row.1) in
         let m = by_row row.0 (ok.rows i row.0 row.1).some in
         (m.0, subst (λ (zs : List NodeId). leads m.0 zs ≡ true) (sym all) m.1, subst (λ (zs : List NodeId). list_any (λ n. same_node n m.0) zs ≡ true) (sym all) m.2)

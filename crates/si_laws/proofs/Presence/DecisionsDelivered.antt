@@ -6,8 +6,6 @@ use Rattle.si_laws.proofs.Sessions.SessionHolds.{length_copies, length_set}
 use Rattle.str_model.proofs.Changes.PairWords.{Has}
 use Rattle.str_model.proofs.Principle.StepPaths.{StepTo, step-path}
 use Rattle.str_model.proofs.Principle.Everywhere.{at_place, run-append}
-use Rattle.str_model.proofs.Lists.ListReads.{got_set}
-use Rattle.str_model.proofs.Lists.Members.{In, in_at}
 use Rattle.si_laws.specs.Laws.Presence.{Decides}
 use Rattle.std.proofs.Common.{Bool, List, None, Option, Some, [], ap, arith, false, inl, inr, length, refl, replicate, slice_get, slice_set, subst, subst₂, suc, sym, true, zero, ℕ, ◌++◌, ◌+◌, ◌-◌, ◌<◌, ◌∙◌, ◌∷◌, ◌≡◌, ◌≢◌, ◌⊎◌}
 use Rattle.std.proofs.lemmas.Option.{slice_get_within}
@@ -27,6 +25,9 @@ use Rattle.str_model.specs.declared.messages.Message.{Message}
 use Rattle.str_scene.specs.Scenes.{Scene, Session, hosts, nth}
 use Rattle.str_scene.specs.declared.names.Event.TheVariants.{Client as ClientEvent, Deliver as DeliverEvent}
 use Rattle.str_scene.specs.declared.names.Event.{Event}
+use Rattle.str_base.proofs.Lists.{got_set}
+use Rattle.str_base.proofs.Members.{in_at}
+use Rattle.str_base.specs.Members.{In}
 
 -- the node that a message goes to, counted from 0
 abbrev pub GoesTo : Message → ℕ → Type 0

@@ -7,11 +7,8 @@ use Rattle.si_laws.proofs.Order.WritersApart.{key_of_table, script_op}
 use Rattle.str_model.proofs.OwnFacts.ScriptsCovered.{ScriptGood, scripts_after}
 use Rattle.si_laws.proofs.Stages.ParticipantSeats.{flat_map_in, own_seat, part_exists}
 use Rattle.si_laws.proofs.Sessions.SessionHolds.{good_everywhere}
-use Rattle.str_model.proofs.Changes.PairWords.{has_at}
 use Rattle.str_model.proofs.Principle.Everywhere.{at_place, stage_of}
-use Rattle.str_model.proofs.Changes.SnapshotsGain.{and_left, and_right, if_elim, or_false_right}
-use Rattle.str_model.proofs.Lists.Members.{In, at_in, in_filter, in_map, in_right, map_in}
-use Rattle.str_model.proofs.Principle.RulePaths.{or_false_left}
+use Rattle.str_model.proofs.Changes.SnapshotsGain.{if_elim}
 use Rattle.str_model.proofs.Changes.AnswerChanges.{told}
 use Rattle.str_model.specs.Owned.{wrote_key}
 use Rattle.si_laws.specs.Laws.Presence.{Decides}
@@ -40,6 +37,9 @@ use Rattle.str_scene.specs.SceneLimits.{IsScene}
 use Rattle.str_scene.specs.Scenes.{Here, Scene, hosts, in_part, part_of}
 use Rattle.str_scene.specs.declared.names.Event.{Event}
 use Rattle.std.proofs.lemmas.Bool.{and_from, false_from_ne_true, not-true}
+use Rattle.str_base.proofs.Members.{any_in, at_in, in_filter, in_map, in_right, map_in}
+use Rattle.str_base.proofs.Tests.{and_true_left, and_true_right, or_false_left, or_false_right}
+use Rattle.str_base.specs.Members.{In}
 
 -- no timestamp of a run reaches the limit
 abbrev pub Bounded : Type 0
@@ -71,8 +71,8 @@ any_less k test (w ∷ ws) e =
 filter_distinct : (test : Write → Bool) (ws : List Write) → AreDistinct ws → AreDistinct (filter test ws)
 filter_distinct test [] d = refl
 filter_distinct test (w ∷ ws) d =
-    let rest_ : AreDistinct (filter test ws) = filter_distinct test ws (and_right (not (list_any (same_key w.key) (map (λ (z : Write). z.key) ws))) _ d) in
-    let none_ : list_any (same_key w.key) (map (λ (z : Write). z.key) (filter test ws)) ≡ false = any_less w.key test ws (not-true (list_any (same_key w.key) (map (λ (z : Write). z.key) ws)) (and_left _ (Strange.distinct_keys (map (λ (z : Write). z.key) ws)) d)) in
+    let rest_ : AreDistinct (filter test ws) = filter_distinct test ws (and_true_right (not (list_any (same_key w.key) (map (λ (z : Write). z.key) ws))) _ d) in
+    let none_ : list_any (same_key w.key) (map (λ (z : Write). z.key) (filter test ws)) ≡ false = any_less w.key test ws (not-true (list_any (same_key w.key) (map (λ (z : Write). z.key) ws)) (and_true_left _ (Strange.distinct_keys (map (λ (z : Write). z.key) ws)) d)) in
     if_elim (λ (zs : List Write). AreDistinct zs) (test w) (w ∷ filter test ws) (filter test ws) (λ t. rw none_ rest_) (λ t. rest_)
 
 module _ (bound : Bounded) (scene : Scene) (ok : IsScene scene) (events : List Event) where
@@ -105,7 +105,7 @@ module _ (bound : Bounded) (scene : Scene) (ok : IsScene scene) (events : List E
       (all_in _ (map (λ (w : Write). w.key) (filter (in_part scene p) x.writes)) (λ k h.
       let r = in_map (λ (w : Write). w.key) (filter (in_part scene p) x.writes) k h in
       let f = in_filter (in_part scene p) x.writes r.0 r.1 in
-      let own : wrote_key k x.writes ≡ true = has_at (λ (w : Write). same_key w.key k) x.writes r.0 f.0 (eq-eqb r.0.key.0 k.0 (ap (λ (z : KeyId). z.0) r.2)) in
+      let own : wrote_key k x.writes ≡ true = any_in (λ (w : Write). same_key w.key k) x.writes r.0 f.0 (eq-eqb r.0.key.0 k.0 (ap (λ (z : KeyId). z.0) r.2)) in
       let in_script = g.inside k own in
       let table : k.0 < length scene.keys.names = key_of_table scene.version scene.keys in_script.1 k (script_op scene ok x.place in_script.0 in_script.1 in_script.2) in_script.3 in
       and_from (Strange.has_key here k) (same_part (part_of here.scene k) p) (lt-ltb k.0 (length here.scene.keys.names) (omega (arith, table, size)))

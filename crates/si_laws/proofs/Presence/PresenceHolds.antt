@@ -5,10 +5,8 @@ use Rattle.si_laws.proofs.Presence.DecisionsDelivered.{Delivered, delivered}
 use Rattle.si_laws.proofs.Stages.LinkedStates.{one_of, pre_of}
 use Rattle.si_laws.proofs.Stages.AllLinksKept.{linked}
 use Rattle.si_laws.proofs.Stages.ParticipantSeats.{of_nth, to_nth}
-use Rattle.si_laws.proofs.Sessions.SessionHolds.{get_within}
-use Rattle.str_model.proofs.Changes.PairWords.{Has, any_has, has_at}
+use Rattle.str_model.proofs.Changes.PairWords.{Has, any_has}
 use Rattle.str_model.proofs.Principle.Everywhere.{stage_of}
-use Rattle.str_model.proofs.Lists.Members.{In, at_in, in_at}
 use Rattle.si_laws.specs.Laws.Presence.{AnsweredPresent, CommittedPresent, DecidedUntold, Holds, IsStanding, NeverTold, NotDone, PresenceHolds, PresenceStands}
 use Rattle.si_laws.specs.Laws.Times.{TimesBounded}
 use Rattle.si_laws.specs.Standing.{Begun, IsCommitted, Wrote}
@@ -28,6 +26,9 @@ use Rattle.str_scene.specs.SceneLimits.{IsScene}
 use Rattle.str_scene.specs.Scenes.{Scene, hosts, nth, part_of}
 use Rattle.str_scene.specs.declared.names.Event.{Event}
 use Rattle.std.proofs.lemmas.Bool.{false_from_ne_true}
+use Rattle.str_base.proofs.Members.{any_in, at_in, in_at}
+use Rattle.str_base.proofs.Lists.{slice_get_there}
+use Rattle.str_base.specs.Members.{In}
 
 -- ---- by done lists
 
@@ -84,14 +85,14 @@ module _ (bound : Bounded) (scene : Scene) (ok : IsScene scene) (events : List E
       let d = delivered scene (decisions_are_valid bound scene ok) events in
       let n = of_nth (run scene events).nodes r.0 v there in
       let less = slice_get_within (run scene events).sent j m sent in
-      let g = get_within (run scene events).given j (omega (arith, less, d.len)) in
+      let g = slice_get_there (run scene events).given j (omega (arith, less, d.len)) in
       by_flag g.0 g.1 d n.0 (λ i. record { 0 = n.1 i }) n.2
     where
       by_flag : (b : Bool) → slice_get (run scene events).given j ≡ Some b → Delivered (run scene events) → (n : ℕ) → r ≡ record { 0 = n + 1 } → slice_get (run scene events).nodes n ≡ Some v
           → slice_get (run scene events).given j ≡ Some false
       by_flag false e d n is at_ = e
       by_flag true e d n is at_ =
-          let k = d.done_ j m tx p n v sent dec e (to ∙ is) at_ in absurd (cc (has_at (is_pair tx p) v.done k.0 k.1 k.2, none v there))
+          let k = d.done_ j m tx p n v sent dec e (to ∙ is) at_ in absurd (cc (any_in (is_pair tx p) v.done k.0 k.1 k.2, none v there))
 
   committed_present : CommittedPresent scene (run scene events)
   committed_present t x fc k r b c w hosted =

@@ -32,8 +32,8 @@ use Rattle.str_model.specs.Turns.{Away, CertTurn, Certified, Conflict, DepTurn, 
 use Rattle.str_model.specs.Views.{Aborted, Active, CertWait, Closing, Committed, Doing, Global, Local, Own, Phase, ReadWait, Remote, Reply, View, is_decided, lc_of, name_of, put}
 use Rattle.str_model.proofs.Principle.SingleChanges.{Comes}
 use Rattle.str_model.proofs.Changes.SnapshotsGain.{if_elim}
-use Rattle.str_model.proofs.Lists.ListReads.{get_set}
 use Rattle.str_model.proofs.Changes.DependencyLooks.{after_look}
+use Rattle.str_base.proofs.Lists.{get_set}
 
 -- why the p-th own transaction, which stood like x at a moment d, has aborted at the next one
 pub data AbortedBy (here : Here) (input : Input) (d : Doing) (p : ℕ) (x : Own) (cause : Cause) : Type 0 where

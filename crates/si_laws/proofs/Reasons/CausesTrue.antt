@@ -25,15 +25,16 @@ use Rattle.str_model.proofs.Principle.Everywhere.{at_each_event, at_place}
 use Rattle.str_model.proofs.Principle.StepPaths.{step-keeps}
 use Rattle.str_model.proofs.Principle.LaterMoments.{Took, moment_of, took}
 use Rattle.str_model.proofs.Principle.NextMoments.{linked}
-use Rattle.str_model.proofs.Lists.Members.{In, at_in, in_filter, in_flat_map}
 use Rattle.si_laws.proofs.Reasons.AbortsAll.{link_by}
 use Rattle.si_laws.proofs.Reasons.AbortChanges.{AbortedBy, ab_evicted, ab_late, ab_lost, ab_met, ab_refused, ab_stop, ab_wish}
 use Rattle.si_laws.proofs.Reasons.CommitsAfter.{committed_is, nth_place, place_nth, stand_moment}
-use Rattle.str_model.proofs.ViewFacts.MarksRise.{same_key-is}
 use Rattle.str_model.proofs.OwnFacts.UnmetNeeds.{AllNeedy, needy-act}
 use Rattle.si_laws.proofs.Scripts.ReadsEvaluate.{find_is}
 use Rattle.si_laws.specs.Standing.{IsAborted, IsCommitted}
 use Rattle.si_laws.specs.TrueCause.{AbortsAt, DependedOn, TrueWish}
+use Rattle.str_base.proofs.Members.{at_in, in_filter, in_flat_map}
+use Rattle.str_base.proofs.SameNames.{same_key-is}
+use Rattle.str_base.specs.Members.{In}
 
 -- ---- the look at the dependencies
 

@@ -14,14 +14,14 @@ use Rattle.str_model.specs.Views.{Doing, Own}
 use Rattle.str_model.proofs.Principle.Everywhere.{at_place, run-append}
 use Rattle.str_model.proofs.Changes.SnapshotsGain.{Names}
 use Rattle.str_model.proofs.Principle.LaterMoments.{Took, later, took}
-use Rattle.str_model.proofs.Lists.ListReads.{get_set}
-use Rattle.str_model.proofs.Lists.Members.{in_at}
 use Rattle.str_model.proofs.Principle.TraceEvents.{ends_slice}
 use Rattle.si_laws.proofs.Dependencies.LocalsApart.{StandAfter, stand_after}
 use Rattle.si_laws.proofs.Dependencies.DependencyFates.{Fate, fate-act, gone_at, listed, settled_at}
 use Rattle.si_laws.proofs.Reasons.CommitsAfter.{listed_committed, nth_place, place_nth, stand_moment, still_open, strict}
 use Rattle.si_laws.specs.GateLaw.{CascadesInOneEvent, CommittedBefore, DependenciesFirst, StandsAt}
 use Rattle.si_laws.specs.Standing.{IsAborted}
+use Rattle.str_base.proofs.Lists.{get_set}
+use Rattle.str_base.proofs.Members.{in_at}
 
 module _ (scene : Scene) (ok : IsScene scene) (es : List Event) where
   -- each that was in the dependency set at some moment committed first

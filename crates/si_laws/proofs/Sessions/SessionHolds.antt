@@ -11,14 +11,15 @@ use Rattle.str_model.specs.Views.{Doing, View, starts}
 use Rattle.str_model.proofs.Principle.SingleChanges.{Act, Where}
 use Rattle.str_model.proofs.Principle.StepPaths.{StepPath, step-keeps}
 use Rattle.str_model.proofs.Principle.Everywhere.{IsSeen, Stage, at_place, during, stage_of, steps_everywhere}
-use Rattle.str_model.proofs.Lists.ListReads.{got_replicate, got_set}
-use Rattle.str_model.proofs.Lists.Members.{In, in_append}
 use Rattle.str_model.proofs.Changes.OwnChanges.{own_step}
 use Rattle.str_model.proofs.OwnFacts.PlacesInOrder.{InOrder, PlacedIn, order-step}
 use Rattle.si_laws.proofs.Sessions.SessionOrder.{Told, ours-step, rising-step, told-step, told_in}
 use Rattle.str_model.proofs.Changes.AnswerChanges.{Rising, none_pass, r_none, tell_step}
 use Rattle.str_model.proofs.OwnFacts.NodeTimes.{timed-step, timed_opening}
 use Rattle.std.proofs.lemmas.Bool.{false_from_ne_true}
+use Rattle.str_base.proofs.Lists.{got_replicate, got_set, slice_get_there}
+use Rattle.str_base.proofs.Members.{in_append}
+use Rattle.str_base.specs.Members.{In}
 
 -- what holds of a node
 pub record NodeGood (scene : Scene) (n : ℕ) (answers : List Answer) (v : View) : Type 0 where
@@ -64,11 +65,6 @@ length_set (x ∷ xs) (suc i) y = ap suc (length_set xs i y)
 pub length_copies : {A : Type 0} (n : ℕ) (y : A) → length (replicate n y) ≡ n
 length_copies zero y = refl
 length_copies (suc n) y = ap suc (length_copies n y)
-
-pub get_within : {A : Type 0} (xs : List A) (i : ℕ) → i < length xs → (x : A) × (slice_get xs i ≡ Some x)
-get_within [] i h = absurd (omega arith)
-get_within (x ∷ xs) zero h = (x, refl)
-get_within (x ∷ xs) (suc i) h = get_within xs i (omega (arith, h))
 
 -- a session is of one node
 other_session : (scene : Scene) (i s : ℕ) (text : Session) (bs : List Answer) → nth scene.sessions s ≡ Some text → text.node.0 ≢ i + 1

@@ -11,10 +11,11 @@ use Rattle.str_scene.specs.Scenes.{Here}
 use Rattle.str_model.specs.Views.{Doing, Own, is_decided, release}
 use Rattle.str_model.proofs.Principle.SingleChanges.{NextPlace, is_first, is_next}
 use Rattle.str_model.proofs.Changes.SnapshotsGain.{if_elim}
-use Rattle.str_model.proofs.Lists.ListReads.{get_push, get_set, got_push, got_set}
-use Rattle.str_model.proofs.Lists.Members.{In, at_in, in_right}
 use Rattle.str_model.proofs.Changes.AnswerChanges.{IsLastOf, Rising, TellStep, in_release, last_index-none, last_index-some, release-last, release-other, release-rising, t_begins, t_decides, t_goes, t_rests, told}
 use Rattle.str_model.proofs.OwnFacts.PlacesInOrder.{InOrder, PlacedIn, get_set_cases}
+use Rattle.str_base.proofs.Lists.{get_push, get_set, got_push, got_set}
+use Rattle.str_base.proofs.Members.{at_in, filter_in, in_right}
+use Rattle.str_base.specs.Members.{In}
 
 -- the answer is of the session
 abbrev pub told_in : ℕ → Answer → Bool
@@ -151,11 +152,6 @@ told_more here n s i x y own all is opn dec p of_y ord h =
         | inr more_ ↦ absurd (not_later k z more_ c.1 ofs)
       ])
     ]
-
-filter_in : {A : Type 0} (p : A → Bool) (xs : List A) (x : A) → In x xs → p x ≡ true → In x (filter p xs)
-filter_in p [] x h e = absurd h
-filter_in p (y ∷ xs) x (inl q) e = rw (ap p q ∙ e) (inl q)
-filter_in p (y ∷ xs) x (inr h) e = if_elim (In x) (p y) (y ∷ filter p xs) (filter p xs) (λ t. inr (filter_in p xs x h e)) (λ t. filter_in p xs x h e)
 
 -- what a change leaves of the answers of a session
 pub told-step : (here : Here) (n s : ℕ) (old : List Answer) (d e : Doing) → TellStep here d e → Rising d.released → InOrder here.scene n d.view.own

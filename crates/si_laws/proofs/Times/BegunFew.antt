@@ -3,7 +3,6 @@ use Rattle.si_laws.proofs.Times.NoRepeats.{Once, fits, map_length, once_append}
 use Rattle.si_laws.proofs.Stages.ParticipantSeats.{of_nth, range_in}
 use Rattle.si_laws.proofs.Sessions.SessionHolds.{good_everywhere}
 use Rattle.str_model.proofs.OwnFacts.PlacesInOrder.{InOrder, PlacedIn}
-use Rattle.str_model.proofs.Lists.Members.{In, at_in, in_append, in_left, in_map, in_right, map_in}
 use Rattle.std.proofs.Common.{List, Some, [], ap, arith, inl, inr, length, length-append, map, refl, slice_get, subst, suc, sym, zero, ℕ, ◌++◌, ◌+◌, ◌∙◌, ◌∷◌, ◌≡◌, ◌≤◌}
 use Rattle.std.proofs.lemmas.List.Sums.{sum_by-cons}
 use Rattle.std.specs.List.{range_with_len, sum_by}
@@ -14,6 +13,8 @@ use Rattle.str_scene.specs.declared.names.TxPlace.{TxPlace}
 use Rattle.str_scene.specs.SceneLimits.{IsScene}
 use Rattle.str_scene.specs.Scenes.{Scene, Session, nth}
 use Rattle.std.proofs.lemmas.List.FromFn.{length-range_with_len}
+use Rattle.str_base.proofs.Members.{at_in, in_append, in_left, in_map, in_right, map_in}
+use Rattle.str_base.specs.Members.{In}
 
 -- how many transactions began
 abbrev pub own_total : List View → ℕ

@@ -11,7 +11,6 @@ use Rattle.si_laws.proofs.Times.ParticipantsFew.{few_parts}
 use Rattle.si_laws.proofs.Stages.ParticipantSeats.{seat_of}
 use Rattle.si_laws.proofs.Sessions.SessionHolds.{good_everywhere}
 use Rattle.str_model.proofs.Principle.Everywhere.{Stage, at_place, stage_of}
-use Rattle.str_model.proofs.Lists.Members.{In, in_at, in_filter, in_left, in_right, map_in}
 use Rattle.si_laws.specs.Laws.Times.{TimesBounded}
 use Rattle.si_laws.specs.Numbers.{all_times, proposals}
 use Rattle.std.proofs.Common.{List, Some, [], ap, arith, eqb-true, length, length-append, map, refl, slice_get, subst, subst₂, suc, sym, true, zero, ℕ, ◌*◌, ◌++◌, ◌+◌, ◌∙◌, ◌∷◌, ◌≡◌, ◌≢◌, ◌≤◌}
@@ -30,6 +29,8 @@ use Rattle.str_model.specs.Views.{Own, View, lc_of, name_of}
 use Rattle.str_scene.specs.declared.names.Event.{Event}
 use Rattle.str_scene.specs.SceneLimits.{Exists, IsScene}
 use Rattle.str_scene.specs.Scenes.{Scene, hosts, in_part, part_of}
+use Rattle.str_base.proofs.Members.{in_at, in_filter, in_left, in_right, map_in}
+use Rattle.str_base.specs.Members.{In}
 
 -- a seat of the i-th transaction of the n-th node
 abbrev seat_key : Scene → ℕ → ℕ → Asked → AckKey

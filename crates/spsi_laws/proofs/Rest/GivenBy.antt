@@ -2,7 +2,6 @@
 use Rattle.std.proofs.Common.{Bool, List, None, Option, Some, [], ap, append_assoc, append-nil, arith, false, inl, inr, length, refl, replicate, slice_get, subst, suc, sym, true, zero, ℕ, ◌++◌, ◌+◌, ◌-◌, ◌∙◌, ◌∷◌, ◌≡◌, ◌⊎◌}
 use Rattle.spsi_laws.proofs.Work.WorkHolds.{run_more}
 use Rattle.str_base.specs.declared.names.NodeId.{NodeId}
-use Rattle.str_model.proofs.Lists.ListReads.{got_set}
 use Rattle.str_model.specs.Runs.{World, give, happens, opening, run}
 use Rattle.str_model.specs.Runs
 use Rattle.str_model.specs.Steps.{step}
@@ -13,6 +12,7 @@ use Rattle.str_model.specs.declared.messages.Message.{Message}
 use Rattle.str_scene.specs.declared.names.Event.{Event}
 use Rattle.str_scene.specs.declared.names.Event.TheVariants.{Client as ClientEvent, Deliver as DeliverEvent}
 use Rattle.str_scene.specs.Scenes.{Scene, Session, nth}
+use Rattle.str_base.proofs.Lists.{got_set}
 
 -- what was given among flags to which unset ones were added
 got_fresh : (gs : List Bool) (n j : ℕ) → slice_get (gs ++ replicate n false) j ≡ Some true → slice_get gs j ≡ Some true

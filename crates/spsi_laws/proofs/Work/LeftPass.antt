@@ -14,8 +14,6 @@ use Rattle.dependency_set.specs.Snapshots.{Snap}
 use Rattle.str_model.proofs.Principle.SingleChanges.{InTurn, InWait, IsMasters, Path, Where, act_ask, along}
 use Rattle.str_model.proofs.Principle.StepPaths.{first-path, half_turn-path, resolved_first, turn-path, waiter_turn-waited}
 use Rattle.str_model.proofs.Changes.SnapshotsGain.{if_elim}
-use Rattle.str_model.proofs.Lists.ListReads.{get_set}
-use Rattle.str_model.proofs.Lists.Members.{In, in_right}
 use Rattle.str_model.specs.Acts.{aborted, accepted, asked, copies, in_phase, marked, placed, refused, replied, with_waiters}
 use Rattle.str_model.specs.Gates.{Ask, CommitAt, GateTurn, Missing, Shut, dep_parts, gate_of}
 use Rattle.str_model.specs.Pass
@@ -35,6 +33,9 @@ use Rattle.str_scene.specs.declared.names.Op.{Op}
 use Rattle.str_scene.specs.declared.names.Op.TheVariants.{Abort as Stop, Add, Del, Get, Need, Put, Puts}
 use Rattle.str_scene.specs.Scenes.{Here, leads, others, replicas}
 use Rattle.std.proofs.lemmas.Bool.{false_from_ne_true}
+use Rattle.str_base.proofs.Lists.{get_set}
+use Rattle.str_base.proofs.Members.{in_right}
+use Rattle.str_base.specs.Members.{In}
 
 -- the place stays
 pub finish_place : (op : Op) (v : Value) (x : Own) → (finish op v x).place ≡ x.place

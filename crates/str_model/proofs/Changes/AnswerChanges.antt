@@ -15,8 +15,8 @@ use Rattle.str_base.specs.Versions.{stamp}
 use Rattle.str_model.specs.Views.{Aborted, Committed, Doing, Own, Phase, is_decided, name_of, release}
 use Rattle.str_model.proofs.Principle.SingleChanges.{Act, Begins, Where, act_abort, act_abort_came, act_accept, act_ack, act_ask, act_begin, act_certify, act_close, act_commit, act_commit_came, act_mark, act_put, act_refuse, act_reply, act_request, act_take, act_unwait, act_wait}
 use Rattle.str_model.proofs.Changes.SnapshotsGain.{CertGood, cert_turn-good, if_elim}
-use Rattle.str_model.proofs.Lists.Members.{In}
 use Rattle.std.proofs.lemmas.Bool.{false_from_ne_true}
+use Rattle.str_base.specs.Members.{In}
 
 -- the outcome that a decided transaction is answered
 abbrev pub outcome_of : Phase → List Got → Outcome

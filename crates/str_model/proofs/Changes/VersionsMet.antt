@@ -13,18 +13,9 @@ use Rattle.str_model.specs.Turns.{Certified, cert_turn, conflicts, joined, met, 
 use Rattle.str_model.specs.Turns
 use Rattle.str_model.specs.Views.{Own, View}
 use Rattle.str_scene.specs.Scenes.{Here}
-use Rattle.str_model.proofs.Changes.SnapshotsGain.{Names, find_none, in_insert_dep_old, in_union_right, insert_dep_names}
-use Rattle.str_model.proofs.Lists.Members.{In, in_left, in_right}
-
-pub filter_in : {A : Type 0} (test : A → Bool) (xs : List A) (x : A) → In x xs → test x ≡ true → In x (filter test xs)
-filter_in test [] x h e = absurd h
-filter_in test (y ∷ xs) x h e = by_test (λ k. filter_in test xs x k e) (test y) refl h
-  where
-    by_test : (In x xs → In x (filter test xs)) → (b : Bool) → test y ≡ b → In x (y ∷ xs) → In x (if b then (y ∷ filter test xs) else filter test xs)
-    by_test rec true q (inl s) = inl s
-    by_test rec true q (inr k) = inr (rec k)
-    by_test rec false q (inl s) = absurd (cc (ap test s, q, e))
-    by_test rec false q (inr k) = rec k
+use Rattle.str_model.proofs.Changes.SnapshotsGain.{Names, in_insert_dep_old, in_union_right, insert_dep_names}
+use Rattle.str_base.proofs.Members.{filter_in, find_none, in_left, in_right}
+use Rattle.str_base.specs.Members.{In}
 
 flat_map_in : {A B : Type 0} (f : A → List B) (xs : List A) (x : A) (y : B) → In x xs → In y (f x) → In y (flat_map f xs)
 flat_map_in f [] x y h k = absurd h

@@ -11,16 +11,17 @@ use Rattle.str_base.specs.Versions.{same_node, same_part, stamp}
 use Rattle.str_model.specs.Acts.{with_asked}
 use Rattle.str_model.specs.Gates.{Ask, DepParts, gate_turn, may_ask}
 use Rattle.str_model.specs.Gates
-use Rattle.str_model.specs.NodeFacts.{AllOwn, AskedFacts, In}
+use Rattle.str_model.specs.NodeFacts.{AllOwn, AskedFacts}
 use Rattle.str_scene.specs.Scenes.{Here, Scene, others, participants, replicas, unasked, written_parts}
 use Rattle.str_model.specs.Returns.{with_ack}
 use Rattle.str_model.specs.Views.{Doing, Global, Local, Own, lc_of}
 use Rattle.str_model.proofs.Principle.SingleChanges.{Act, Where}
 use Rattle.str_model.proofs.OwnFacts.EachOwn.{OwnKept, each_own-act}
-use Rattle.str_model.proofs.Changes.SnapshotsGain.{and_left, and_right}
 use Rattle.str_model.proofs.Changes.OwnGoesOn.{PutsOn, puts_on}
-use Rattle.str_model.proofs.Lists.Members.{in_flat_map, in_map, map_in}
 use Rattle.std.proofs.lemmas.Bool.{or_left, or_right}
+use Rattle.str_base.proofs.Tests.{and_true_left, and_true_right}
+use Rattle.str_base.proofs.Members.{in_flat_map, in_map, map_in}
+use Rattle.str_base.specs.Members.{In}
 
 -- ---- a gate that asks
 
@@ -90,7 +91,7 @@ acked_asked (a ∷ old) p from ts new e0 = by_test (same_part a.part p && (same_
     by_test true t rec e =
         let is : record a { ack = Some (stamp ts) } ∷ old ≡ new = cc e in
         let one : a.asked ≡ true =
-        and_left a.asked (not (is_some a.ack)) (and_right (same_node a.node from) (a.asked && not (is_some a.ack)) (and_right (same_part a.part p) (same_node a.node from && (a.asked && not (is_some a.ack))) t)) in
+        and_true_left a.asked (not (is_some a.ack)) (and_true_right (same_node a.node from) (a.asked && not (is_some a.ack)) (and_true_right (same_part a.part p) (same_node a.node from && (a.asked && not (is_some a.ack))) t)) in
         subst (AckedAsked (a ∷ old)) is (record {
           each = λ b h. elim h [ inl q ↦ inr (ap (λ (z : Asked). z.asked) (sym q) ∙ one) | inr k ↦ inl (inr k) ];
           one = (record a { ack = Some (stamp ts) }, inl refl, one);

@@ -10,11 +10,11 @@ use Rattle.str_base.specs.Versions.{stamp}
 use Rattle.str_model.specs.Views.{Doing, Own, View, is_decided, lc_of}
 use Rattle.str_model.proofs.Principle.SingleChanges.{Act, Where}
 use Rattle.str_model.proofs.Changes.SnapshotsGain.{Extends, Gains, gains_it, gains_of}
-use Rattle.str_model.proofs.Lists.ListReads.{got_push, got_set}
-use Rattle.str_model.proofs.Lists.Members.{In}
 use Rattle.str_model.proofs.OwnFacts.LocalOwners.{Depends, Locals, WeakDep, after_own, locals-act, same_own}
 use Rattle.str_model.proofs.Changes.OwnChanges.{Becomes, OwnStep, aborts, certifies, closes, commits, goes_on, own_step, rests, starts_one, turns_one}
 use Rattle.str_model.proofs.OwnFacts.NodeTimes.{timed-step}
+use Rattle.str_base.proofs.Lists.{got_push, got_set}
+use Rattle.str_base.specs.Members.{In}
 
 -- ---- dependencies
 

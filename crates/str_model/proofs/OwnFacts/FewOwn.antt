@@ -10,10 +10,10 @@ use Rattle.str_model.specs.Views.{Own, View, is_decided, lc_of}
 use Rattle.str_scene.specs.SceneLimits.{IsScene}
 use Rattle.str_scene.specs.Scenes.{Here, Session, nth}
 use Rattle.str_model.proofs.ViewFacts.GatesEnd.{many_less, many_within}
-use Rattle.str_model.proofs.Lists.Members.{in_at}
 use Rattle.str_model.proofs.ViewFacts.MomentKept.{node_number}
 use Rattle.str_model.specs.NodeFacts.{has_lc}
 use Rattle.std.proofs.lemmas.Bool.{and_parts, false_from_ne_true}
+use Rattle.str_base.proofs.Members.{in_at}
 
 -- ---- counts
 

@@ -5,8 +5,7 @@ use Rattle.str_model.proofs.Changes.MasterChanges.{AreDistinct}
 use Rattle.str_model.proofs.Principle.SingleChanges.{Act, AsksCommit, Change, Reads, Where, act_abort, act_abort_came, act_accept, act_ack, act_ask, act_begin, act_certify, act_close, act_commit, act_commit_came, act_mark, act_put, act_refuse, act_reply, act_request, act_take, act_unwait, act_wait, asks_again, asks_new, ch_away, ch_blind, ch_close, ch_gate, ch_known, ch_read, ch_reply, ch_resolve, ch_take, ch_wait, reads_again, reads_new}
 use Rattle.str_model.proofs.Principle.StepPaths.{step-keeps}
 use Rattle.str_model.proofs.Principle.Everywhere.{at_each_event, at_place}
-use Rattle.str_model.proofs.Changes.SnapshotsGain.{and_left, and_right, if_elim}
-use Rattle.str_model.proofs.Lists.ListReads.{got_push, got_set, same_or_not}
+use Rattle.str_model.proofs.Changes.SnapshotsGain.{if_elim}
 use Rattle.std.proofs.Common.{Bool, List, None, Option, Some, [], ap, arith, eq-eqb, eqb-true, false, if◌then◌else◌, inl, inr, map, not, refl, slice_get, slice_set, subst, suc, sym, true, ℕ, ◌&&◌, ◌+◌, ◌<◌, ◌||◌, ◌∙◌, ◌∷◌, ◌≡◌, ◌≢◌, ◌⊎◌}
 use Rattle.std.specs.List.{list_any}
 use Rattle.str_base.specs.Values.{is_below, set_write}
@@ -33,7 +32,9 @@ use Rattle.str_scene.specs.declared.names.Event.{Event}
 use Rattle.str_scene.specs.declared.names.Op.TheVariants.{Abort as Stop, Add, Del, Get, Need, Put, Puts}
 use Rattle.str_scene.specs.declared.names.Op.{Op}
 use Rattle.str_scene.specs.declared.names.TxPlace.{TxPlace}
-use Rattle.std.proofs.lemmas.Bool.{false_from_ne_true, not-true, or_cases, or_left, or_parts, or_right}
+use Rattle.std.proofs.lemmas.Bool.{cases_eq, false_from_ne_true, not-true, or_cases, or_left, or_parts, or_right}
+use Rattle.str_base.proofs.Tests.{and_true_left, and_true_right}
+use Rattle.str_base.proofs.Lists.{got_push, got_set}
 
 -- ---- writes
 
@@ -84,10 +85,10 @@ none_of w (u ∷ us) k e f =
 -- each key stands once after one more write
 set_once : (w : Write) (ws : List Write) → AreDistinct ws → AreDistinct (set_write w ws)
 set_once w [] d = refl
-set_once w (u ∷ us) d = by_test (same_key u.key w.key) refl (set_once w us (and_right (not (list_any (same_key u.key) (map (λ (z : Write). z.key) us))) _ d))
+set_once w (u ∷ us) d = by_test (same_key u.key w.key) refl (set_once w us (and_true_right (not (list_any (same_key u.key) (map (λ (z : Write). z.key) us))) _ d))
   where
     fresh_ : list_any (same_key u.key) (map (λ (z : Write). z.key) us) ≡ false
-    fresh_ = not-true (list_any (same_key u.key) (map (λ (z : Write). z.key) us)) (and_left _ (Strange.distinct_keys (map (λ (z : Write). z.key) us)) d)
+    fresh_ = not-true (list_any (same_key u.key) (map (λ (z : Write). z.key) us)) (and_true_left _ (Strange.distinct_keys (map (λ (z : Write). z.key) us)) d)
 
     by_test : (b : Bool) → same_key u.key w.key ≡ b → AreDistinct (set_write w us) → AreDistinct (if b then w ∷ us else u ∷ set_write w us)
     by_test true q rec =
@@ -143,7 +144,7 @@ module _ (here : Here) where
       → ((k : KeyId) → WritesKey op k → wrote_key k y.writes ≡ true) → (lc_of y.phase ≡ None) → (y.phase ≡ CertWait → ⊥) → ((k : KeyId) → wrote_key k y.writes ≡ true → (wrote_key k x.writes ≡ true) ⊎ WritesKey op k) → AreDistinct y.writes
       → ScriptGood here x → ScriptGood here y
   next_good x y op e n p keep own lc wait back dist g = record {
-    covers = λ j o k l f q. by_place j o k l (subst (λ (z : TxPlace). slice_get (script_at here.scene z) j ≡ Some o) p f) q (same_or_not j x.next);
+    covers = λ j o k l f q. by_place j o k l (subst (λ (z : TxPlace). slice_get (script_at here.scene z) j ≡ Some o) p f) q (cases_eq j x.next);
     whole = λ m l. absurd (cc (lc, l));
     waits_ = λ q. absurd (wait q);
     inside = λ k h. subst (λ (z : TxPlace). WrittenIn (script_at here.scene z) k) (sym p) (elim (back k h) [ inl z ↦ g.inside k z | inr z ↦ (x.next, op, e, z) ]);

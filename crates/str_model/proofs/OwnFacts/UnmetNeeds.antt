@@ -19,8 +19,8 @@ use Rattle.str_model.specs.Runs.{opening_view}
 use Rattle.str_model.specs.Scripts.{finish, finish_next, found_read, found_write, known, noted, or_else, own_op}
 use Rattle.str_model.specs.Views.{Active, Closing, Doing, Own, Remote}
 use Rattle.str_model.proofs.Principle.SingleChanges.{Act, Change, Needs, NeedsNone, Reads, Where, act_abort, act_abort_came, act_accept, act_ack, act_ask, act_begin, act_certify, act_close, act_commit, act_commit_came, act_mark, act_put, act_refuse, act_reply, act_request, act_take, act_unwait, act_wait, ch_away, ch_blind, ch_close, ch_gate, ch_known, ch_read, ch_reply, ch_resolve, ch_take, ch_wait, reads_again, reads_new}
-use Rattle.str_model.proofs.Lists.ListReads.{got_push, got_set}
-use Rattle.str_model.proofs.ViewFacts.MarksRise.{same_key-is}
+use Rattle.str_base.proofs.Lists.{got_push, got_set}
+use Rattle.str_base.proofs.SameNames.{same_key-is}
 
 self_key : (k : KeyId) → same_key k k ≡ true
 self_key k = eq-eqb k.0 k.0 refl

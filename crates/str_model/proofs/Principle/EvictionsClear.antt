@@ -15,9 +15,9 @@ use Rattle.str_model.specs.Scripts
 use Rattle.str_model.specs.Views.{Aborted, Doing, Own, is_decided, lc_of, name_of}
 use Rattle.str_scene.specs.Scenes.{Here}
 use Rattle.str_model.proofs.Principle.SingleChanges.{NoneHeld}
-use Rattle.str_model.proofs.Changes.SnapshotsGain.{find_none}
-use Rattle.str_model.proofs.Lists.ListReads.{got_set}
-use Rattle.str_model.proofs.Lists.Members.{In, in_without}
+use Rattle.str_base.proofs.Members.{find_none, in_without}
+use Rattle.str_base.proofs.Lists.{got_set}
+use Rattle.str_base.specs.Members.{In}
 
 pub none_of : {A : Type 0} (p : A → Bool) (xs : List A) (x : A) → list_any p xs ≡ false → In x xs → p x ≡ false
 none_of p [] x e h = absurd h

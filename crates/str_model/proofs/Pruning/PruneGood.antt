@@ -17,10 +17,12 @@ use Rattle.str_model.specs.Proposals.{is_done, is_pair, proposed}
 use Rattle.str_model.specs.Steps.{decides}
 use Rattle.str_model.specs.Views.{Doing, Own, View, is_decided, name_of}
 use Rattle.str_model.proofs.Principle.SingleChanges.{Act, Where, act_abort, act_abort_came, act_accept, act_ack, act_ask, act_begin, act_certify, act_close, act_commit, act_commit_came, act_mark, act_put, act_refuse, act_reply, act_request, act_take, act_unwait, act_wait}
-use Rattle.str_model.proofs.Lists.ListReads.{get_push, get_set, get_set_other, same_or_not}
-use Rattle.str_model.proofs.Lists.Members.{In, in_filter, in_insert_all, in_map, in_without}
 use Rattle.str_model.proofs.Changes.OwnChanges.{Becomes, OwnStep, aborts, certifies, closes, commits, goes_on, own_step, rests, starts_one, turns_one}
-use Rattle.std.proofs.lemmas.Bool.{and_parts, not-true, or_left, or_right}
+use Rattle.std.proofs.lemmas.Bool.{and_parts, cases_eq, not-true, or_left, or_right}
+use Rattle.str_base.proofs.Lists.{get_push, get_set, get_set_other}
+use Rattle.str_base.proofs.Members.{in_filter, in_insert_all, in_map, in_without}
+use Rattle.str_base.proofs.SameNames.{same_tx-is}
+use Rattle.str_base.specs.Members.{In}
 
 -- the version's transaction is one of another node whose pair is done, or an own one that has its decision
 pub data Finished (here : Here) (v : View) (q : Version) : Type 0 where
@@ -68,7 +70,7 @@ decided_becomes v f g x y (aborts c o e m) = o
 stays_decided : (d e : View) → OwnStep d e → (i : ℕ) (x : Own) → slice_get d.own i ≡ Some x → is_decided x.phase ≡ true → slice_get e.own i ≡ Some x
 stays_decided d e (rests o f) i x q z = ap (λ (xs : List Own). slice_get xs i) o ∙ q
 stays_decided d e (starts_one place rs up o f) i x q z = ap (λ (xs : List Own). slice_get xs i) o ∙ get_push d.own i (Acts.fresh place rs) x q
-stays_decided d e (turns_one j y y' is o b) i x q z = ap (λ (xs : List Own). slice_get xs i) o ∙ by_place (same_or_not i j)
+stays_decided d e (turns_one j y y' is o b) i x q z = ap (λ (xs : List Own). slice_get xs i) o ∙ by_place (cases_eq i j)
   where
     by_place : (i ≡ j) ⊎ ((i ≡ j) → ⊥) → slice_get (slice_set d.own j y') i ≡ Some x
     by_place (inl k) =
@@ -84,11 +86,6 @@ finished_stays here input w d e a q (f_done n h) =
 finished_stays here input w d e a q (f_own i x n at z) = f_own i x n (stays_decided d.view e.view (own_step here input w d e a) i x at z) z
 
 -- ---- each change
-
-tx_same : (a b : TxId) → same_tx a b ≡ true → a ≡ b
-tx_same a b h =
-    let r = and_parts (same_node a.node b.node) (a.seq == b.seq) h in
-    let n = eqb-true a.node.0 b.node.0 r.0 in let s = eqb-true a.seq b.seq r.1 in (λ j. record { node = record { 0 = n j }; seq = s j })
 
 last_done : (xs : List (TxId × PartId)) (tx : TxId) (p : PartId) (t : TxId) (r : PartId) → t ≡ tx → r.0 ≡ p.0 → list_any (is_pair t r) (xs ++ (tx, p) ∷ []) ≡ true
 last_done xs tx p t r e f =
@@ -119,7 +116,7 @@ finals_by here input w d e (act_commit i lc fc x d' own l n le f g) q m k h s =
     elim (in_insert_all (map (settled fc) (filter (Acts.is_hosted_of here (name_of here i)) d'.view.versions)) (without (of_tx (name_of here i)) d'.view.versions) q m) [
       | inl j ↦ (let r = in_map (settled fc) (filter (Acts.is_hosted_of here (name_of here i)) d'.view.versions) q j in
           let u = in_filter (Acts.is_hosted_of here (name_of here i)) d'.view.versions r.0 r.1 in
-          let t = tx_same r.0.tx (name_of here i) (and_parts (of_tx (name_of here i) r.0) (hosts here.scene here.node r.0.part) u.1).0 in
+          let t = same_tx-is r.0.tx (name_of here i) (and_parts (of_tx (name_of here i) r.0) (hosts here.scene here.node r.0.part) u.1).0 in
           f_own i _ (ap (λ (z : Version). z.tx) (sym r.2) ∙ t) (get_set d'.view.own i x _ own.0) refl)
       | inr j ↦ s (h q (in_without (of_tx (name_of here i)) d'.view.versions q j) k)
     ]
@@ -142,7 +139,7 @@ finals_by here input w d e (act_commit_came from tx p fc ms d' c g) q m k h s =
     elim (in_insert_all (map (settled fc.0) (filter (of_pair tx p) d'.view.versions)) (without (of_pair tx p) d'.view.versions) q m) [
       | inl j ↦ (let r = in_map (settled fc.0) (filter (of_pair tx p) d'.view.versions) q j in
           let u = and_parts (same_tx r.0.tx tx) (same_part r.0.part p) (in_filter (of_pair tx p) d'.view.versions r.0 r.1).1 in
-          let t : q.tx ≡ tx = ap (λ (z : Version). z.tx) (sym r.2) ∙ tx_same r.0.tx tx u.0 in
+          let t : q.tx ≡ tx = ap (λ (z : Version). z.tx) (sym r.2) ∙ same_tx-is r.0.tx tx u.0 in
           let part : q.part.0 ≡ p.0 = ap (λ (z : Version). z.part.0) (sym r.2) ∙ eqb-true r.0.part.0 p.0 u.1 in
           let f = not-true (same_node tx.node here.node) (and_parts (not (same_node tx.node here.node)) (not (is_done d'.view tx p)) (and_parts (hosts here.scene here.node p) (not (same_node tx.node here.node) && not (is_done d'.view tx p)) g).1).0 in
           f_done (ap (λ (z : TxId). same_node z.node here.node) t ∙ f) (last_done d'.view.done tx p q.tx q.part t part))

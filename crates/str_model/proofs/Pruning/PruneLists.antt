@@ -5,8 +5,8 @@ use Rattle.str_base.specs.declared.names.KeyId.{KeyId}
 use Rattle.str_base.specs.declared.names.Version.{Version}
 use Rattle.str_base.specs.Versions.{chain, insert_all, insert_version, is_before, is_undecided, newest, same_key, ts_or_zero, visible, without}
 use Rattle.str_model.specs.Pruning.{covers, hides, pruned_versions}
-use Rattle.str_model.proofs.Lists.Members.{In}
 use Rattle.std.proofs.lemmas.Bool.{and_from, and_parts, or_cases, or_left, or_right}
+use Rattle.str_base.specs.Members.{In}
 
 -- a test that the other implies
 pub any_more : (p q : Version → Bool) → ((v : Version) → p v ≡ true → q v ≡ true) → (vs : List Version) → list_any p vs ≡ true → list_any q vs ≡ true

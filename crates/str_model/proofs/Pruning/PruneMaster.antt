@@ -16,9 +16,9 @@ use Rattle.str_model.specs.Proposals.{Accept, Ignore, MasterTurn, Park, Refuse, 
 use Rattle.str_model.specs.Pruning.{covers, hides, pruned, pruned_versions}
 use Rattle.str_model.specs.Turns.{met}
 use Rattle.str_model.specs.Views.{View}
-use Rattle.str_model.proofs.Lists.Members.{In}
 use Rattle.str_model.proofs.Pruning.PruneOrder.{InOrder, PassesOpen}
 use Rattle.str_model.proofs.Pruning.PruneTurns.{find_met_low, key_found, key_met_pruned, passed_pruned}
+use Rattle.str_base.specs.Members.{In}
 
 -- a test that passes no Final version of the list sees no pruning
 pub any_pruned : (g : ℕ) (p : Version → Bool) (vs : List Version) → PassesOpen p vs → list_any p (pruned_versions g vs) ≡ list_any p vs

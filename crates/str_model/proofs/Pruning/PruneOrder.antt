@@ -5,10 +5,11 @@ use Rattle.str_base.specs.declared.names.KeyId.{KeyId}
 use Rattle.str_base.specs.declared.names.Version.{Version}
 use Rattle.str_base.specs.Versions.{chain, finalise, insert_all, insert_version, is_before, is_undecided, same_key, settled, without}
 use Rattle.str_model.specs.Pruning.{covers, hides, pruned_versions}
-use Rattle.str_model.proofs.Lists.Members.{In, in_filter, in_insert}
 use Rattle.str_model.proofs.Pruning.PruneLists.{any_kept, any_later, filter_pruned, pruned_again}
-use Rattle.str_model.proofs.Lists.VersionOrder.{before_mix, before_not, before_trans}
 use Rattle.std.proofs.lemmas.Bool.{and_from, and_parts, or_right}
+use Rattle.str_base.proofs.Members.{in_filter, in_insert}
+use Rattle.str_base.proofs.Order.{before_mix, before_not, before_trans, insert_first}
+use Rattle.str_base.specs.Members.{In}
 
 -- in order: none comes before one that stands earlier
 abbrev pub InOrder : List Version → Type 0
@@ -80,10 +81,6 @@ any_insert p v (w ∷ ws) = by_before (is_before v w) (any_insert p v ws)
     by_before true r = refl
     by_before false r = ap (λ z. p w || z) r ∙ swap (p v) (p w) (list_any p ws)
 
-first_of : (v : Version) (vs : List Version) → ((w : Version) → In w vs → is_before v w ≡ true) → insert_version v vs ≡ v ∷ vs
-first_of v [] h = refl
-first_of v (w ∷ ws) h = rw (h w (inl refl)) refl
-
 -- what follows may be pruned first
 cons_again : (g : ℕ) (v : Version) (vs : List Version) → pruned_versions g (v ∷ pruned_versions g vs) ≡ pruned_versions g (v ∷ vs)
 cons_again g v vs =
@@ -121,7 +118,7 @@ pruned_insert g v (w ∷ ws) o = by_hidden (hides g w ws) refl (is_before v w) r
     by_hidden : (h : Bool) → hides g w ws ≡ h → (b : Bool) → is_before v w ≡ b
         → pruned_versions g (insert_version v (pruned_versions g ws)) ≡ pruned_versions g (insert_version v ws)
         → pruned_versions g (insert_version v (if h then pruned_versions g ws else w ∷ pruned_versions g ws)) ≡ pruned_versions g (if b then v ∷ w ∷ ws else w ∷ insert_version v ws)
-    by_hidden true h true b r = r ∙ (ap (pruned_versions g) (first_of v ws (before_rest b)) ∙ hidden_first h)
+    by_hidden true h true b r = r ∙ (ap (pruned_versions g) (insert_first v ws (before_rest b)) ∙ hidden_first h)
     by_hidden true h false b r = r ∙ sym (rw (hidden_still h) refl)
     by_hidden false h true b r =
         let rest : w ∷ pruned_versions g ws ≡ pruned_versions g (w ∷ ws) = rw h refl in

@@ -19,10 +19,11 @@ use Rattle.str_model.specs.Pruning.{covers, hides, pruned, pruned_versions}
 use Rattle.str_model.specs.Turns.{CertTurn, ReadTurn, ServeTurn, cert_after, cert_joined, cert_turn, conflicts, greatest, joined, joined_one, met, passed, read_after, read_turn, serve_after, serve_turn}
 use Rattle.str_model.specs.Turns
 use Rattle.str_model.specs.Views.{Own, View}
-use Rattle.str_model.proofs.Lists.Members.{In, in_filter}
 use Rattle.str_model.proofs.Pruning.PruneLists.{any_more, filter_pruned, newest_pruned, visible_pruned}
 use Rattle.str_model.proofs.Pruning.PruneOrder.{InOrder, Kernel, PassesOpen, kernel_all, order_filter, pruned_without}
-use Rattle.str_model.proofs.Lists.VersionOrder.{before_time}
+use Rattle.str_base.proofs.Members.{in_filter}
+use Rattle.str_base.proofs.Order.{before_time}
+use Rattle.str_base.specs.Members.{In}
 
 -- ---- versions that become Final
 

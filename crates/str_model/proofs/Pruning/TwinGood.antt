@@ -19,7 +19,6 @@ use Rattle.str_model.specs.Steps.{drop_held, step}
 use Rattle.str_model.specs.Views.{Doing, Own, View, is_decided, name_of, starts}
 use Rattle.str_model.proofs.Principle.SingleChanges.{Act, Arrives, IsHere, Where, a_prepare, a_read, act_abort, act_abort_came, act_accept, act_ack, act_ask, act_begin, act_certify, act_close, act_commit, act_commit_came, act_mark, act_put, act_refuse, act_reply, act_request, act_take, act_unwait, act_wait, it_comes, it_waits, left_waiting}
 use Rattle.str_model.proofs.Pruning.PruneKept.{Above, above-act, order-act}
-use Rattle.str_model.proofs.Lists.Members.{In, in_append, in_left, in_right}
 use Rattle.str_model.proofs.Pruning.PruneGood.{Finals, Finished, f_done, f_own, finals-act}
 use Rattle.str_model.proofs.Pruning.PruneLists.{pruned_again}
 use Rattle.str_model.proofs.Pruning.PruneOrder.{InOrder, PassesOpen, in_pruned, order_pruned}
@@ -28,6 +27,8 @@ use Rattle.str_model.proofs.Pruning.TwinRules.{BothTo, IsOpen, IsReady}
 use Rattle.str_model.proofs.Pruning.TwinStep.{BodyFar, InputFar, twin_step}
 use Rattle.str_model.proofs.Pruning.TwinTurns.{Far, Ready}
 use Rattle.std.proofs.lemmas.Bool.{and_parts}
+use Rattle.str_base.proofs.Members.{in_append, in_left, in_right}
+use Rattle.str_base.specs.Members.{In}
 
 -- a read request or a Prepare is of a transaction that has its decision, or its snapshot is at or above the mark
 abbrev pub BodyHigh : ℕ → (TxId → Type 0) → Body → Type 0

@@ -24,7 +24,6 @@ use Rattle.str_model.specs.Steps
 use Rattle.str_model.specs.Strange.{is_valid}
 use Rattle.str_model.specs.Views.{Doing, Own, View, is_decided, letter, name_of, starts}
 use Rattle.str_model.proofs.Principle.SingleChanges.{Act, Comes, InRule, Path, Where, along}
-use Rattle.str_model.proofs.Lists.Members.{In}
 use Rattle.str_model.proofs.Pruning.PruneMaster.{TurnAlike, held_pruned, proposed_pruned, t_refuse, t_same}
 use Rattle.str_model.proofs.Pruning.PruneOrder.{InOrder}
 use Rattle.str_model.proofs.Principle.RulePaths.{evict-path, rule-path}
@@ -32,6 +31,7 @@ use Rattle.str_model.proofs.Pruning.TwinChoices.{twin_at_own}
 use Rattle.str_model.proofs.Pruning.TwinRules.{BothTo, IsFar, IsOpen, IsReady, known_same, twin_abort_rule, twin_ack, twin_client, twin_commit_rule, twin_read_reply, twin_read_req, twin_refuse}
 use Rattle.str_model.proofs.Pruning.Twins.{Twin, alike_append, alike_self, twin_aborted, twin_accepted, twin_refused, twin_taken, twin_waits}
 use Rattle.str_model.proofs.Pruning.TwinTurns.{Far, Ready, masters_alike, masters_same, twin_after}
+use Rattle.str_base.specs.Members.{In}
 
 -- what comes with a snapshot of another node's transaction
 abbrev pub BodyFar : ℕ → (TxId → Type 0) → Here → Body → Type 0

@@ -9,7 +9,7 @@ use Rattle.str_model.specs.declared.messages.Waiter.{Waiter}
 use Rattle.str_model.specs.declared.messages.Waiter.TheVariants.{Held, Read}
 use Rattle.str_base.specs.Versions.{stamp}
 use Rattle.str_model.specs.Acts.{replied, with_waiters}
-use Rattle.str_model.specs.NodeFacts.{In, MomentFacts, how_many, one_if}
+use Rattle.str_model.specs.NodeFacts.{MomentFacts, how_many, one_if}
 use Rattle.str_model.specs.Owned.{Owns}
 use Rattle.str_model.specs.Pass.{is_empty, pass_to, turn}
 use Rattle.str_model.specs.Pass
@@ -28,12 +28,13 @@ use Rattle.str_model.proofs.Principle.RulePaths.{rule-path}
 use Rattle.str_model.proofs.OwnFacts.TurnsBelow.{leaves}
 use Rattle.str_model.proofs.Room.PartCosts.{Grew, cost, grew_more, grew_none, grew_within}
 use Rattle.str_model.proofs.OwnFacts.FewOwn.{is_open}
-use Rattle.str_model.proofs.Lists.Members.{in_append}
 use Rattle.str_model.proofs.Room.NeedRules.{BodyFits, InputFits, OptRuled, Ruled, accept_cost, is_active, is_busy, is_idle, refuse_cost, ruled}
 use Rattle.str_model.proofs.Room.NeedTurns.{turn_cost}
 use Rattle.str_model.proofs.ViewFacts.NodeKept.{moment_along, pass_passed}
 use Rattle.str_model.proofs.Changes.VersionChanges.{WaitStep, w_fewer, w_more, wait_step}
 use Rattle.str_model.proofs.ViewFacts.QuietTurns.{none_rests, turn_decided, turn_idle}
+use Rattle.str_base.proofs.Members.{in_append}
+use Rattle.str_base.specs.Members.{In}
 
 -- ---- who waits writes no more than 16 keys
 

@@ -43,14 +43,14 @@ use Rattle.str_scene.specs.SceneLimits.{IsScene}
 use Rattle.str_scene.specs.Scenes.{Here, Session, hosts_key, is_master, nth, replicas}
 use Rattle.str_model.proofs.Principle.SingleChanges.{InRule}
 use Rattle.str_model.proofs.Room.PartCosts.{Grew, aborted_cost, certified_cost, copies_seven, cost, parts_few, put_cost}
-use Rattle.str_model.proofs.Lists.ListCounts.{many_append}
+use Rattle.str_model.proofs.ListCounts.{many_append}
 use Rattle.str_model.proofs.OwnFacts.FewOwn.{is_open}
 use Rattle.str_model.proofs.ViewFacts.GatesEnd.{many_mono}
-use Rattle.str_model.proofs.Lists.ListReads.{got_set}
 use Rattle.str_model.proofs.Room.NeedTurns.{read_cost}
 use Rattle.str_model.proofs.Room.SmallNumbers.{writes_few}
 use Rattle.str_model.proofs.Principle.RulePaths.{own_named-is}
 use Rattle.str_model.proofs.ViewFacts.TimesEnd.{many_set}
+use Rattle.str_base.proofs.Lists.{got_set}
 
 -- ---- what fits in a message
 
