@@ -3,6 +3,7 @@ use Rattle.std.proofs.Common.{List, None, Some, [], ap, length, refl, slice_get,
 use Rattle.str_scene.specs.Scenes.{nth}
 use Rattle.std.proofs.lemmas.Option.{slice_get_past, slice_get_within}
 use Rattle.str_base.proofs.Lists.{get_append_left, get_append_right, same_by_places, slice_get_none, slice_get_there}
+use Rattle.std.proofs.lemmas.List.{length-set}
 
 -- the same, counted from 1
 pub nth_within : {A : Type 0} (xs : List A) (k : ℕ) (x : A) → nth xs k ≡ Some x → (1 ≤ k) × (k ≤ length xs)
@@ -19,11 +20,6 @@ nth_right xs ys (suc i) h = rw (the (length xs) i) (get_append_right xs ys i)
   where
     the : (a b : ℕ) → a + suc b ≡ suc (a + b)
     the a b = omega arith
-
-pub length_set : {A : Type 0} (xs : List A) (i : ℕ) (x : A) → length (slice_set xs i x) ≡ length xs
-length_set [] i x = refl
-length_set (y ∷ xs) zero x = refl
-length_set (y ∷ xs) (suc i) x = ap suc (length_set xs i x)
 
 pub nth_get : {A : Type 0} (xs : List A) (k : ℕ) (x : A) → nth xs k ≡ Some x → (i : ℕ) × (slice_get xs i ≡ Some x) × (k ≡ suc i)
 nth_get xs zero x e = absurd cc

@@ -1,11 +1,11 @@
 -- Along a list of entries in which each node's entries stand in their order, and each message is sent before it is taken, the run
 -- is what the entries tell.
 use Rattle.std.proofs.Common.{List, None, Option, Some, [], ap, append-nil, append_assoc, arith, eq-eqb, length-append, ne_eqb, option_map, false, inl, inr, length, map, refl, slice_get, slice_set, subst, subst₂, sym, ℕ, ◌++◌, ◌+◌, ◌<◌, ◌∙◌, ◌∷◌, ◌≡◌, ◌≢◌}
-use Rattle.std.proofs.lemmas.List.{map-append}
+use Rattle.std.proofs.lemmas.List.{length-set, map-append}
 use Rattle.std.proofs.lemmas.List.Concat.{flat_map-append}
 use Rattle.lamport_log.proofs.Entering.{client_is, deliver_is, entered}
 use Rattle.lamport_log.proofs.Giving.{Within, given_client, given_deliver, within_client, within_deliver}
-use Rattle.lamport_log.proofs.Lists.{length_set, nth_within}
+use Rattle.lamport_log.proofs.Lists.{nth_within}
 use Rattle.lamport_log.proofs.Numbering.{mine, number_found, number_stays}
 use Rattle.lamport_log.specs.Logs.{Item, Log, letter_of, letters, replies}
 use Rattle.lamport_log.specs.Merge.{done_of, event_of, given_by, number_of}
@@ -186,5 +186,5 @@ module _ (scene : Scene) (logs : List Log) (views : List View) (all : List Item)
       let u = (came v (step (at_place scene i) leads.0 v)).view in
       let more = entry_more before it rest i ns v leads.0 eq f.node there.1 leads.1 leads.2 f.input w in
       ap (λ (z : World). run_from scene z (events_by all rest)) more.0
-      ∙ runs rest (before ++ it ∷ []) (slice_set ns i u) (append_assoc before (it ∷ []) rest ∙ eq) (length_set ns i u ∙ long)
+      ∙ runs rest (before ++ it ∷ []) (slice_set ns i u) (append_assoc before (it ∷ []) rest ∙ eq) (length-set ns i u ∙ long)
       (go_more ns it rest i r.0 v u f.node r.1 leads.3 go) more.1

@@ -5,7 +5,7 @@ use Rattle.si_laws.proofs.Guards.ReadGuards.{Clear}
 use Rattle.si_laws.proofs.Guards.GuardGrounds.{Committer, Grounds, committer}
 use Rattle.si_laws.proofs.Guards.GuardsKept.{MarkSent, clear_some_up, open_not, there_d, there_e}
 use Rattle.si_laws.proofs.Stages.LinkedStates.{one_certified, one_of}
-use Rattle.str_model.proofs.ViewFacts.MarksRise.{raise_all-rises}
+use Rattle.str_model.proofs.ViewFacts.MarksRise.{index_same, raise_all-rises}
 use Rattle.si_laws.proofs.Order.MasterFacts.{IsBefore}
 use Rattle.si_laws.proofs.Guards.VersionOrigins.{HasWritten, Origin, og_came, og_commit, og_local, og_old, og_pre, origin}
 use Rattle.si_laws.proofs.Changes.ReadLetters.{ReadLetter, is_other, letters_act, rl_commit, rl_other, rl_reply, rl_request}
@@ -34,23 +34,7 @@ use Rattle.std.proofs.lemmas.Bool.{cases_eq}
 use Rattle.str_base.proofs.Members.{in_append, in_at, in_left, in_right}
 use Rattle.str_base.proofs.SameNames.{cases_tx}
 use Rattle.str_base.specs.Members.{In}
-
-index_set : (ms : List ℕ) (i t : ℕ) → i < length ms → slice_index (slice_set ms i t) i ≡ t
-index_set [] i t h = absurd (omega (arith, h))
-index_set (m ∷ ms) zero t h = refl
-index_set (m ∷ ms) (suc i) t h = index_set ms i t (omega (arith, h))
-
--- a mark that is carried is reached
-raise_all_reaches : (ks : List KeyMark) (ms : List ℕ) (c : KeyMark) → In c ks → c.key.0 < length ms → c.mark.0 ≤ mark_of (raise_all ks ms) c.key
-raise_all_reaches [] ms c m l = absurd m
-raise_all_reaches (k ∷ ks) ms c (inl q) l =
-    let up = (raise_all-rises ks (raised ms k.key k.mark.0)).above c.key in
-    let l' : k.key.0 < length ms = omega (arith, l, ap (λ (z : KeyMark). z.key.0) q) in
-    let at : mark_of (raised ms k.key k.mark.0) k.key ≡ max (mark_of ms k.key) k.mark.0 = index_set ms k.key.0 (max (mark_of ms k.key) k.mark.0) l' in
-    let at' : mark_of (raised ms k.key k.mark.0) c.key ≡ max (mark_of ms k.key) k.mark.0 = ap (λ (z : KeyMark). mark_of (raised ms k.key k.mark.0) z.key) (sym q) ∙ at in
-    omega (arith, up, at', ap (λ (z : KeyMark). z.mark.0) q)
-raise_all_reaches (k ∷ ks) ms c (inr m) l =
-    raise_all_reaches ks (raised ms k.key k.mark.0) c m (omega (arith, l, length-set ms k.key.0 (max (mark_of ms k.key) k.mark.0)))
+use Rattle.si_laws.proofs.Marks.DoneMarks.{reached}
 
 module _ (scene : Scene) (s : Stage) (i : ℕ) (v : View) (input : Input) (w : Where) (d e : Doing) (is : slice_get s.nodes i ≡ Some v) (seen : IsSeen s input)
     (act : Act (at_place scene i) input w d e) (h : Grounds scene (during s i d)) (u : TxId) (k : KeyId) (a : Value) (rs f : ℕ) (c : CommittedIn (during s i d) u f) (wr : HasWritten scene (during s i d) u k a)
@@ -127,7 +111,7 @@ module _ (scene : Scene) (s : Stage) (i : ℕ) (v : View) (input : Input) (w : W
         let km = g.letters co.0 fc ms (in_left s.sent d.sent co.0 (in_at s.sent sent.0 co.0 sent.1)) body in
         let len = h.far.marks i d.view (there_d scene s i v input w d e is seen act h) in
         let in_range : km.0.key.0 < length d.view.marks = omega (arith, g.within, len, ap (λ (z : KeyId). z.0) km.2) in
-        let reached = raise_all_reaches ms d.view.marks km.0 km.1 in_range in
+        let reached = reached ms d.view.marks km.0 km.1 in_range in
         let at_k : mark_of e.view.marks k ≡ mark_of (raise_all ms d.view.marks) km.0.key = subst₂ (λ (xs : List ℕ) (y : KeyId). mark_of xs k ≡ mark_of (raise_all ms d.view.marks) y) (sym marks) (sym km.2) refl in
         record {
           mark = omega (arith, reached, at_k, km.3);

@@ -10,7 +10,7 @@ use Rattle.si_laws.proofs.Order.MasterFacts.{IsBefore}
 use Rattle.si_laws.proofs.Guards.GuardedNewest.{commit_at}
 use Rattle.si_laws.proofs.CommitLists.NextAnswer.{IsNext, Keeps, SeenNext, seen_next}
 use Rattle.si_laws.proofs.CommitLists.NextHolds.{si_next, si_none}
-use Rattle.si_laws.proofs.Order.WritersApart.{key_of_table, master_of, script_op}
+use Rattle.si_laws.proofs.Order.WritersApart.{key_of_table, master_of}
 use Rattle.si_laws.proofs.CommitLists.ReadsSeen.{reads_seen}
 use Rattle.si_laws.proofs.CommitLists.CommitOrder.{named}
 use Rattle.str_model.proofs.OwnFacts.ScriptsCovered.{scripts_after}
@@ -48,6 +48,7 @@ use Rattle.str_scene.specs.declared.names.Op.TheVariants.{Abort as Give, Add, De
 use Rattle.str_scene.specs.declared.names.Op.{Op}
 use Rattle.str_scene.specs.declared.names.TxPlace.{TxPlace}
 use Rattle.std.proofs.lemmas.Bool.{cases_eq}
+use Rattle.str_model.proofs.ViewFacts.MarksRise.{script_op}
 
 -- one more is taken, or there is none
 take_one : {A : Type 0} (xs : List A) (n : ℕ) → ((x : A) × (slice_get xs n ≡ Some x) × (take (suc n) xs ≡ take n xs ++ x ∷ [])) ⊎ ((slice_get xs n ≡ None) × (take (suc n) xs ≡ take n xs))

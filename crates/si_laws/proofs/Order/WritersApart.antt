@@ -39,6 +39,7 @@ use Rattle.str_scene.specs.declared.names.TxPlace.{TxPlace}
 use Rattle.std.proofs.lemmas.Bool.{or_left}
 use Rattle.str_base.proofs.Lists.{slice_get_there}
 use Rattle.str_base.specs.Members.{In}
+use Rattle.str_model.proofs.ViewFacts.MarksRise.{script_op}
 
 none_above : {A : Type 0} (xs : List A) (n j : ℕ) (x : A) → slice_get xs n ≡ None → slice_get xs j ≡ Some x → j < n
 none_above [] n j x e f = absurd (cc f)
@@ -56,18 +57,6 @@ key_of_table version table (Del l) k o q = subst (λ (z : KeyId). z.0 < length t
 key_of_table version table (Get l) k o q = absurd q
 key_of_table version table (Need l n) k o q = absurd q
 key_of_table version table Stop k o q = absurd q
-
--- each operation of a script of the scene is one of the scene
-pub script_op : (scene : Scene) → IsScene scene → (place : TxPlace) (j : ℕ) (op : Op) → slice_get (script_at scene place) j ≡ Some op → IsOp scene.version scene.keys op
-script_op scene ok place j op e = by_session (nth scene.sessions place.session.0) refl e
-  where
-    by_script : (s : Session) (i : ℕ) → slice_get scene.sessions i ≡ Some s → (o : Option (List Op)) → nth s.txs place.index ≡ o → slice_get (or_none o) j ≡ Some op → IsOp scene.version scene.keys op
-    by_script s i is None q f = absurd (cc f)
-    by_script s i is (Some ops) q f = let t = of_nth s.txs place.index ops q in ((ok.sessions i s is).scripts t.0 ops t.2).ops j op f
-
-    by_session : (o : Option Session) → nth scene.sessions place.session.0 ≡ o → slice_get (ops_at o place.index) j ≡ Some op → IsOp scene.version scene.keys op
-    by_session None q f = absurd (cc f)
-    by_session (Some s) q f = let t = of_nth scene.sessions place.session.0 s q in by_script s t.0 t.2 (nth s.txs place.index) refl f
 
 -- a key of the table has a master
 pub master_of : (scene : Scene) → IsScene scene → (k : KeyId) → k.0 < length scene.keys.names → (r : NodeId) × (is_master scene r (part_of scene k) ≡ true) × (hosts scene r (part_of scene k) ≡ true)

@@ -3,7 +3,7 @@ use Rattle.si_laws.proofs.Presence.DecisionsDelivered.{DecisionsValid}
 use Rattle.si_laws.proofs.Stages.LinkedStates.{IsDecidedAs, IsSeat, Told}
 use Rattle.si_laws.proofs.Stages.AllLinksKept.{linked}
 use Rattle.str_model.proofs.Changes.MasterChanges.{AreDistinct}
-use Rattle.si_laws.proofs.Order.WritersApart.{key_of_table, script_op}
+use Rattle.si_laws.proofs.Order.WritersApart.{key_of_table}
 use Rattle.str_model.proofs.OwnFacts.ScriptsCovered.{ScriptGood, scripts_after}
 use Rattle.si_laws.proofs.Stages.ParticipantSeats.{flat_map_in, own_seat, part_exists}
 use Rattle.si_laws.proofs.Sessions.SessionHolds.{good_everywhere}
@@ -40,6 +40,7 @@ use Rattle.std.proofs.lemmas.Bool.{and_from, false_from_ne_true, not-true}
 use Rattle.str_base.proofs.Members.{any_in, at_in, in_filter, in_map, in_right, map_in}
 use Rattle.str_base.proofs.Tests.{and_true_left, and_true_right, or_false_left, or_false_right}
 use Rattle.str_base.specs.Members.{In}
+use Rattle.str_model.proofs.ViewFacts.MarksRise.{script_op}
 
 -- no timestamp of a run reaches the limit
 abbrev pub Bounded : Type 0

@@ -31,14 +31,7 @@ use Rattle.si_laws.specs.Standing.{IsCommitted}
 use Rattle.str_base.proofs.Lists.{got_replicate}
 use Rattle.std.proofs.lemmas.Bool.{cases_eq}
 use Rattle.str_base.specs.Members.{In}
-
--- a place from a number
-pub nth_place : {X : Type 0} (xs : List X) (s : ℕ) (x : X) → nth xs s ≡ Some x → (i : ℕ) × (s ≡ i + 1) × (slice_get xs i ≡ Some x)
-nth_place xs zero x e = absurd (cc e)
-nth_place xs (suc i) x e = (i, one, e)
-  where
-    one : suc i ≡ i + 1
-    one = omega arith
+use Rattle.si_laws.proofs.Stages.ParticipantSeats.{of_nth}
 
 pub place_nth : {X : Type 0} (xs : List X) (s i : ℕ) (x : X) → s ≡ i + 1 → slice_get xs i ≡ Some x → nth xs s ≡ Some x
 place_nth xs s i x e g = ap (λ k. nth xs k) (e ∙ one) ∙ g

@@ -25,7 +25,7 @@ use Rattle.str_model.proofs.Principle.Everywhere.{AtNode, Sent, Stage, at_place,
 use Rattle.str_model.proofs.Principle.LaterMoments.{Took, at_each_moment, to_end}
 use Rattle.si_laws.proofs.Reasons.AbortChanges.{AbortedBy, ab_evicted, ab_late, ab_lost, ab_met, ab_refused, ab_stop, ab_wish}
 use Rattle.si_laws.proofs.Reasons.CausesTrue.{Aborts, aborts_by, conflict_is}
-use Rattle.si_laws.proofs.Reasons.CommitsAfter.{nth_place, place_nth}
+use Rattle.si_laws.proofs.Reasons.CommitsAfter.{place_nth}
 use Rattle.str_model.proofs.OwnFacts.LocalOwners.{same_own}
 use Rattle.si_laws.proofs.Reasons.KeysWritten.{WroteIn, WroteKey, Written, wrote-act, written-act, written_opening}
 use Rattle.si_laws.proofs.Scripts.ReadsEvaluate.{find_is}
@@ -36,6 +36,7 @@ use Rattle.str_base.proofs.Tests.{and_true_left, and_true_right}
 use Rattle.str_base.proofs.Lists.{get_set, got_set}
 use Rattle.str_base.proofs.Members.{at_in, in_at, in_left}
 use Rattle.str_base.specs.Members.{In}
+use Rattle.si_laws.proofs.Stages.ParticipantSeats.{of_nth}
 
 -- the own transaction of this place has written the key
 abbrev pub WroteAt : ℕ → KeyId → View → Type 0
@@ -189,7 +190,7 @@ module _ (scene : Scene) (ok : IsScene scene) (es : List Event) where
               by_node : (z : Bool) → same_node t'.node (record { 0 = i + 1 }) ≡ z → (if z then nth d.view.own t'.seq else None) ≡ Some x → t' ≡ t
               by_node true s g =
                   let n : t'.node.0 ≡ t.node.0 = eqb-true t'.node.0 (i + 1) s ∙ sym node in
-                  let p = nth_place d.view.own t'.seq x g in
+                  let p = of_nth d.view.own t'.seq x g in
                   let at : b.place ≡ p.0 = e ∙ (ap (λ y. y - 1) p.1 ∙ add-sub_cancel p.0 1) in
                   let q : t'.seq ≡ t.seq = omega (arith, p.1, at, seq) in
                   λ y. record { node = record { 0 = n y }; seq = q y }

@@ -20,6 +20,7 @@ use Rattle.std.proofs.lemmas.Bool.{false_from_ne_true}
 use Rattle.str_base.proofs.Lists.{got_replicate, got_set, slice_get_there}
 use Rattle.str_base.proofs.Members.{in_append}
 use Rattle.str_base.specs.Members.{In}
+use Rattle.std.proofs.lemmas.List.{length-set}
 
 -- what holds of a node
 pub record NodeGood (scene : Scene) (n : ℕ) (answers : List Answer) (v : View) : Type 0 where
@@ -57,11 +58,6 @@ mid_start : (scene : Scene) (n : ℕ) (old : List Answer) (v : View) → NodeGoo
 mid_start scene n old v h =
     record { good = subst (λ (xs : List Answer). NodeGood scene n xs v) (sym (append-nil old)) h; up = r_none; ours = λ a k. absurd k }
 
-pub length_set : {A : Type 0} (xs : List A) (i : ℕ) (y : A) → length (slice_set xs i y) ≡ length xs
-length_set [] i y = refl
-length_set (x ∷ xs) zero y = refl
-length_set (x ∷ xs) (suc i) y = ap suc (length_set xs i y)
-
 pub length_copies : {A : Type 0} (n : ℕ) (y : A) → length (replicate n y) ≡ n
 length_copies zero y = refl
 length_copies (suc n) y = ap suc (length_copies n y)
@@ -85,7 +81,7 @@ good-keeps scene s i v input e is seen p h =
     record {
       nodes = λ n u g. by_node m n u (got_set s.nodes i n e.view u g);
       named = λ a k. elim (in_append s.answers e.released a k) [ inl j ↦ h.named a j | inr j ↦ (i, m.ours a j) ];
-      count = length_set s.nodes i e.view ∙ h.count;
+      count = length-set s.nodes i e.view ∙ h.count;
     }
   where
     by_node : Mid scene i s.answers e → (n : ℕ) (u : View) → ((n ≡ i) × (u ≡ e.view)) ⊎ ((n ≢ i) × (slice_get s.nodes n ≡ Some u)) → NodeGood scene n (s.answers ++ e.released) u

@@ -26,6 +26,7 @@ use Rattle.str_base.proofs.Members.{any_in, at_in, in_at, in_filter, in_map, map
 use Rattle.str_base.proofs.Tests.{and_true_left, and_true_right}
 use Rattle.str_base.proofs.SameNames.{node_by_number, part_by_number}
 use Rattle.str_base.specs.Members.{In}
+use Rattle.str_model.proofs.Room.SmallNumbers.{script_few}
 
 -- ---- writes
 
@@ -81,19 +82,6 @@ writes_few here x g =
         let t : wrote_key r.0 x.writes ≡ true = any_in (λ (w : Write). same_key w.key r.0) x.writes s.0 s.1 (eq-eqb s.0.key.0 r.0.0 (ap (λ (z : KeyId). z.0) s.2)) in
         let o = g.inside r.0 t in
         subst (λ (m : ℕ). In m (flat_map key_of (script_at here.scene x.place))) r.2 (flat_map_in key_of (script_at here.scene x.place) o.1 r.0.0 (in_at (script_at here.scene x.place) o.0 o.1 o.2) (writes_of o.1 r.0 o.3))
-
-script_few : (scene : Scene) → IsScene scene → (place : TxPlace) → length (script_at scene place) ≤ 16
-script_few scene ok place = by_session place.session.0 (nth scene.sessions place.session.0) refl
-  where
-    by_ops : (s : Session) (k : ℕ) → slice_get scene.sessions k ≡ Some s → (m : ℕ) (o : Option (List Op)) → nth s.txs m ≡ o → length (or_none o) ≤ 16
-    by_ops s k g m None q = omega arith
-    by_ops s k g zero (Some ops) q = absurd (cc q)
-    by_ops s k g (suc m) (Some ops) q = ((ok.sessions k s g).scripts m ops q).few
-
-    by_session : (n : ℕ) (o : Option Session) → nth scene.sessions n ≡ o → length (ops_at o place.index) ≤ 16
-    by_session n None q = omega arith
-    by_session zero (Some s) q = absurd (cc q)
-    by_session (suc n) (Some s) q = by_ops s n q place.index (nth s.txs place.index) refl
 
 -- ---- partitions and replicas
 

@@ -3,7 +3,7 @@ use Rattle.si_laws.proofs.Order.CertifiedVersions.{BegunAt, FoundAt, committed_s
 use Rattle.si_laws.proofs.Guards.GuardGrounds.{Grounds, grounds}
 use Rattle.si_laws.proofs.Stages.LinkedStates.{IsCertified, one_certified, one_of}
 use Rattle.si_laws.proofs.Order.MasterFacts.{IsBefore}
-use Rattle.si_laws.proofs.Order.WritersApart.{at_final, key_of_table, kinds, master_of, script_op}
+use Rattle.si_laws.proofs.Order.WritersApart.{at_final, key_of_table, kinds, master_of}
 use Rattle.si_laws.specs.Standing.{IsCommitted}
 use Rattle.std.proofs.Common.{List, ap, arith, eq-eqb, inl, inr, length, refl, slice_get, subst, subst₂, sym, true, ℕ, ◌+◌, ◌<◌, ◌∙◌, ◌≡◌, ◌≢◌, ◌≤◌, ◌⊎◌}
 use Rattle.str_base.specs.Versions.{same_key}
@@ -23,6 +23,7 @@ use Rattle.str_model.specs.Owned.{wrote_key}
 use Rattle.str_model.proofs.OwnFacts.ScriptsCovered.{ScriptGood, scripts_after}
 use Rattle.str_base.proofs.Members.{any_in}
 use Rattle.str_base.specs.Members.{In}
+use Rattle.str_model.proofs.ViewFacts.MarksRise.{script_op}
 
 module _ (scene : Scene) (ok : IsScene scene) (es : List Event) where
   -- a written key is one of the scene

@@ -3,7 +3,7 @@ use Rattle.std.proofs.Common.{Bool, List, None, Option, Some, [], add-one, add-s
 use Rattle.std.proofs.lemmas.List.Sums.{sum_by-cons}
 use Rattle.std.specs.List.{count_by, sum_by}
 use Rattle.si_laws.proofs.Stages.ParticipantSeats.{own_seat}
-use Rattle.si_laws.proofs.Sessions.SessionHolds.{length_copies, length_set}
+use Rattle.si_laws.proofs.Sessions.SessionHolds.{length_copies}
 use Rattle.spsi_laws.proofs.Work.LeftActs.{Eases, asks_one, owns_left, todo, waits_left, weights, weights_append}
 use Rattle.spsi_laws.proofs.Work.LeftHome.{HomeFit, fit-act, mine}
 use Rattle.spsi_laws.proofs.Work.LeftOwn.{left_fresh, left_of}
@@ -43,6 +43,7 @@ use Rattle.std.proofs.lemmas.Bool.{false_from_ne_true}
 use Rattle.str_base.proofs.Lists.{drop_there, got_replicate, got_set, sum_by-set_got}
 use Rattle.str_base.proofs.Members.{in_append, in_map}
 use Rattle.str_base.specs.Members.{In}
+use Rattle.std.proofs.lemmas.List.{length-set}
 
 -- ---- a whole step
 
@@ -258,7 +259,7 @@ happens_even scene w (DeliverEvent i) h = by_message (nth w.sent i)
   where
     by_message : (o : Option Message) → Even (Runs.deliver_event scene (DeliverEvent i) i w o)
     by_message None = h
-    by_message (Some m) = step_at_even scene (DeliverEvent i) m.receiver (Deliver m) (give i w) (nth w.nodes m.receiver.0) (length_set w.given (i - 1) true ∙ h)
+    by_message (Some m) = step_at_even scene (DeliverEvent i) m.receiver (Deliver m) (give i w) (nth w.nodes m.receiver.0) (length-set w.given (i - 1) true ∙ h)
 
 from_even : (scene : Scene) (w : World) (es : List Event) → Even w → Even (run_from scene w es)
 from_even scene w [] h = h

@@ -16,6 +16,7 @@ use Rattle.str_scene.specs.Scenes.{Here}
 use Rattle.str_model.proofs.Changes.SnapshotsGain.{Names, in_insert_dep_old, in_union_right, insert_dep_names}
 use Rattle.str_base.proofs.Members.{filter_in, find_none, in_left, in_right}
 use Rattle.str_base.specs.Members.{In}
+use Rattle.std.proofs.lemmas.Bool.{or_parts}
 
 flat_map_in : {A B : Type 0} (f : A → List B) (xs : List A) (x : A) (y : B) → In x xs → In y (f x) → In y (flat_map f xs)
 flat_map_in f [] x y h k = absurd h
@@ -74,10 +75,6 @@ cert_met here view old new ws lc e v w h k same = by_found (find (conflicts old.
     m : In v (met ws view.versions)
     m = met_in ws view.versions v w h k same
 
-    nor : (a b : Bool) → (a || b) ≡ false → (a ≡ false) × (b ≡ false)
-    nor true b q = absurd cc
-    nor false b q = (refl, q)
-
     by_gate : (b : Bool) (n : ℕ) (s : Snap) (t : Turns.CertTurn) → (t ≡ Certified lc new → ⊥) → (if b then Certified n s else t) ≡ Certified lc new → s ≡ new
     by_gate true n s t f q = cc q
     by_gate false n s t f q = absurd (f q)
@@ -87,7 +84,7 @@ cert_met here view old new ws lc e v w h k same = by_found (find (conflicts old.
     by_found None f q =
         let s : Snap = joined view.own (met ws view.versions) old in
         let is : s ≡ new = by_gate (holds s) _ s _ (λ z. cc z) q in
-        let c = nor (is_pre v.kind) (nat_lt old.rs v.ts.0) (find_none (conflicts old.rs) (met ws view.versions) v f m) in
+        let c = or_parts (is_pre v.kind) (nat_lt old.rs v.ts.0) (find_none (conflicts old.rs) (met ws view.versions) v f m) in
         record {
           not_pre = c.0;
           below = ltb-false old.rs v.ts.0 c.1;

@@ -18,11 +18,12 @@ use Rattle.str_model.specs.Steps.{decides}
 use Rattle.str_model.specs.Views.{Doing, Own, View, is_decided, name_of}
 use Rattle.str_model.proofs.Principle.SingleChanges.{Act, Where, act_abort, act_abort_came, act_accept, act_ack, act_ask, act_begin, act_certify, act_close, act_commit, act_commit_came, act_mark, act_put, act_refuse, act_reply, act_request, act_take, act_unwait, act_wait}
 use Rattle.str_model.proofs.Changes.OwnChanges.{Becomes, OwnStep, aborts, certifies, closes, commits, goes_on, own_step, rests, starts_one, turns_one}
-use Rattle.std.proofs.lemmas.Bool.{and_parts, cases_eq, not-true, or_left, or_right}
+use Rattle.std.proofs.lemmas.Bool.{and_from, and_parts, cases_eq, not-true, or_left, or_right}
 use Rattle.str_base.proofs.Lists.{get_push, get_set, get_set_other}
 use Rattle.str_base.proofs.Members.{in_filter, in_insert_all, in_map, in_without}
 use Rattle.str_base.proofs.SameNames.{same_tx-is}
 use Rattle.str_base.specs.Members.{In}
+use Rattle.str_model.proofs.Changes.PairWords.{becomes-open}
 
 -- the version's transaction is one of another node whose pair is done, or an own one that has its decision
 pub data Finished (here : Here) (v : View) (q : Version) : Type 0 where
@@ -59,13 +60,6 @@ done_act here input w d e (act_wait r d' h) = ([], sym (append-nil d'.view.done)
 done_act here input w d e (act_unwait kept rest r d' h) = ([], sym (append-nil d'.view.done))
 done_act here input w d e (act_reply tx k rs v u fc d' h) = ([], sym (append-nil d'.view.done))
 
-decided_becomes : (v : View) (f g : ℕ) (x y : Own) → Becomes v f g x y → is_decided x.phase ≡ false
-decided_becomes v f g x y (goes_on b e) = b.was_open
-decided_becomes v f g x y (certifies lc o n p q s lt e) = o
-decided_becomes v f g x y (commits lc fc o l c e m) = o
-decided_becomes v f g x y (closes o n e m) = o
-decided_becomes v f g x y (aborts c o e m) = o
-
 -- a decided own transaction stays
 stays_decided : (d e : View) → OwnStep d e → (i : ℕ) (x : Own) → slice_get d.own i ≡ Some x → is_decided x.phase ≡ true → slice_get e.own i ≡ Some x
 stays_decided d e (rests o f) i x q z = ap (λ (xs : List Own). slice_get xs i) o ∙ q
@@ -76,7 +70,7 @@ stays_decided d e (turns_one j y y' is o b) i x q z = ap (λ (xs : List Own). sl
     by_place (inl k) =
         let both : Some x ≡ Some y = sym q ∙ (ap (λ (n : ℕ). slice_get d.own n) k ∙ is) in
         let same : x ≡ y = cc both in
-        absurd (cc (z, ap (λ (u : Own). is_decided u.phase) same, decided_becomes d d.floor e.floor y y' b))
+        absurd (cc (z, ap (λ (u : Own). is_decided u.phase) same, becomes-open d d.floor e.floor y y' b))
     by_place (inr k) = get_set_other d.own j i y' k ∙ q
 
 finished_stays : (here : Here) (input : Input) (w : Where) (d e : Doing) → Act here input w d e → (q : Version) → Finished here d.view q → Finished here e.view q
@@ -91,13 +85,8 @@ last_done : (xs : List (TxId × PartId)) (tx : TxId) (p : PartId) (t : TxId) (r 
 last_done xs tx p t r e f =
     let node : tx.node.0 ≡ t.node.0 = ap (λ (z : TxId). z.node.0) (sym e) in
     let seq : tx.seq ≡ t.seq = ap (λ (z : TxId). z.seq) (sym e) in
-    let one : is_pair t r (tx, p) ≡ true = and_both (same_tx tx t) (same_part p r) (and_both (same_node tx.node t.node) (tx.seq == t.seq) (eq-eqb tx.node.0 t.node.0 node) (eq-eqb tx.seq t.seq seq)) (eq-eqb p.0 r.0 (sym f)) in
+    let one : is_pair t r (tx, p) ≡ true = and_from (same_tx tx t) (same_part p r) (and_from (same_node tx.node t.node) (tx.seq == t.seq) (eq-eqb tx.node.0 t.node.0 node) (eq-eqb tx.seq t.seq seq)) (eq-eqb p.0 r.0 (sym f)) in
     list_any-append (is_pair t r) xs ((tx, p) ∷ []) ∙ or_right (list_any (is_pair t r) xs) (list_any (is_pair t r) ((tx, p) ∷ [])) (or_left (is_pair t r (tx, p)) false one)
-  where
-    and_both : (a b : Bool) → a ≡ true → b ≡ true → (a && b) ≡ true
-    and_both true b g h = h
-    and_both false b g h = absurd cc
-
 finals_by : (here : Here) (input : Input) (w : Where) (d e : Doing) → Act here input w d e → (q : Version) → In q e.view.versions → is_undecided q.kind ≡ false → Finals here d.view → (Finished here d.view q → Finished here e.view q) → Finished here e.view q
 unfolding begun marked aborted committed closed certified asked acked requested accepted taken refused waits replied commit_came abort_came
 finals_by here input w d e (act_begin place rs d' r z) q m k h s = s (h q m k)

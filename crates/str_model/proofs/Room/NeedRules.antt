@@ -51,6 +51,7 @@ use Rattle.str_model.proofs.Room.SmallNumbers.{writes_few}
 use Rattle.str_model.proofs.Principle.RulePaths.{own_named-is}
 use Rattle.str_model.proofs.ViewFacts.TimesEnd.{many_set}
 use Rattle.str_base.proofs.Lists.{got_set}
+use Rattle.str_base.proofs.Tests.{and_true_left}
 
 -- ---- what fits in a message
 
@@ -93,12 +94,7 @@ pub record Ruled (v : View) (r : Doing) : Type 0 where
   pub waiting : length r.view.waiters ≤ length v.waiters + 1
 
 busy_open : (xs : List Own) → how_many is_busy xs ≤ how_many is_open xs
-busy_open xs = many_mono is_busy is_open xs (λ x e. left (is_open x) (not (is_idle x)) e)
-  where
-    left : (a b : Bool) → (a && b) ≡ true → a ≡ true
-    left true b q = refl
-    left false b q = absurd cc
-
+busy_open xs = many_mono is_busy is_open xs (λ x e. and_true_left (is_open x) (not (is_idle x)) e)
 spent_rules : (v : View) (r : Doing) → Spent 32 (starts v) r → Ruled v r
 spent_rules v r s = record { cost_is = (let b = busy_open r.view.own in let c = s.cost_is in omega (arith, b, c)); waiting = s.waiting }
 

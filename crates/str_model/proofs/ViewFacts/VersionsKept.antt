@@ -36,7 +36,7 @@ use Rattle.str_base.proofs.Members.{any_in, in_filter, in_insert_all, in_map, in
 use Rattle.str_base.proofs.SameNames.{same_part-is}
 use Rattle.str_base.proofs.Tests.{and_true_left, and_true_right}
 use Rattle.str_base.proofs.Lists.{get_push, get_set, get_set_other}
-use Rattle.std.proofs.lemmas.Bool.{cases_eq}
+use Rattle.std.proofs.lemmas.Bool.{cases_eq, or_left}
 use Rattle.str_base.specs.Members.{In}
 
 -- ---- a certified transaction keeps its writes
@@ -149,12 +149,7 @@ write_key here ok x g w h =
 
 leads_has : (n : NodeId) (row : List NodeId) → leads n row ≡ true → row_has n row ≡ true
 leads_has n [] e = absurd (cc e)
-leads_has n (r ∷ rs) e = or_yes (same_node r n) (list_any (λ (z : NodeId). same_node z n) rs) e
-  where
-    or_yes : (a b : Bool) → a ≡ true → (a || b) ≡ true
-    or_yes true b q = refl
-    or_yes false b q = absurd cc
-
+leads_has n (r ∷ rs) e = or_left (same_node r n) (list_any (λ (z : NodeId). same_node z n) rs) e
 -- a master has its partition
 pub master_hosts : (here : Here) (p : PartId) → is_master here.scene here.node p ≡ true → hosts here.scene here.node p ≡ true
 master_hosts here p e = leads_has here.node (replicas here.scene p) e
