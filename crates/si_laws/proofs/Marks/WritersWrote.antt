@@ -16,7 +16,7 @@ use Rattle.str_base.specs.declared.names.Value.{Value}
 use Rattle.str_base.specs.declared.names.Version.{Version}
 use Rattle.str_base.specs.declared.names.Write.{Write}
 use Rattle.str_base.specs.Versions.{insert_all, of_pair, of_tx, settled, without}
-use Rattle.str_model.specs.Acts.{abort_came, aborted, accepted, acked, asked, begun, certified, closed, commit_came, committed, fresh, in_phase, is_hosted_of, local_version, marked, pre_version, refused, replied, requested, taken, waits, with_asked}
+use Rattle.str_model.specs.Acts.{abort_came, aborted, accepted, acked, asked, begun, certified, closed, commit_came, committed, decided_as, fresh, in_phase, is_hosted_of, local_version, marked, pre_version, refused, replied, requested, taken, waits, with_asked}
 use Rattle.str_model.specs.declared.messages.Arrived.{Arrived}
 use Rattle.str_model.specs.declared.messages.Body.TheVariants.{ReadReply}
 use Rattle.str_model.specs.declared.messages.Input.{Input}
@@ -115,10 +115,10 @@ module _ (here : Here) (input : Input) (w : Where) where
     own_from e (act_ack i lc from tx p ts parts x d' own c q g) h =
         let y : Own = record x { parts = parts } in set_from d'.view.own i y h (record { reads = (h i x own.0).reads; phase = (h i x own.0).phase })
     own_from e (act_abort i cause x d' own f y) h =
-        let z : Own = in_phase (Aborted (lc_of x.phase) cause) x in set_from d'.view.own i z h (still_from P x z refl (λ k a u fc e. cc e) (h i x own.0))
+        let z : Own = decided_as (Aborted (lc_of x.phase) cause) x in set_from d'.view.own i z h (still_from P x z refl (λ k a u fc e. cc e) (h i x own.0))
     own_from e (act_commit i lc fc x d' own l n le f g) h =
-        let z : Own = in_phase (Committed (Some lc) (Some fc)) x in set_from d'.view.own i z h (still_from P x z refl (λ k a u fc e. cc e) (h i x own.0))
-    own_from e (act_close i x d' own p n) h = let z : Own = in_phase (Committed None None) x in set_from d'.view.own i z h (still_from P x z refl (λ k a u fc e. cc e) (h i x own.0))
+        let z : Own = decided_as (Committed (Some lc) (Some fc)) x in set_from d'.view.own i z h (still_from P x z refl (λ k a u fc e. cc e) (h i x own.0))
+    own_from e (act_close i x d' own p n) h = let z : Own = decided_as (Committed None None) x in set_from d'.view.own i z h (still_from P x z refl (λ k a u fc e. cc e) (h i x own.0))
     own_from e (act_accept a ts d' g m) h = h
     own_from e (act_refuse a u k d' g m) h = h
     own_from e (act_take from a d' c l) h = h

@@ -160,7 +160,7 @@ module _ (here : Here) (input : Input) (p : ℕ) where
   rule_case : (i : Input) (start r : Doing) (x : Own) (lc : Option ℕ) (cause : Cause) (y : Own) → input ≡ i → rule here i start ≡ Some r → Owns (last_of start (input_moments here i start)).view p x → is_decided x.phase ≡ false
       → Case here input p (last_of start (input_moments here i start)) x lc cause y r
   unfolding rule taken
-  rule_case (Client s t) start r x lc cause y e q own op = client_case here input p start x lc cause y own op s t r q
+  rule_case (Client s t) start r x lc cause y e q own op = client_case here input p start x lc cause y own op s t r e q
   rule_case (Deliver m) start r x lc cause y e q own op = by_body m.body refl own
     where
       valid_m : is_valid here m ≡ true

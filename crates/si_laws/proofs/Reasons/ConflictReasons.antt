@@ -24,19 +24,19 @@ use Rattle.str_model.specs.Views.{Doing, Own, View, name_of}
 use Rattle.str_model.proofs.Principle.Everywhere.{AtNode, Sent, Stage, at_place, during, run-append, stage_of, stays_at}
 use Rattle.str_model.proofs.Principle.LaterMoments.{Took, at_each_moment, to_end}
 use Rattle.si_laws.proofs.Reasons.AbortChanges.{AbortedBy, ab_evicted, ab_late, ab_lost, ab_met, ab_refused, ab_stop, ab_wish}
-use Rattle.si_laws.proofs.Reasons.CausesTrue.{Aborts, aborts_by, conflict_is}
+use Rattle.si_laws.proofs.Reasons.CausesTrue.{Aborts, aborts_by, asks_is, conflict_is}
 use Rattle.si_laws.proofs.Reasons.CommitsAfter.{place_nth}
 use Rattle.str_model.proofs.OwnFacts.LocalOwners.{same_own}
 use Rattle.si_laws.proofs.Reasons.KeysWritten.{WroteIn, WroteKey, Written, wrote-act, written-act, written_opening}
 use Rattle.si_laws.proofs.Scripts.ReadsEvaluate.{find_is}
 use Rattle.si_laws.specs.Standing.{Begun, Wrote}
-use Rattle.si_laws.specs.TrueCause.{AbortsAt, BothWrote, Delivered, Evicted, FoundAtHome, HasVersion, TrueConflict}
+use Rattle.si_laws.specs.TrueCause.{AbortsAt, BothWrote, Delivered, Evicted, HasVersion, TrueConflict}
 use Rattle.str_base.proofs.SameNames.{same_key-is, same_tx-is}
 use Rattle.str_base.proofs.Tests.{and_true_left, and_true_right}
 use Rattle.str_base.proofs.Lists.{get_set, got_set}
 use Rattle.str_base.proofs.Members.{at_in, in_at, in_left}
-use Rattle.str_base.specs.Members.{In}
 use Rattle.si_laws.proofs.Stages.ParticipantSeats.{of_nth}
+use Rattle.str_base.specs.Members.{In}
 
 -- the own transaction of this place has written the key
 abbrev pub WroteAt : ℕ → KeyId → View → Type 0
@@ -98,7 +98,7 @@ module _ (scene : Scene) (ok : IsScene scene) (es : List Event) where
     where
       by_kind : (b : Aborts scene ok es j t d x (ByConflict u k n) a) → AbortedBy (at_place scene b.took_.takes.place) b.took_.takes.input d b.place x (ByConflict u k n)
           → TrueConflict scene (run scene es) (trace scene es) j t d x u k n ⊎ RefuseHere j t u k n
-      by_kind b (ab_met snap u' k' rs v vs e c) =
+      by_kind b (ab_met snap u' k' asks rs v vs e c) =
           let g = b.took_ in
           let eu : u' ≡ u = cc c in
           let ek : k' ≡ k = cc c in
@@ -112,7 +112,7 @@ module _ (scene : Scene) (ok : IsScene scene) (es : List Event) where
           let key : r.0.key ≡ k = r.3 ∙ ek in
           inl (
             (wrote_is x k (r.5.0, r.5.1, r.5.2 ∙ ek), w'.0, subst (λ z. Begun (run scene es) z w'.0) tx w'.1, subst (Wrote w'.0) key w'.2),
-            inl (inl (sym en ∙ sym g.node, (r.0, (at.0, at.1, tx, key), elim r.4 [ inl z ↦ inl z | inr z ↦ inr (omega (arith, z, rs)) ]))),
+            inl (inl (sym en ∙ sym g.node, (asks_is scene ok es j t d x (ByConflict u k n) a b asks, (r.0, (at.0, at.1, tx, key), elim r.4 [ inl z ↦ inl z | inr z ↦ inr (omega (arith, z, rs)) ])))),
           )
       by_kind b (ab_evicted from c w m h e) =
           let g = b.took_ in
@@ -197,5 +197,5 @@ module _ (scene : Scene) (ok : IsScene scene) (es : List Event) where
               by_node false s g = absurd (cc g)
       by_kind b (ab_lost q f es e c) = absurd (cc c)
       by_kind b (ab_late q fc f es e c) = absurd (cc c)
-      by_kind b (ab_stop e c) = absurd (cc c)
+      by_kind b (ab_stop st ph e c) = absurd (cc c)
       by_kind b (ab_wish e f c) = absurd (cc c)

@@ -25,6 +25,7 @@ use Rattle.str_model.proofs.OwnFacts.PlacesInOrder.{InOrder}
 use Rattle.std.proofs.lemmas.Bool.{false_from_ne_true}
 use Rattle.str_base.proofs.Lists.{set_got, slice_get_there}
 use Rattle.str_base.proofs.Members.{in_at}
+use Rattle.std.proofs.lemmas.List.{length-set}
 
 less_one : (j : ℕ) → suc j - 1 ≡ j
 less_one j = omega arith
@@ -187,7 +188,7 @@ module _ (scene : Scene) where
       by_session (Some text) = step_at_outcome (ClientEvent s t) text.node (Client s t) w (nth w.nodes text.node.0) r refl
 
   given_ready : (i : ℕ) (w : World) → Ready scene w → Ready scene (give i w)
-  given_ready i w r = record { sound = r.sound; order = r.order; even = Rattle.si_laws.proofs.Sessions.SessionHolds.length_set w.given (i - 1) true ∙ r.even }
+  given_ready i w r = record { sound = r.sound; order = r.order; even = length-set w.given (i - 1) true ∙ r.even }
 
   -- a delivery: before it the message counts as given
   pub deliver_outcome : (w : World) (i : ℕ) (m : Message) → Ready scene w → nth w.sent i ≡ Some m → Outcome scene (DeliverEvent i) (give i w) (happens scene w (DeliverEvent i)) (body_weight scene m.body)

@@ -11,7 +11,7 @@ use Rattle.str_base.specs.declared.names.Write.{Write}
 use Rattle.str_base.specs.Versions.{same_part}
 use Rattle.str_model.proofs.Principle.SingleChanges.{Act, Arrives, IsMasters, NextPlace, Where, a_prepare, a_read, is_first, is_next}
 use Rattle.str_model.proofs.Changes.AnswerChanges.{TellStep, last_index-none, t_begins, t_decides, t_goes, t_rests, tell_step}
-use Rattle.str_model.specs.Acts.{fresh, with_asked}
+use Rattle.str_model.specs.Acts.{decided_as, fresh, with_asked}
 use Rattle.str_model.specs.Clients.{last_index}
 use Rattle.str_model.specs.Owned.{Owns}
 use Rattle.str_model.specs.Views.{Doing, Own, View}
@@ -180,7 +180,7 @@ counted-tell : (here : Here) (d e : Doing) → TellStep here d e → Counted d.v
 counted-tell here d e (t_rests o r) h = subst Counted (sym o) h
 counted-tell here d e (t_begins place rs b o r) h = subst Counted (sym o) (counted_push d.view.own place rs b.next h)
 counted-tell here d e (t_goes i x y is f g p q o r) h = subst Counted (sym o) (counted_set d.view.own i x y is p h)
-counted-tell here d e (t_decides i x y is f g p q o r) h = subst Counted (sym o) (counted_set d.view.own i x y is p h)
+counted-tell here d e (t_decides i x p is f g o r) h = subst Counted (sym o) (counted_set d.view.own i x (decided_as p x) is refl h)
 
 -- ---- parked at its master
 

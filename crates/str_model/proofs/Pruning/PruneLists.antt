@@ -1,12 +1,11 @@
 -- What a list of versions keeps when it is pruned, and that pruning again, later or after a change comes to the same.
-use Rattle.std.proofs.Common.{Bool, List, None, Option, Some, [], ap, arith, eq-eqb, eqb-true, false, filter, if◌then◌else◌, inl, inr, nat_le, not, refl, subst, sym, true, ℕ, ◌&&◌, ◌<◌, ◌==◌, ◌||◌, ◌∙◌, ◌∷◌, ◌≡◌, ◌≤◌, ◌⊎◌, leb-true, le-leb}
+use Rattle.std.proofs.Common.{Bool, List, None, Option, Some, [], ap, arith, eq-eqb, eqb-true, false, filter, if◌then◌else◌, inl, inr, nat_le, not, refl, subst, true, ℕ, ◌&&◌, ◌||◌, ◌∙◌, ◌∷◌, ◌≡◌, ◌≤◌, ◌⊎◌, leb-true, le-leb}
 use Rattle.std.specs.List.{last_or, list_any}
 use Rattle.str_base.specs.declared.names.KeyId.{KeyId}
 use Rattle.str_base.specs.declared.names.Version.{Version}
-use Rattle.str_base.specs.Versions.{chain, insert_all, insert_version, is_before, is_undecided, newest, same_key, ts_or_zero, visible, without}
+use Rattle.str_base.specs.Versions.{is_undecided, newest, same_key, ts_or_zero, visible}
 use Rattle.str_model.specs.Pruning.{covers, hides, pruned_versions}
 use Rattle.std.proofs.lemmas.Bool.{and_from, and_parts, or_cases, or_left, or_right}
-use Rattle.str_base.specs.Members.{In}
 
 -- a test that the other implies
 pub any_more : (p q : Version → Bool) → ((v : Version) → p v ≡ true → q v ≡ true) → (vs : List Version) → list_any p vs ≡ true → list_any q vs ≡ true

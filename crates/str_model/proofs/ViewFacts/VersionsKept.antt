@@ -150,6 +150,7 @@ write_key here ok x g w h =
 leads_has : (n : NodeId) (row : List NodeId) → leads n row ≡ true → row_has n row ≡ true
 leads_has n [] e = absurd (cc e)
 leads_has n (r ∷ rs) e = or_left (same_node r n) (list_any (λ (z : NodeId). same_node z n) rs) e
+
 -- a master has its partition
 pub master_hosts : (here : Here) (p : PartId) → is_master here.scene here.node p ≡ true → hosts here.scene here.node p ≡ true
 master_hosts here p e = leads_has here.node (replicas here.scene p) e
