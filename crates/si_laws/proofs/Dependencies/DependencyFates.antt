@@ -32,10 +32,6 @@ pub data Stays (w : Where) (e : View) (i : ℕ) (x : Own) : Type 0 where
   now_committed : w ≡ InTurn i → x.snap.deps ≡ [] → (y : Own) → Owns e i y → y.snap ≡ x.snap → Stays w e i x
   now_aborted : (y : Own) → Owns e i y → IsAborted y → Stays w e i x
 
--- where the list only grows or one that goes on is set
-open_after : (w : Where) (d e : View) (i : ℕ) (x : Own) → Owns d i x → is_decided x.phase ≡ false → e.own ≡ d.own → Stays w e i x
-open_after w d e i x own op q = stays_open x (rw q own) op
-
 set_after : (w : Where) (d e : View) (n i : ℕ) (x z y : Own) → Owns d i x → is_decided x.phase ≡ false → Owns d n z → e.own ≡ slice_set d.own n y → (i ≡ n → x ≡ z → Stays w e i x) → Stays w e i x
 set_after w d e n i x z y own op is q this =
     elim (cases_eq i n) [

@@ -69,14 +69,6 @@ count_none p (x ∷ xs) h =
     let b : one_if (p x) ≡ 0 = ap one_if (h 0 x refl) in
     omega (arith, r, a, b)
 
--- one counted more where a list grows at its end
-pub count_more : {A : Type 0} (p : A → Bool) (xs : List A) (y : A) → count_by p (xs ++ y ∷ []) ≤ count_by p xs + 1
-count_more p xs y = by_test (p y) (count_push p xs y)
-  where
-    by_test : (b : Bool) → count_by p (xs ++ y ∷ []) ≡ count_by p xs + one_if b → count_by p (xs ++ y ∷ []) ≤ count_by p xs + 1
-    by_test true e = omega (arith, e)
-    by_test false e = omega (arith, e)
-
 -- ---- lengths
 
 -- fewer of a list that is filtered by a stronger test count for less

@@ -70,9 +70,6 @@ key_back w (u ∷ us) k e = by_test (same_key u.key w.key) e (key_back w us k)
       | inr q ↦ (elim (rec q) [ inl z ↦ inl (or_right (same_key u.key k) (wrote_key k us) z) | inr z ↦ inr z ])
     ]
 
-other_way : (a b : KeyId) → same_key a b ≡ false → same_key b a ≡ false
-other_way a b e = false_from_ne_true (same_key b a) (λ q. absurd (cc (eq-eqb a.0 b.0 (sym (eqb-true b.0 a.0 q)), e)))
-
 -- a key that was not there is not there after a write of another one
 none_of : (w : Write) (ws : List Write) (k : KeyId) → list_any (same_key k) (map (λ (z : Write). z.key) ws) ≡ false → same_key k w.key ≡ false
     → list_any (same_key k) (map (λ (z : Write). z.key) (set_write w ws)) ≡ false

@@ -119,6 +119,3 @@ module _ (here : Here) where
   needy-act input w d e (act_reply tx k rs v u fc d' g) h i y own = h i y own
   needy-act input w d e (act_commit_came from tx p fc ms d' c g) h i y own = h i y own
   needy-act input w d e (act_abort_came from tx p d' c g) h i y own = h i y own
-
-pub needy_opening : (here : Here) → AllNeedy here (opening_view here.scene)
-needy_opening here i x own = absurd (cc own)

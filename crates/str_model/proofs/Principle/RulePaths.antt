@@ -51,12 +51,6 @@ none_of_three true true c d e = absurd cc
 none_of_three true false true d e = absurd cc
 none_of_three true false false d e = (refl, refl, not-true d e)
 
--- what is taken: the node is a slave, not the origin, and the pair is new
-pub takes_parts : (here : Here) (a : Arrived) (d : Doing) → takes here d.view a ≡ true
-    → (is_master here.scene here.node a.part ≡ false) × (same_node a.tx.node here.node ≡ false) × (Proposals.is_known d.view a.tx a.part ≡ false)
-unfolding takes
-takes_parts here a d h = none_of_three (hosts here.scene here.node a.part) (is_master here.scene here.node a.part) (same_node a.tx.node here.node) (Proposals.is_known d.view a.tx a.part) h
-
 fewer : (p test : Version → Bool) (vs : List Version) → list_any p vs ≡ false → list_any p (without test vs) ≡ false
 fewer p test [] e = refl
 fewer p test (v ∷ vs) e =

@@ -56,9 +56,6 @@ proposed_pruned g view a = (λ j. max a.lc.0 (1 + passed_pruned g view a.writes 
 
 -- ---- the master
 
-not_open : (kind : Kind) → is_undecided kind ≡ false → not (is_undecided kind) ≡ true
-not_open kind e = rw e refl
-
 parks_none : (g : ℕ) (a : Arrived) (v : Version) → is_undecided v.kind ≡ false → v.ts.0 ≤ g → parks a v ≡ false
 parks_none g a v e low = rw e refl
 
