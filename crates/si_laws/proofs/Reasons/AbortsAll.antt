@@ -41,7 +41,7 @@ use Rattle.str_model.proofs.Principle.MomentPaths.{take_is}
 use Rattle.si_laws.proofs.Reasons.AbortChanges.{AbortedBy, ab_refused, aborted_cause, evict_by, half_by, turn_by}
 use Rattle.si_laws.proofs.Reasons.AbortLinks.{Case, by_if, client_case, kept_case, left_alone, master_case, read_req_case, same_case, set_case}
 use Rattle.str_base.proofs.Lists.{get_set_other}
-use Rattle.std.proofs.lemmas.Bool.{cases_eq}
+use Rattle.std.proofs.lemmas.Bool.{and_parts, cases_eq}
 
 -- an abort leaves the others
 aborted_other : (here : Here) (i p : ℕ) (cause : Cause) (z : Own) (d : Doing) → p ≢ i → slice_get (aborted here i cause z d).view.own p ≡ slice_get d.view.own p
@@ -113,15 +113,11 @@ module _ (here : Here) (input : Input) (p : ℕ) where
     unfolding Returns.refuse_rule
     refuse_case from tx q u k r c e = by_own (own_named here tx d) refl e
       where
-        both : (a b : Bool) → (a && b) ≡ true → (a ≡ true) × (b ≡ true)
-        both true b g = (refl, g)
-        both false b g = absurd (cc g)
-
         by_phase : (z : Own) (ph : Phase) → own_named here tx d ≡ Some z → z.phase ≡ ph → Returns.refuse_phase here (tx.seq - 1) z from q u k ph d ≡ Some r → Case here input p d x lc cause y r
         by_phase z (Global l) n f g o a =
             let s = by_if here input p d x lc cause y own op (has_asked z.parts q && is_master here.scene from q) (Some (aborted here (tx.seq - 1) (ByConflict u k from) z d)) r g in
             let is : aborted here (tx.seq - 1) (ByConflict u k from) z d ≡ r = cc s.1 in
-            let t = both (has_asked z.parts q) (is_master here.scene from q) s.0 in
+            let t = and_parts (has_asked z.parts q) (is_master here.scene from q) s.0 in
             elim (cases_eq p (tx.seq - 1)) [
               | inl w ↦ (let at : Some z ≡ Some x = sym (named_get tx z n) ∙ (ap (λ b. slice_get d.view.own b) (sym w) ∙ own) in
                   let zx : z ≡ x = cc at in

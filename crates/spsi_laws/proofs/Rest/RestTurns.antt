@@ -314,7 +314,7 @@ module _ (here : Here) where
       by_ack f (Some a) q k =
           let r = Rattle.spsi_laws.proofs.Rest.RestStages.find_is (λ (z : Asked). not (is_some z.ack)) x.parts a q in
           let m = find_none (Gates.may_ask wrote) x.parts a f r.0 in
-          (a, r.0, is_asked a.asked (ap (λ ws. not a.asked && not (Gates.is_written ws a.part)) (sym none_wrote) ∙ m), no_ack a.ack r.1)
+          (a, r.0, is_asked a.asked (ap (λ ws. not a.asked && not (Gates.dependency_wrote ws a.part)) (sym none_wrote) ∙ m), no_ack a.ack r.1)
       by_ack f None q k = absurd (nc _ (sym k))
 
       by_deps : find (Gates.may_ask wrote) x.parts ≡ None → (ds : List Dep) → x.snap.deps ≡ ds → Gates.gate_deps lc x.parts ds ≡ t → (a : Asked) × In a x.parts × (a.asked ≡ true) × (a.ack ≡ None)

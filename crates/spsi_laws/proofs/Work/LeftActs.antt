@@ -27,6 +27,7 @@ use Rattle.str_model.proofs.OwnFacts.AtHome.{OwnGood}
 use Rattle.str_base.proofs.Tests.{and_true_left}
 use Rattle.str_base.proofs.Lists.{sum_by-set_got}
 use Rattle.str_base.specs.Members.{In}
+use Rattle.std.proofs.lemmas.Bool.{not-true}
 
 -- what messages count for
 unfoldable pub weights : Scene → List Message → ℕ
@@ -201,10 +202,6 @@ module _ (here : Here) where
   unfolding gate_turn
   asks_one snap lc parts wrote p e = by_ask (find (Gates.may_ask wrote) parts) refl e
     where
-      not_so : (b : Bool) → not b ≡ true → b ≡ false
-      not_so true q = absurd (cc q)
-      not_so false q = refl
-
       by_ack : (o : Option Asked) → Gates.gate_acks lc parts o ≡ Ask p → ⊥
       by_ack (Some a) k = cc k
       by_ack None k = cc k
@@ -216,7 +213,7 @@ module _ (here : Here) where
       by_ask : (o : Option Asked) → find (Gates.may_ask wrote) parts ≡ o → Gates.gate_asks snap lc parts o ≡ Ask p → (a : Asked) × In a parts × (a.part ≡ p) × (a.asked ≡ false)
       by_ask (Some a) q k =
           let f = find_is (Gates.may_ask wrote) parts a q in
-          (a, f.0, (let s : a.part ≡ p = cc k in s), not_so a.asked (and_true_left (not a.asked) (not (Gates.is_written wrote a.part)) f.1))
+          (a, f.0, (let s : a.part ≡ p = cc k in s), not-true a.asked (and_true_left (not a.asked) (not (Gates.dependency_wrote wrote a.part)) f.1))
       by_ask None q k = absurd (by_deps snap.deps k)
 
   -- a partition is asked

@@ -28,7 +28,7 @@ use Rattle.str_model.proofs.Changes.PairWords.{any_has}
 use Rattle.str_model.proofs.Changes.PairChanges.{unknown_not}
 use Rattle.str_model.proofs.OwnFacts.DependenciesStand.{fate_open}
 use Rattle.str_model.proofs.ViewFacts.ValidMessages.{NamedWrites}
-use Rattle.std.proofs.lemmas.Bool.{false_from_ne_true}
+use Rattle.std.proofs.lemmas.Bool.{and_from, false_from_ne_true}
 use Rattle.str_base.proofs.Members.{any_in}
 use Rattle.str_base.proofs.SameNames.{same_part-is}
 use Rattle.str_base.proofs.Tests.{and_true_left, and_true_right}
@@ -118,12 +118,8 @@ module _ (here : Here) (v : View) (h : MomentFacts here v) where
       let key : u.key ≡ w.key = λ i. record { 0 = eqb-true u.key.0 w.key.0 k i } in
       let part : u.part ≡ a.part = (h.versions u m).part ∙ (ap (λ z. part_of here.scene z) key ∙ same_part-is (part_of here.scene w.key) a.part (n.keys w j).1) in
       let p : same_part u.part a.part ≡ true = eq-eqb u.part.0 a.part.0 (ap (λ (z : PartId). z.0) part) in
-      cc (f u m, both_true (same_tx u.tx a.tx) (same_part u.part a.part) t p)
+      cc (f u m, and_from (same_tx u.tx a.tx) (same_part u.part a.part) t p)
     where
-      both_true : (x y : Bool) → x ≡ true → y ≡ true → (x && y) ≡ true
-      both_true true y p q = q
-      both_true false y p q = absurd cc
-
   -- a pair that is not known has no version
   pub unknown_none : (a : Arrived) → is_known v a.tx a.part ≡ false → (u : Version) → In u v.versions → of_pair a.tx a.part u ≡ false
   unknown_none a f u m = false_from_ne_true (of_pair a.tx a.part u) (λ e. unknown_not a.tx a.part v f (inr (u, m, e)))
