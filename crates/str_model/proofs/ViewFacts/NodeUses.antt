@@ -119,7 +119,7 @@ module _ (here : Here) (v : View) (h : MomentFacts here v) where
       let part : u.part ≡ a.part = (h.versions u m).part ∙ (ap (λ z. part_of here.scene z) key ∙ same_part-is (part_of here.scene w.key) a.part (n.keys w j).1) in
       let p : same_part u.part a.part ≡ true = eq-eqb u.part.0 a.part.0 (ap (λ (z : PartId). z.0) part) in
       cc (f u m, and_from (same_tx u.tx a.tx) (same_part u.part a.part) t p)
-    where
+
   -- a pair that is not known has no version
   pub unknown_none : (a : Arrived) → is_known v a.tx a.part ≡ false → (u : Version) → In u v.versions → of_pair a.tx a.part u ≡ false
   unknown_none a f u m = false_from_ne_true (of_pair a.tx a.part u) (λ e. unknown_not a.tx a.part v f (inr (u, m, e)))
