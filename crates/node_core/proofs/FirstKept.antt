@@ -27,8 +27,9 @@ use Rattle.node_core.proofs.Ordered.{Apart, and_cases, in_order_sorted, sorted_i
 use Rattle.node_core.proofs.Places.{count_push, count_set, count_take_set, got_below, one_if, take_push, take_whole}
 use Rattle.node_core.proofs.Settling.{AllApart, Differ, insert_all_sorted}
 use Rattle.node_core.proofs.Writes.{not_false, or_neither}
-use Rattle.str_model.proofs.Lists.Members.{In, at_in, in_at, in_insert_all, in_map}
-use Rattle.str_model.proofs.Lists.ListReads.{get_set, get_set_other, got_push, got_set}
+use Rattle.str_base.proofs.Lists.{get_set, get_set_other, got_push, got_set}
+use Rattle.str_base.proofs.Members.{at_in, in_at, in_insert_all, in_map}
+use Rattle.str_base.specs.Members.{In}
 
 -- ---- what is carried over to another view
 

@@ -10,9 +10,7 @@ use Rattle.si_laws.proofs.Guards.VersionOrigins.{HasWritten}
 use Rattle.si_laws.proofs.CommitLists.ReadsSeen.{IsAbove, IsRight, Reads, of_none, of_one, reads_keep, reads_seen, top_of}
 use Rattle.si_laws.proofs.Sources.FinalsReported.{CommittedIn}
 use Rattle.str_model.proofs.OwnFacts.ScriptsCovered.{ScriptGood, scripts_after}
-use Rattle.str_model.proofs.Changes.PairWords.{has_at}
 use Rattle.str_model.proofs.Principle.Everywhere.{at_place, stage_of}
-use Rattle.str_model.proofs.Lists.Members.{In, at_in, in_at}
 use Rattle.si_laws.specs.Commits.{seen}
 use Rattle.str_model.specs.Owned.{wrote_key}
 use Rattle.si_laws.specs.SnapshotIsolation.{IsAnswer, IsCommittedAt, SI}
@@ -35,6 +33,8 @@ use Rattle.str_scene.specs.SceneLimits.{IsScene}
 use Rattle.str_scene.specs.Scenes.{Scene, script_at}
 use Rattle.str_scene.specs.declared.names.Event.{Event}
 use Rattle.str_scene.specs.declared.names.TxPlace.{TxPlace}
+use Rattle.str_base.proofs.Members.{any_in, at_in, in_at}
+use Rattle.str_base.specs.Members.{In}
 
 -- what a transaction has got and written at the end of its script
 abbrev pub done_of : List Got → Own → Evaluated
@@ -64,7 +64,7 @@ module _ (scene : Scene) (ok : IsScene scene) (es : List Event) where
 
   -- the key of a write stands in its buffer
   wrote_in : (ws : List Write) (k : KeyId) (a : Value) → In (record { key = k; value = a }) ws → wrote_key k ws ≡ true
-  wrote_in ws k a m = has_at (λ (z : Write). same_key z.key k) ws (record { key = k; value = a }) m (eq-eqb k.0 k.0 refl)
+  wrote_in ws k a m = any_in (λ (z : Write). same_key z.key k) ws (record { key = k; value = a }) m (eq-eqb k.0 k.0 refl)
 
   module _ (n : ℕ) (si : SI scene (take n (run scene es).answers)) (so : SeenSo n) where
     -- a commit among them that is seen to write the key

@@ -12,7 +12,6 @@ use Rattle.str_base.specs.declared.names.Version.{Version}
 use Rattle.str_model.proofs.Principle.SingleChanges.{Act, Change, ReadsTo, Where, act_abort, act_abort_came, act_accept, act_ack, act_ask, act_begin, act_certify, act_close, act_commit, act_commit_came, act_mark, act_put, act_refuse, act_reply, act_request, act_take, act_unwait, act_wait, ch_away, ch_blind, ch_close, ch_gate, ch_known, ch_read, ch_reply, ch_resolve, ch_take, ch_wait, to_final, to_local}
 use Rattle.str_model.proofs.Changes.OwnGoesOn.{asks-phase, reads-phase}
 use Rattle.str_model.proofs.Changes.SnapshotsGain.{Names}
-use Rattle.str_model.proofs.Lists.Members.{In}
 use Rattle.str_model.specs.Acts.{abort_came, aborted, accepted, acked, asked, begun, certified, closed, commit_came, committed, fresh, marked, refused, replied, requested, taken, waits}
 use Rattle.str_model.specs.Owned.{Owns}
 use Rattle.str_model.specs.Scripts.{finish_next, noted, own_op}
@@ -23,6 +22,7 @@ use Rattle.str_model.specs.declared.names.ReadDone.{ReadDone}
 use Rattle.str_scene.specs.Scenes.{Here}
 use Rattle.str_scene.specs.declared.names.TxPlace.{TxPlace}
 use Rattle.str_model.proofs.ViewFacts.MarksRise.{finish-looks, finish_next-looks}
+use Rattle.str_base.specs.Members.{In}
 
 -- where a new read comes from, and that the snapshot has taken it in
 pub data Source (v : View) (x : Own) (new : Snap) (r : ReadDone) : Type 0 where

@@ -13,8 +13,6 @@ use Rattle.str_base.specs.declared.names.Write.{Write}
 use Rattle.str_base.specs.Versions.{same_key, same_node}
 use Rattle.str_model.proofs.Principle.SingleChanges.{InTurn, Path}
 use Rattle.str_model.proofs.Changes.SnapshotsGain.{Names, if_elim}
-use Rattle.str_model.proofs.Lists.ListReads.{got_push, got_set}
-use Rattle.str_model.proofs.Lists.Members.{In}
 use Rattle.str_model.proofs.Principle.OwnPaths.{free_at, op_or_commit-path}
 use Rattle.str_model.proofs.Principle.RulePaths.{named_owns}
 use Rattle.str_model.specs.Acts.{abort_came, aborted, accepted, acked, begun, commit_came, decided_as, fresh, in_phase, marked, refused, replied, taken, waits}
@@ -42,6 +40,8 @@ use Rattle.str_scene.specs.Scenes.{Here, Session, hosts_key, is_master, nth}
 use Rattle.str_scene.specs.declared.names.Op.{Op}
 use Rattle.str_base.specs.declared.names.SessionId.{SessionId}
 use Rattle.str_scene.specs.declared.names.TxPlace.{TxPlace}
+use Rattle.str_base.proofs.Lists.{got_push, got_set}
+use Rattle.str_base.specs.Members.{In}
 
 -- a client step works on one own transaction as its turn does, or nothing is read and no dependency is gained
 pub data Ruled (here : Here) (input : Input) (d r : Doing) : Type 0 where

@@ -15,8 +15,10 @@ use Rattle.str_scene.specs.Scenes.{Here, first_or, hosts_key, part_of, replicas}
 use Rattle.str_model.specs.Turns.{Away, CertTurn, Certified, Conflict, Plain, ReadTurn, Speculative, Wait, WaitGate, cert_turn, conflicts, joined, met, passed, read_turn, reply_turn, take_over}
 use Rattle.str_model.specs.Turns
 use Rattle.str_model.specs.Views.{Own, View}
-use Rattle.str_model.proofs.Changes.SnapshotsGain.{Names, find_none, if_elim, in_insert_dep, in_insert_dep_old, in_met, in_union, in_union_right, insert_dep_names, or_false_right, union_names, visible-is}
-use Rattle.str_model.proofs.Lists.Members.{In}
+use Rattle.str_model.proofs.Changes.SnapshotsGain.{Names, if_elim, in_insert_dep, in_insert_dep_old, in_met, in_union, in_union_right, insert_dep_names, union_names, visible-is}
+use Rattle.str_base.proofs.Tests.{and_true_left, and_true_right, or_false_right}
+use Rattle.str_base.proofs.Members.{find_none, in_filter, in_flat_map}
+use Rattle.str_base.specs.Members.{In}
 
 -- a dependency that is gained comes with all of its Local version's transaction: that one's number, dependencies and greatest final timestamp
 pub record GainsAll (v : View) (rs : ℕ) (new : Snap) (dep : Dep) : Type 0 where
@@ -212,5 +214,5 @@ cert-grows here v snap ws lc new e = subst (CertGrows v snap) e (cert-grows_any 
 pub gate_below : (ffc : ℕ) (ds : List Dep) (d : Dep) → Rattle.std.specs.List.list_all (λ (z : Dep). Rattle.std.proofs.Common.nat_le ffc z.rs.0) ds ≡ true → In d ds → ffc ≤ d.rs.0
 gate_below ffc [] d e h = absurd h
 gate_below ffc (x ∷ xs) d e (inl q) =
-    let l : ffc ≤ x.rs.0 = Rattle.std.proofs.Common.leb-true ffc x.rs.0 (Rattle.str_model.proofs.Changes.SnapshotsGain.and_left _ _ e) in omega (arith, l, ap (λ (z : Dep). z.rs.0) q)
-gate_below ffc (x ∷ xs) d e (inr h) = gate_below ffc xs d (Rattle.str_model.proofs.Changes.SnapshotsGain.and_right _ _ e) h
+    let l : ffc ≤ x.rs.0 = Rattle.std.proofs.Common.leb-true ffc x.rs.0 (and_true_left _ _ e) in omega (arith, l, ap (λ (z : Dep). z.rs.0) q)
+gate_below ffc (x ∷ xs) d e (inr h) = gate_below ffc xs d (and_true_right _ _ e) h

@@ -42,14 +42,15 @@ use Rattle.str_model.specs.Views.{Aborted, Active, CertWait, Closing, Committed,
 use Rattle.str_scene.specs.SceneLimits.{IsScene}
 use Rattle.str_scene.specs.Scenes.{Here, Session, hosts_key, is_master, nth, replicas}
 use Rattle.str_model.proofs.Room.PartCosts.{Grew, aborted_cost, certified_cost, copies_seven, cost, parts_few, put_cost}
-use Rattle.str_model.proofs.Lists.ListCounts.{many_append}
+use Rattle.str_model.proofs.ListCounts.{many_append}
 use Rattle.str_model.proofs.OwnFacts.FewOwn.{is_open}
 use Rattle.str_model.proofs.ViewFacts.GatesEnd.{many_mono}
-use Rattle.str_model.proofs.Lists.ListReads.{got_set}
 use Rattle.str_model.proofs.Room.NeedTurns.{read_cost}
 use Rattle.str_model.proofs.Room.SmallNumbers.{writes_few}
 use Rattle.str_model.proofs.Principle.RulePaths.{named_owns}
 use Rattle.str_model.proofs.ViewFacts.TimesEnd.{many_set}
+use Rattle.str_base.proofs.Lists.{got_set}
+use Rattle.str_base.proofs.Tests.{and_true_left}
 
 -- ---- what fits in a message
 
@@ -92,11 +93,7 @@ pub record Ruled (v : View) (r : Doing) : Type 0 where
   pub waiting : length r.view.waiters ≤ length v.waiters + 1
 
 busy_open : (xs : List Own) → how_many is_busy xs ≤ how_many is_open xs
-busy_open xs = many_mono is_busy is_open xs (λ x e. left (is_open x) (not (is_idle x)) e)
-  where
-    left : (a b : Bool) → (a && b) ≡ true → a ≡ true
-    left true b q = refl
-    left false b q = absurd cc
+busy_open xs = many_mono is_busy is_open xs (λ x e. and_true_left (is_open x) (not (is_idle x)) e)
 
 spent_rules : (v : View) (r : Doing) → Spent 32 (starts v) r → Ruled v r
 spent_rules v r s = record { cost_is = (let b = busy_open r.view.own in let c = s.cost_is in omega (arith, b, c)); waiting = s.waiting }
