@@ -2,7 +2,7 @@
 use Rattle.si_laws.proofs.Isolation.BehindAnswers.{Behind, WriterOf, behind, commit_phase, committed_in, find_write, get_take, ground, has_written, known, take_get, times_of, writer_of}
 use Rattle.si_laws.proofs.Isolation.WritersAnswered.{IsKept}
 use Rattle.si_laws.proofs.CommitLists.CommitOrder.{named}
-use Rattle.si_laws.proofs.Scripts.ReadsEvaluate.{Evaluates, PhaseGives, ends-at}
+use Rattle.si_laws.proofs.Scripts.ReadsEvaluate.{Evaluates}
 use Rattle.si_laws.proofs.Sessions.SessionHolds.{good_everywhere}
 use Rattle.si_laws.proofs.Guards.GuardedNewest.{newest_none}
 use Rattle.si_laws.proofs.CommitLists.NextAnswer.{Covered, Keeps}
@@ -14,7 +14,7 @@ use Rattle.str_model.proofs.Principle.Everywhere.{at_place, stage_of}
 use Rattle.si_laws.specs.Commits.{seen}
 use Rattle.str_model.specs.Owned.{wrote_key}
 use Rattle.si_laws.specs.SnapshotIsolation.{IsAnswer, IsCommittedAt, SI}
-use Rattle.std.proofs.Common.{List, None, Option, Some, ap, arith, eq-eqb, find, inl, inr, refl, subst, sym, take, true, ℕ, ◌<◌, ◌∙◌, ◌≡◌, ◌≤◌, ◌⊎◌}
+use Rattle.std.proofs.Common.{List, None, Option, Some, ap, arith, eq-eqb, find, inl, inr, refl, sym, take, true, ℕ, ◌<◌, ◌∙◌, ◌≡◌, ◌≤◌, ◌⊎◌}
 use Rattle.str_base.specs.Versions.{same_key, stamp}
 use Rattle.str_base.specs.declared.names.KeyId.{KeyId}
 use Rattle.str_base.specs.declared.names.Ts.{Ts}
@@ -24,8 +24,7 @@ use Rattle.str_base.specs.declared.names.Value.{Value}
 use Rattle.str_base.specs.declared.names.Write.{Write}
 use Rattle.str_model.specs.Evaluation.{AtEnd, Evaluated, Unmet, eval, write_or}
 use Rattle.str_model.specs.Runs.{run}
-use Rattle.str_model.specs.Scripts.{own_op}
-use Rattle.str_model.specs.Views.{Committed, Own, Phase}
+use Rattle.str_model.specs.Views.{Own}
 use Rattle.str_model.specs.declared.messages.Answer.{Answer}
 use Rattle.str_model.specs.declared.messages.Outcome.TheVariants.{Committed as Commits}
 use Rattle.str_model.specs.declared.names.Got.{Got}

@@ -10,7 +10,7 @@ use Rattle.str_model.proofs.OwnFacts.LocalOwners.{WeakDep}
 use Rattle.si_laws.proofs.Sources.FinalsReported.{CommittedIn, ReadOk, ro_committed, ro_gone, ro_listed}
 use Rattle.si_laws.proofs.Stages.ParticipantSeats.{of_nth}
 use Rattle.str_model.proofs.OwnFacts.DependenciesStand.{fate_open}
-use Rattle.str_model.proofs.Principle.Everywhere.{at_place, stage_of}
+use Rattle.str_model.proofs.Principle.Everywhere.{stage_of}
 use Rattle.str_model.proofs.Changes.SnapshotsGain.{Names}
 use Rattle.si_laws.specs.Laws.Prefix.{FinalReads, PrefixHolds}
 use Rattle.si_laws.specs.SnapshotIsolation.{SI}

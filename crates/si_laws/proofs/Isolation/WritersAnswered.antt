@@ -217,7 +217,7 @@ module _ (scene : Scene) (ok : IsScene scene) (s : Stage) (i : ℕ) (v : View) (
     where
       here : IsKept (at_place scene i) x → Owns e.view j x → Decided j x → (gets : List Got) × (b : Answer) × Precedes (s.answers ++ e.released) b (told (at_place scene i) j x gets) × (b.tx ≡ u)
       here k' own' (d_old o) = let y = h.state.first i d.view j x r u at_d o k' m by in (y.0, y.1, g.order y.1 (told (at_place scene i) j x y.0) y.2, y.3)
-      here k' own' (d_new gets rel) = (gets, first_new j x gets r u own' k' m by rel)
+      here k' own' (d_new gets rel) = let y = first_new j x gets r u own' k' m by rel in (gets, y.0, y.1, y.2)
 
   ours_e : TellStep (at_place scene i) d e → (a : Answer) → In a e.released → a.tx.node.0 ≡ i + 1
   ours_e (t_rests o r) a m = h.ours a (subst (In a) r m)

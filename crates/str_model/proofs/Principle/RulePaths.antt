@@ -67,6 +67,16 @@ from_one : {X : Type 0} (xs : List X) (n : ℕ) (x : X) → nth xs n ≡ Some x 
 from_one xs zero x e = absurd cc
 from_one xs (suc i) x e = omega arith
 
+nth-get : {X : Type 0} (xs : List X) (n : ℕ) (x : X) → nth xs n ≡ Some x → slice_get xs (n - 1) ≡ Some x
+nth-get xs zero x e = absurd cc
+nth-get xs (suc i) x e = rw sub-one e
+
+-- the own transaction that a message names
+pub named_owns : (here : Here) (tx : TxId) (d : Doing) (x : Own) → Returns.own_named here tx d ≡ Some x → slice_get d.view.own (tx.seq - 1) ≡ Some x
+named_owns here tx d x =
+    if_elim (λ o. o ≡ Some x → slice_get d.view.own (tx.seq - 1) ≡ Some x) (same_node tx.node here.node) (nth d.view.own tx.seq) None
+    (λ e h. nth-get d.view.own tx.seq x h) (λ e h. absurd (cc h))
+
 module _ (here : Here) (input : Input) (w : Where) where
   module _ (is_rule : w ≡ InRule) where
     touch : (i : ℕ) → Touches w i
@@ -127,14 +137,8 @@ module _ (here : Here) (input : Input) (w : Where) where
         (Some (Arrivals.serve_done here tx k rs (serve_turn d.view.versions k rs) (marked k rs d))) None
         (λ e. and_then d (marked k rs d) _ (one (act_mark k rs d (far_reading from tx (stamp rs) refl c))) (serve_done-path from tx k rs (serve_turn d.view.versions k rs) (marked k rs d) c (just_marked k rs d) (and_true_left (hosts_key here k) _ e) refl)) (λ e. tt)
 
-    nth-get : {X : Type 0} (xs : List X) (n : ℕ) (x : X) → nth xs n ≡ Some x → slice_get xs (n - 1) ≡ Some x
-    nth-get xs zero x e = absurd cc
-    nth-get xs (suc i) x e = rw sub-one e
-
-    pub own_named-is : (tx : TxId) (d : Doing) (x : Own) → Returns.own_named here tx d ≡ Some x → IsOwn w d (tx.seq - 1) x
-    own_named-is tx d x =
-        if_elim (λ o. o ≡ Some x → IsOwn w d (tx.seq - 1) x) (same_node tx.node here.node) (nth d.view.own tx.seq) None
-        (λ e h. (nth-get d.view.own tx.seq x h, touch (tx.seq - 1))) (λ e h. absurd (cc h))
+    own_named-is : (tx : TxId) (d : Doing) (x : Own) → Returns.own_named here tx d ≡ Some x → IsOwn w d (tx.seq - 1) x
+    own_named-is tx d x h = (named_owns here tx d x h, touch (tx.seq - 1))
 
     reply_phase-path : (from : NodeId) (tx : TxId) (x : Own) (k : KeyId) (v : Value) (by : Option TxId) (fc : Ts) (p : Phase) (d : Doing) → Comes here input from (ReadReply tx k v by fc)
         → Returns.own_named here tx d ≡ Some x → IsOwn w d (tx.seq - 1) x → x.phase ≡ p → PathTo here input w d (Returns.reply_phase (tx.seq - 1) x k v by fc.0 p d)

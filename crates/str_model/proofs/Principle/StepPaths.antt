@@ -173,7 +173,6 @@ module _ (here : Here) (input : Input) (w : Where) where
 pub record StepPath (here : Here) (input : Input) (d e : Doing) : Type 0 where
   pub ruled : Doing
   pub is_rule : Steps.rule here input d ≡ Some ruled
-  pub is_after : Steps.after_rule here ruled ≡ e
   pub rule : Path here input InRule d ruled
   pub turns : (i : ℕ) → Path here input (InTurn i) (Pass.pass_to here i ruled) (Pass.pass_to here (suc i) ruled)
   pub waits : Path here input InWait (Pass.pass_to here (length ruled.view.own) ruled) e
@@ -191,7 +190,6 @@ module _ (here : Here) (input : Input) where
       record {
         ruled = r;
         is_rule = q;
-        is_after = refl;
         rule = p;
         turns = λ i. turn-path here input (InTurn i) i (Pass.pass_to here i r) refl;
         waits = wait_turns-path here input InWait [] e.view.waiters e refl;
