@@ -9,7 +9,6 @@ use Rattle.str_base.specs.declared.names.Cause.{Cause}
 use Rattle.str_model.proofs.Principle.SingleChanges.{InRule, InTurn, InWait, Path, along}
 use Rattle.str_model.proofs.Principle.StepPaths.{StepPath, first-path, resolved_first, rest-path}
 use Rattle.str_model.proofs.Principle.Everywhere.{IsSeen, Stage, at_place, during, during_start, stage_of, steps_everywhere}
-use Rattle.str_model.proofs.Lists.ListReads.{get_set, got_replicate, got_set}
 use Rattle.str_model.proofs.Changes.DependencyLooks.{after_look}
 use Rattle.str_model.specs.Acts.{aborted, decided_as}
 use Rattle.str_model.specs.Owned.{Owns}
