@@ -13,6 +13,7 @@ pub mod WithoutRefuse
 pub mod RefuseSent
 pub mod MessagesSent
 pub mod RefuseReasons
+pub mod AnswersGiven
 pub mod CommitsAfter
 pub mod DependenciesFirst
 pub mod WritersFirst

@@ -108,7 +108,7 @@ module _ (here : Here) (input : Input) where
     pub same_gets : HasCommitted now → was.gets ≡ gets
 
   -- each answer was there, or is told
-  pub Tells : Doing → Doing → Type 0
+  unfoldable pub Tells : Doing → Doing → Type 0
   Tells d e = (a : Answer) → In a e.released → In a d.released ⊎ ToldAt d e a
 
   -- ---- along a path
