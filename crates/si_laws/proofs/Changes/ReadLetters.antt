@@ -3,7 +3,6 @@ use Rattle.partition_map.specs.declared.rows.Asked.{Asked}
 use Rattle.str_model.proofs.ViewFacts.MarksRise.{Rises, raise_all-rises, raised-rises, rises_self}
 use Rattle.str_model.proofs.Principle.SingleChanges.{Act, Serves, Where, act_abort, act_abort_came, act_accept, act_ack, act_ask, act_begin, act_certify, act_close, act_commit, act_commit_came, act_mark, act_put, act_refuse, act_reply, act_request, act_take, act_unwait, act_wait}
 use Rattle.str_model.proofs.Changes.SnapshotsGain.{if_elim}
-use Rattle.str_model.proofs.Lists.Members.{In, in_append, in_map}
 use Rattle.std.proofs.Common.{Bool, List, Option, [], ap, false, filter, inl, inr, map, refl, sym, true, ℕ, ◌++◌, ◌∙◌, ◌∷◌, ◌≡◌, ◌⊎◌}
 use Rattle.str_base.specs.declared.names.KeyId.{KeyId}
 use Rattle.str_base.specs.declared.names.NodeId.{NodeId}
@@ -24,6 +23,8 @@ use Rattle.str_model.specs.Proposals.{proposed}
 use Rattle.str_model.specs.Turns.{Away, read_turn}
 use Rattle.str_model.specs.Views.{Doing, Own, is_decided, letter, name_of}
 use Rattle.str_scene.specs.Scenes.{Here, first_or, in_part, leads, others, replicas}
+use Rattle.str_base.proofs.Members.{in_append, in_map}
+use Rattle.str_base.specs.Members.{In}
 
 -- neither a read nor a reply nor a commit
 abbrev pub is_other : Body → Bool

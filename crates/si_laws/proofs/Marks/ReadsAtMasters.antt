@@ -27,10 +27,12 @@ use Rattle.str_model.specs.Turns.{Away, ReadTurn, read_turn, take_over}
 use Rattle.str_model.specs.Views.{Doing, Own, View}
 use Rattle.str_model.proofs.Principle.SingleChanges.{Act, Arrives, ComesToRead, IsAsked, Where, a_prepare, a_read, asked_before, asked_now}
 use Rattle.str_model.proofs.Principle.Everywhere.{IsSeen, Sent, Stage, at_place, during, everywhere, stage_of}
-use Rattle.str_model.proofs.Changes.SnapshotsGain.{and_left, if_elim}
+use Rattle.str_model.proofs.Changes.SnapshotsGain.{if_elim}
+use Rattle.str_base.proofs.Tests.{and_true_left}
 use Rattle.str_model.proofs.Changes.VersionChanges.{WaitStep, w_fewer, w_more, wait_step}
-use Rattle.str_model.proofs.Lists.ListReads.{get_set, get_set_other, got_replicate, got_set}
-use Rattle.str_model.proofs.Lists.Members.{In, in_append, in_at, in_left, in_right}
+use Rattle.str_base.proofs.Lists.{get_set, get_set_other, got_replicate, got_set}
+use Rattle.str_base.proofs.Members.{in_append, in_at, in_left, in_right}
+use Rattle.str_base.specs.Members.{In}
 use Rattle.si_laws.proofs.Changes.ReadLetters.{ReadLetter, is_other, letters_act, rl_commit, rl_other, rl_reply, rl_request}
 
 -- ---- where a read goes
@@ -79,7 +81,7 @@ module _ (scene : Scene) (s : Stage) (i : ℕ) (v : View) (input : Input) (w : W
   come_at from tx k t c =
       let g : Sent s c.0 = subst (IsSeen s) c.1 seen in
       let there : In c.0 (s.sent ++ d.sent) = in_left s.sent d.sent c.0 (in_at s.sent g.0 c.0 g.1) in
-      let to : c.0.receiver.0 ≡ i + 1 = eqb-true c.0.receiver.0 (i + 1) (and_left (same_node c.0.receiver (at_place scene i).node) (has_node (at_place scene i) c.0.sender && has_named (at_place scene i) c.0.body) c.4) in
+      let to : c.0.receiver.0 ≡ i + 1 = eqb-true c.0.receiver.0 (i + 1) (and_true_left (same_node c.0.receiver (at_place scene i).node) (has_node (at_place scene i) c.0.sender && has_named (at_place scene i) c.0.body) c.4) in
       let to' : ◌≡◌ {A = NodeId} (record { 0 = i + 1 }) c.0.receiver = λ j. record { 0 = sym to j } in
       leads_first (record { 0 = i + 1 }) c.0.sender (replicas scene (part_of scene k)) c.6 (to' ∙ h.requests c.0 there tx k t c.3)
 

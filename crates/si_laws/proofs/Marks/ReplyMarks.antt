@@ -8,9 +8,6 @@ use Rattle.si_laws.proofs.Sessions.SessionHolds.{length_copies}
 use Rattle.str_model.proofs.OwnFacts.PlacesInOrder.{get_set_cases}
 use Rattle.str_model.proofs.Principle.SingleChanges.{Act, Arrives, ComesToRead, IsAsked, Where, a_prepare, a_read, asked_before, asked_now}
 use Rattle.str_model.proofs.Principle.Everywhere.{IsSeen, Sent, Stage, at_place, during, everywhere, stage_of}
-use Rattle.str_model.proofs.Changes.SnapshotsGain.{and_left, and_right}
-use Rattle.str_model.proofs.Lists.ListReads.{get_push, get_set, get_set_other, got_replicate, got_set}
-use Rattle.str_model.proofs.Lists.Members.{In, in_append, in_at, in_left, in_right}
 use Rattle.str_model.proofs.Changes.AnswerChanges.{TellStep, t_begins, t_decides, t_goes, t_rests, tell_step}
 use Rattle.si_laws.proofs.Marks.ReadsAtMasters.{reply_master}
 use Rattle.si_laws.specs.Laws.Marks.{IsReplyTo, MarkedByReply}
@@ -36,6 +33,10 @@ use Rattle.str_model.specs.Strange
 use Rattle.str_model.specs.Views.{Doing, Own, View, name_of}
 use Rattle.str_scene.specs.declared.names.Event.{Event}
 use Rattle.str_scene.specs.Scenes.{Here, Scene, is_master, nth, part_of}
+use Rattle.str_base.proofs.Tests.{and_true_left, and_true_right}
+use Rattle.str_base.proofs.Lists.{get_push, get_set, get_set_other, got_replicate, got_set}
+use Rattle.str_base.proofs.Members.{in_append, in_at, in_left, in_right}
+use Rattle.str_base.specs.Members.{In}
 
 -- the transaction began with this timestamp
 pub record HasRs (scene : Scene) (s : Stage) (tx : TxId) (rs : ℕ) : Type 0 where
@@ -129,10 +130,10 @@ module _ (scene : Scene) (s : Stage) (i : ℕ) (v : View) (input : Input) (w : W
     come_rs from tx k t c =
         let g : Sent s c.0 = subst (IsSeen s) c.1 seen in
         let there : In c.0 s.sent = in_at s.sent g.0 c.0 g.1 in
-        let named : has_named (at_place scene i) c.0.body ≡ true = and_right (has_node (at_place scene i) c.0.sender) (has_named (at_place scene i) c.0.body)
-        (and_right (same_node c.0.receiver (at_place scene i).node) (has_node (at_place scene i) c.0.sender && has_named (at_place scene i) c.0.body) c.4) in
+        let named : has_named (at_place scene i) c.0.body ≡ true = and_true_right (has_node (at_place scene i) c.0.sender) (has_named (at_place scene i) c.0.body)
+        (and_true_right (same_node c.0.receiver (at_place scene i).node) (has_node (at_place scene i) c.0.sender && has_named (at_place scene i) c.0.body) c.4) in
         let named' : has_named (at_place scene i) (ReadReq tx k t) ≡ true = ap (has_named (at_place scene i)) (sym c.3) ∙ named in
-        let key : has_key (at_place scene i) k ≡ true = and_left (has_key (at_place scene i) k) (Strange.below_limit t) (and_right (has_node (at_place scene i) tx.node) (has_key (at_place scene i) k && Strange.below_limit t) named') in
+        let key : has_key (at_place scene i) k ≡ true = and_true_left (has_key (at_place scene i) k) (Strange.below_limit t) (and_true_right (has_node (at_place scene i) tx.node) (has_key (at_place scene i) k && Strange.below_limit t) named') in
         let less : k.0 < length scene.keys.names = ltb-true k.0 (length scene.keys.names) key in
         (h.requests c.0 (in_left s.sent d.sent c.0 there) tx k t c.3, marked_now d.view k t.0 (omega (arith, less, h.marks i d.view there_d)) c.5)
 

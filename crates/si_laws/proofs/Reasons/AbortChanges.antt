@@ -33,8 +33,8 @@ use Rattle.str_model.specs.Turns.{Away, CertTurn, Certified, Conflict, DepTurn, 
 use Rattle.str_model.specs.Views.{Aborted, Active, CertWait, Closing, Committed, Doing, Global, Local, Own, Phase, ReadWait, Remote, Reply, View, is_decided, lc_of, name_of, put}
 use Rattle.str_model.proofs.Principle.SingleChanges.{Comes}
 use Rattle.str_model.proofs.Changes.SnapshotsGain.{if_elim}
-use Rattle.str_model.proofs.Lists.ListReads.{get_set}
 use Rattle.str_model.proofs.Changes.DependencyLooks.{after_look}
+use Rattle.str_base.proofs.Lists.{get_set}
 
 -- the input is a client step of the transaction's session
 abbrev pub IsStep : Input → Own → Type 0

@@ -28,11 +28,12 @@ use Rattle.str_model.specs.Scripts.{known, own_op}
 use Rattle.str_model.specs.Turns.{Give, ServeTurn, ServeWait, serve_turn}
 use Rattle.str_model.specs.Views.{Aborted, Active, Closing, Committed, Doing, Own, Phase, is_decided, put}
 use Rattle.str_model.proofs.Principle.SingleChanges.{InRule, InTurn, Path, Touches, Where, along}
-use Rattle.str_model.proofs.Lists.ListReads.{get_push, get_set_other, same_or_not}
 use Rattle.str_model.proofs.Principle.OwnPaths.{free_at, op_or_commit-path}
 use Rattle.si_laws.proofs.Reasons.AbortChanges.{AbortedBy, IsStep, NotAborted, now_at_end, ab_stop, aborted_cause, certify_by, finish_open, open_not, put_open, read_now_open}
 use Rattle.str_model.proofs.Changes.AnswerChanges.{last_index-some}
 use Rattle.str_model.proofs.OwnFacts.TurnsBelow.{leaves}
+use Rattle.str_base.proofs.Lists.{get_push, get_set_other}
+use Rattle.std.proofs.lemmas.Bool.{cases_eq}
 
 module _ (here : Here) (input : Input) (p : ℕ) where
   -- an operation, or the request to commit
@@ -87,7 +88,7 @@ module _ (here : Here) (input : Input) (p : ℕ) where
 
     active_case : (i : ℕ) (z : Own) (r : Doing) → IsStep input z → slice_get d.view.own i ≡ Some z → z.phase ≡ Active → Scripts.op_or_commit here i z (own_op here z) d ≡ r → Case d x lc cause y r
     active_case i z r st is f q o a =
-        elim (same_or_not p i) [
+        elim (cases_eq p i) [
           | inl s ↦ (let at : Some z ≡ Some x = sym is ∙ (ap (λ k. slice_get d.view.own k) (sym s) ∙ own) in
               let zx : z ≡ x = cc at in
               let run : Owns (Scripts.op_or_commit here p x (own_op here x) d).view p y =
@@ -135,7 +136,7 @@ module _ (here : Here) (input : Input) (p : ℕ) where
     -- a reply or an answer sets a place without an abort
     pub set_case : (i : ℕ) (z u : Own) (r : Doing) → slice_get d.view.own i ≡ Some z → is_decided u.phase ≡ false → put i u d ≡ r → Case d x lc cause y r
     set_case i z u r is f q o a =
-        elim (same_or_not p i) [
+        elim (cases_eq p i) [
           | inl s ↦ (let at : Owns (put p u d).view p y = subst (λ k. Owns (put k u d).view p y) (sym s) (subst (λ (w : Doing). Owns w.view p y) (sym q) o) in absurd (put_open here input p d x u own f y lc cause at a))
           | inr s ↦ kept_case r (ap (λ (w : Doing). slice_get w.view.own p) (sym q) ∙ get_set_other d.view.own i p u s) o a
         ]

@@ -38,10 +38,11 @@ use Rattle.str_model.proofs.Principle.SingleChanges.{Comes, InTurn, InWait}
 use Rattle.str_model.proofs.Principle.StepPaths.{close-path, half_turn-path, waiter_turn-waited}
 use Rattle.str_model.proofs.Principle.NextMoments.{Link, evict_linked_to, l_close, l_evict, l_half, l_rule, l_wait, last_of, valid}
 use Rattle.str_model.proofs.Principle.MomentPaths.{take_is}
-use Rattle.str_model.proofs.Lists.ListReads.{get_set_other, same_or_not}
 use Rattle.si_laws.proofs.Reasons.AbortChanges.{AbortedBy, ab_refused, aborted_cause, evict_by, half_by, turn_by}
 use Rattle.si_laws.proofs.Reasons.AbortLinks.{Case, client_case, kept_case, left_alone, same_case, set_case}
 use Rattle.si_laws.proofs.Reasons.QuietRules.{by_if, master_quiet, named_owns, read_req_quiet}
+use Rattle.str_base.proofs.Lists.{get_set_other}
+use Rattle.std.proofs.lemmas.Bool.{and_parts, cases_eq}
 
 -- an abort leaves the others
 aborted_other : (here : Here) (i p : ℕ) (cause : Cause) (z : Own) (d : Doing) → p ≢ i → slice_get (aborted here i cause z d).view.own p ≡ slice_get d.view.own p
@@ -102,16 +103,12 @@ module _ (here : Here) (input : Input) (p : ℕ) where
     unfolding Returns.refuse_rule
     refuse_case from tx q u k r c e = by_own (own_named here tx d) refl e
       where
-        both : (a b : Bool) → (a && b) ≡ true → (a ≡ true) × (b ≡ true)
-        both true b g = (refl, g)
-        both false b g = absurd (cc g)
-
         by_phase : (z : Own) (ph : Phase) → own_named here tx d ≡ Some z → z.phase ≡ ph → Returns.refuse_phase here (tx.seq - 1) z from q u k ph d ≡ Some r → Case here input p d x lc cause y r
         by_phase z (Global l) n f g o a =
             let s = by_if (has_asked z.parts q && is_master here.scene from q) (Some (aborted here (tx.seq - 1) (ByConflict u k from) z d)) r g in
             let is : aborted here (tx.seq - 1) (ByConflict u k from) z d ≡ r = cc s.1 in
-            let t = both (has_asked z.parts q) (is_master here.scene from q) s.0 in
-            elim (same_or_not p (tx.seq - 1)) [
+            let t = and_parts (has_asked z.parts q) (is_master here.scene from q) s.0 in
+            elim (cases_eq p (tx.seq - 1)) [
               | inl w ↦ (let at : Some z ≡ Some x = sym (named_owns here tx d z n) ∙ (ap (λ b. slice_get d.view.own b) (sym w) ∙ own) in
                   let zx : z ≡ x = cc at in
                   let run : Owns (aborted here p (ByConflict u k from) x d).view p y =
@@ -184,7 +181,7 @@ module _ (here : Here) (input : Input) (p : ℕ) where
   -- between two moments that follow one another
   pub link_by : (start d e : Doing) (x : Own) (lc : Option ℕ) (cause : Cause) (y : Own) → Link here input start d e → Owns d.view p x → is_decided x.phase ≡ false → Owns e.view p y → y.phase ≡ Aborted lc cause → AbortedBy here input d p x cause
   link_by start d e x lc cause y (l_evict from a i c) own op o f =
-      elim (same_or_not p i) [
+      elim (cases_eq p i) [
         | inl s ↦ (let n : p ≡ i = s in
             subst (λ k. AbortedBy here input (evict here a k start) p x cause) s
             (evict_by here input p from a (evict here a p start) x lc cause y c (subst (λ k. Owns (evict here a k start).view p x) (sym s) own) op
@@ -193,14 +190,14 @@ module _ (here : Here) (input : Input) (p : ℕ) where
       ]
   link_by start d e x lc cause y (l_rule r q) own op o f = rule_case input start r x lc cause y refl q own op o f
   link_by start d e x lc cause y (l_half i r) own op o f =
-      elim (same_or_not p i) [
+      elim (cases_eq p i) [
         | inl s ↦ (let q : half_turn here i (pass_to here i r) ≡ half_turn here p (pass_to here i r) = ap (λ k. half_turn here k (pass_to here i r)) (sym s) in
             half_by here input p (pass_to here i r) x lc cause y own op (subst (λ (z : Doing). Owns z.view p y) q o) f)
         | inr s ↦ kept_case here input p (pass_to here i r) x lc cause y own op (half_turn here i (pass_to here i r))
             (left_alone here input p (InTurn i) (pass_to here i r) (half_turn here i (pass_to here i r)) (λ z. cc z) (λ z. s z) (half_turn-path here input (InTurn i) i (pass_to here i r) refl)) o f
       ]
   link_by start d e x lc cause y (l_close i r) own op o f =
-      elim (same_or_not p i) [
+      elim (cases_eq p i) [
         | inl s ↦ (let q : turn here i (pass_to here i r) ≡ turn here p (pass_to here i r) = ap (λ k. turn here k (pass_to here i r)) (sym s) in
             turn_by here input p (pass_to here i r) (half_turn here i (pass_to here i r)) x lc cause y (ap (λ k. half_turn here k (pass_to here i r)) s) own op (subst (λ (z : Doing). Owns z.view p y) q o) f)
         | inr s ↦ kept_case here input p (half_turn here i (pass_to here i r)) x lc cause y own op (turn here i (pass_to here i r))

@@ -20,7 +20,8 @@ use Rattle.str_model.proofs.Principle.LaterMoments.{Took, first_of, got_below, t
 use Rattle.str_model.proofs.Principle.NextMoments.{linked}
 use Rattle.str_model.proofs.Principle.TraceEvents.{Turns, ends_slice, event_turns, nobody, somebody}
 use Rattle.str_model.proofs.Changes.AnswerChanges.{outcome_of}
-use Rattle.str_model.proofs.Lists.Members.{In, in_append, in_at}
+use Rattle.str_base.proofs.Members.{in_append, in_at}
+use Rattle.str_base.specs.Members.{In}
 use Rattle.si_laws.proofs.Reasons.AnswersReleased.{Tells, ToldAt, link_told}
 use Rattle.si_laws.proofs.Reasons.CausesNamed.{outcome_cause}
 use Rattle.si_laws.proofs.Reasons.CommitsAfter.{place_nth}

@@ -1,6 +1,6 @@
 -- Between two moments that follow one another an answer is released only of a transaction that was undecided and is decided, and tells how it stood.
 use Rattle.std.proofs.Common.{Bool, List, None, Option, Some, [], ap, false, if◌then◌else◌, inl, inr, length, refl, slice_get, slice_set, subst, suc, sym, true, zero, ℕ, ◌&&◌, ◌+◌, ◌-◌, ◌<◌, ◌∙◌, ◌∷◌, ◌≡◌, ◌≢◌, ◌⊎◌}
-use Rattle.std.proofs.lemmas.Option.{slice_get_cases, slice_get_within}
+use Rattle.std.proofs.lemmas.Option.{slice_get_within}
 use Rattle.partition_map.specs.declared.rows.Asked.{Asked}
 use Rattle.dependency_set.specs.declared.names.Dep.{Dep}
 use Rattle.str_base.specs.declared.names.Cause.{Cause}
@@ -52,8 +52,8 @@ use Rattle.str_model.proofs.Principle.OwnPaths.{free_at, op_or_commit-path}
 use Rattle.str_model.proofs.Changes.AnswerChanges.{TellStep, in_release, t_begins, t_decides, t_goes, t_rests, tell_step, told}
 use Rattle.str_model.proofs.Changes.OwnChanges.{own_step}
 use Rattle.str_model.proofs.Changes.PairWords.{decided-step}
-use Rattle.str_model.proofs.Lists.ListReads.{get_push, get_set}
-use Rattle.str_model.proofs.Lists.Members.{In}
+use Rattle.str_base.proofs.Lists.{get_push, get_set, slice_get_there}
+use Rattle.str_base.specs.Members.{In}
 use Rattle.str_model.proofs.OwnFacts.LocalOwners.{same_own}
 use Rattle.str_model.proofs.OwnFacts.PlacesInOrder.{get_set_cases}
 use Rattle.str_model.proofs.OwnFacts.TurnsBelow.{leaves}
@@ -167,9 +167,6 @@ module _ (here : Here) (input : Input) where
             | inr k ↦ lift a (h.tells a k)
           ]
 
-  within : (xs : List Own) (i : ℕ) → i < length xs → (x : Own) × (slice_get xs i ≡ Some x)
-  within xs i less = elim (slice_get_cases xs i).1 [ inl h ↦ (h.0, h.2) | inr h ↦ absurd (omega (Rattle.std.proofs.Common.arith, less, h.0)) ]
-
   -- outside the rule, and where none commits
   told_free : (w w' : Where) → (w ≢ InRule) → ((i : ℕ) → w' ≢ InTurn i) → (d e : Doing) → Path here input w d e → Path here input w' d e → Tells d e
   unfolding Tells
@@ -183,7 +180,7 @@ module _ (here : Here) (input : Input) where
 
       build : ToldBy d e a → ToldAt d e a
       build t =
-          let x = within d.view.own t.place (omega (Rattle.std.proofs.Common.arith, slice_get_within e.view.own t.place t.now t.owns, same_length)) in
+          let x = slice_get_there d.view.own t.place (omega (Rattle.std.proofs.Common.arith, slice_get_within e.view.own t.place t.now t.owns, same_length)) in
           let b = t.before x.0 x.1 in
           record {
             place = t.place;

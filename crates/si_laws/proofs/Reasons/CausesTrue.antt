@@ -25,15 +25,18 @@ use Rattle.str_model.proofs.Principle.Everywhere.{at_each_event, at_place}
 use Rattle.str_model.proofs.Principle.StepPaths.{step-keeps}
 use Rattle.str_model.proofs.Principle.LaterMoments.{Took, moment_of, took}
 use Rattle.str_model.proofs.Principle.NextMoments.{linked}
-use Rattle.str_model.proofs.Lists.Members.{In, at_in, in_filter, in_flat_map}
 use Rattle.si_laws.proofs.Reasons.AbortsAll.{link_by}
 use Rattle.si_laws.proofs.Reasons.AbortChanges.{AbortedBy, AsksNow, IsStep, ab_evicted, ab_late, ab_lost, ab_met, ab_refused, ab_stop, ab_wish, now_at_end, now_waiting}
-use Rattle.si_laws.proofs.Reasons.CommitsAfter.{committed_is, nth_place, place_nth, stand_moment}
-use Rattle.str_model.proofs.ViewFacts.MarksRise.{same_key-is}
+use Rattle.si_laws.proofs.Reasons.CommitsAfter.{committed_is, place_nth, stand_moment}
 use Rattle.str_model.proofs.OwnFacts.UnmetNeeds.{AllNeedy, needy-act}
 use Rattle.si_laws.proofs.Scripts.ReadsEvaluate.{find_is}
 use Rattle.si_laws.specs.Standing.{IsAborted, IsCommitted}
 use Rattle.si_laws.specs.TrueCause.{AbortsAt, AsksToCommit, DependedOn, IsStepOf, TrueWish, at_end, waiting}
+use Rattle.str_base.proofs.Members.{at_in, in_filter, in_flat_map}
+use Rattle.str_base.proofs.SameNames.{same_key-is}
+use Rattle.si_laws.proofs.Stages.ParticipantSeats.{of_nth}
+use Rattle.str_base.specs.Members.{In}
+use Rattle.std.proofs.lemmas.Bool.{or_cases}
 
 -- ---- the look at the dependencies
 
@@ -101,10 +104,6 @@ conflict_is here v snap ws u k e = by_found (find (conflicts snap.rs) (met ws v.
     kind_of LocalKind q = absurd (cc q)
     kind_of Final q = absurd (cc q)
 
-    either : (a b : Bool) → (a || b) ≡ true → (a ≡ true) ⊎ (b ≡ true)
-    either true b q = inl refl
-    either false b q = inr q
-
     by_found : (o : Option Version) → find (conflicts snap.rs) (met ws v.versions) ≡ o → Turns.cert_after here v snap ws o ≡ Conflict u k
         → (q : Version) × (In q v.versions) × (q.tx ≡ u) × (q.key ≡ k) × ((q.kind ≡ Pre) ⊎ (snap.rs < q.ts.0)) × ((w : Write) × (In w ws) × (w.key ≡ k))
     by_found None f q = absurd (by_gate _ _ _ _ q)
@@ -118,7 +117,7 @@ conflict_is here v snap ws u k e = by_found (find (conflicts snap.rs) (met ws v.
           c.0,
           tx,
           key,
-          elim (either (is_pre x.kind) (nat_lt snap.rs x.ts.0) g.1) [ inl z ↦ inl (kind_of x.kind z) | inr z ↦ inr (ltb-true snap.rs x.ts.0 z) ],
+          elim (or_cases (is_pre x.kind) (nat_lt snap.rs x.ts.0) g.1) [ inl z ↦ inl (kind_of x.kind z) | inr z ↦ inr (ltb-true snap.rs x.ts.0 z) ],
           (r.0, r.1, sym (same_key-is x.key r.0.key c.1) ∙ key),
         )
 
@@ -135,8 +134,8 @@ module _ (scene : Scene) (ok : IsScene scene) (es : List Event) where
   aborts_by j t d x cause a =
       let k = took scene es j a.before.0 t.node a.before.1 a.before.2 in
       let here = at_place scene k.takes.place in
-      let p = nth_place d.view.own t.seq x a.stood in
-      let g = nth_place a.next.view.own t.seq a.gone a.stands in
+      let p = of_nth d.view.own t.seq x a.stood in
+      let g = of_nth a.next.view.own t.seq a.gone a.stands in
       let same : Some a.after.0 ≡ Some a.before.0 = sym a.after.1 ∙ a.before.1 in
       let is : a.after.0 ≡ a.before.0 = cc same in
       let first = ap (λ ms. slice_get ms a.moment) (sym k.takes.moments) ∙ a.before.3 in

@@ -11,8 +11,9 @@ use Rattle.str_model.specs.Views.{Own, View, is_decided}
 use Rattle.str_model.proofs.OwnFacts.TurnsBelow.{Below}
 use Rattle.str_model.proofs.OwnFacts.DependenciesStand.{fate_open, open_opening, step_open}
 use Rattle.str_model.proofs.Principle.Everywhere.{at_each_event}
-use Rattle.str_model.proofs.Lists.Members.{In, in_at}
 use Rattle.str_scene.specs.Scenes.{Here}
+use Rattle.str_base.proofs.Members.{in_at}
+use Rattle.str_base.specs.Members.{In}
 
 -- in a view whose first transactions depend on undecided ones alone each of their dependencies stands
 pub stands_below : (here : Here) (m : ℕ) (v : View) → Below here m v → (i k : ℕ) (x : Own) (dep : Dep) → i < m → Owns v i x → is_decided x.phase ≡ false → slice_get x.snap.deps k ≡ Some dep → StandsFor v x dep

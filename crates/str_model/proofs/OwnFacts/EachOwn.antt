@@ -18,7 +18,7 @@ use Rattle.str_scene.specs.Scenes.{Here, participants}
 use Rattle.str_model.specs.Turns.{Certified, cert_turn}
 use Rattle.str_model.specs.Views.{Aborted, Closing, Committed, Doing, Global, Local, Own, Remote, is_decided, lc_of}
 use Rattle.str_model.proofs.Principle.SingleChanges.{Act, AsksCommit, Comes, Goes, KeepsAck, Where, act_abort, act_abort_came, act_accept, act_ack, act_ask, act_begin, act_certify, act_close, act_commit, act_commit_came, act_mark, act_put, act_refuse, act_reply, act_request, act_take, act_unwait, act_wait}
-use Rattle.str_model.proofs.Lists.ListReads.{got_push, got_set}
+use Rattle.str_base.proofs.Lists.{got_push, got_set}
 
 -- the transaction as it stands once it is certified
 abbrev pub as_certified : Here → ℕ → Snap → Own → Own

@@ -16,9 +16,9 @@ use Rattle.str_model.proofs.Principle.AtMoments.{at_moments}
 use Rattle.str_model.proofs.Principle.Everywhere.{IsSeen, Stage, at_place, during, during_start, everywhere, run-append, stage_of, stays_at}
 use Rattle.str_model.proofs.Principle.NextMoments.{linked}
 use Rattle.str_model.proofs.Principle.MomentPaths.{link_path}
-use Rattle.str_model.proofs.Lists.ListReads.{get_set}
-use Rattle.str_model.proofs.Lists.Members.{in_at}
 use Rattle.str_model.proofs.Principle.TraceEvents.{Nth, Takes, Turns, ends_slice, event_turns, nobody, nth_of, somebody}
+use Rattle.str_base.proofs.Lists.{get_set}
+use Rattle.str_base.proofs.Members.{in_at}
 
 -- the j-th event of a run, which node n took
 pub record Took (scene : Scene) (es : List Event) (j : ℕ) (h : Happening) (n : NodeId) : Type 0 where

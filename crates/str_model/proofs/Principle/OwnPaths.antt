@@ -26,7 +26,7 @@ use Rattle.str_model.specs.Views.{Active, CertWait, Closing, Doing, Own, Phase, 
 use Rattle.str_model.proofs.Principle.SingleChanges.{AsksCommit, Change, GoesOn, IsMasters, IsOwn, JustMarked, Needs, Path, Reads, Touches, Where, act_abort, act_certify, act_mark, act_put, act_request, and_then, asks_new, at_abort, by_certification, by_script, ch_away, ch_blind, ch_close, ch_gate, ch_known, ch_read, ch_wait, one, own_reading, reads_new, stay, to_final, to_local}
 use Rattle.str_model.proofs.Changes.SnapshotsGain.{Extends, Gains, Names, Settles, TurnGood, extends_self, gains_it, gains_of, if_elim, read_turn-good}
 use Rattle.str_model.proofs.Changes.DependencyLooks.{deps_also}
-use Rattle.str_model.proofs.Lists.Members.{In}
+use Rattle.str_base.specs.Members.{In}
 
 pub nor_left : (a b : Bool) → not (a || b) ≡ true → a ≡ false
 nor_left true b e = absurd cc

@@ -41,7 +41,7 @@ use Rattle.str_model.specs.Turns.{Away, Certified, Conflict, DepTurn, Give, Late
 use Rattle.str_base.specs.Versions.{of_tx, raised, same_key, same_node, stamp}
 use Rattle.str_model.specs.Views.{Active, CertWait, Closing, Doing, Global, Own, ReadWait, Remote, Reply, View, is_decided, lc_of, name_of, put}
 use Rattle.str_model.proofs.Changes.SnapshotsGain.{Extends}
-use Rattle.str_model.proofs.Lists.Members.{In}
+use Rattle.str_base.specs.Members.{In}
 
 -- where in a step a change is made: in the rule, in the turn of the i-th own transaction, or among those who wait
 pub data Where : Type 0 where

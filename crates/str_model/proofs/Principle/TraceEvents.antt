@@ -18,7 +18,8 @@ use Rattle.str_model.specs.Views.{Doing, Own, View, starts}
 use Rattle.str_scene.specs.Scenes.{Here, Scene, Session, nth}
 use Rattle.str_model.proofs.Principle.Everywhere.{IsSeen, Sent, at_place, stage_of}
 use Rattle.str_model.proofs.Principle.LastMoment.{EndsAt, last_moment}
-use Rattle.str_model.proofs.Lists.ListReads.{get_set, get_set_other, same_or_not, set_got}
+use Rattle.str_base.proofs.Lists.{get_pushed, get_set, get_set_other, set_got}
+use Rattle.std.proofs.lemmas.Bool.{cases_eq}
 
 -- an event that a node takes: its view before, its input, its moments and its last one
 pub record Takes (scene : Scene) (w : World) (e : Event) (h : Happening) (w' : World) : Type 0 where
@@ -161,12 +162,8 @@ pub record Was (scene : Scene) (w : World) (es : List Event) (n i : ℕ) (x : Ow
   pub at_moment : slice_get entry.moments moment ≡ Some doing
   pub owns : Owns doing.view i x
 
-last_of_list : {A : Type 0} (xs : List A) (x : A) → slice_get (xs ++ x ∷ []) (length xs) ≡ Some x
-last_of_list [] x = refl
-last_of_list (y ∷ xs) x = last_of_list xs x
-
 pub ends_slice : (ms : List Doing) (d : Doing) (e : EndsAt ms d) → slice_get ms (length e.0) ≡ Some d
-ends_slice ms d e = ap (λ xs. slice_get xs (length e.0)) e.1 ∙ last_of_list e.0 d
+ends_slice ms d e = ap (λ xs. slice_get xs (length e.0)) e.1 ∙ get_pushed e.0 d
 
 pub was_from : (scene : Scene) (w : World) (es : List Event) (n i : ℕ) (v : View) (x : Own) → slice_get (run_from scene w es).nodes n ≡ Some v → Owns v i x
     → Was scene w es n i x ⊎ ((u : View) × (slice_get w.nodes n ≡ Some u) × Owns u i x)
@@ -177,7 +174,7 @@ was_from scene w (e ∷ es) n i v x is own = later (was_from scene (happens scen
         → Was scene w (e ∷ es) n i x ⊎ ((u : View) × (slice_get w.nodes n ≡ Some u) × Owns u i x)
     by_turn u g o (nobody a b c) = inr (u, ap (λ ns. slice_get ns n) (sym b) ∙ g, o)
     by_turn u g o (somebody t) =
-        elim (same_or_not n t.place) [
+        elim (cases_eq n t.place) [
           | inl s ↦ (let at : Some t.last.view ≡ Some u = sym (ap (λ ns. slice_get ns n) t.after ∙ (ap (λ m. slice_get (slice_set w.nodes t.place t.last.view) m) s ∙ get_set w.nodes t.place t.view t.last.view t.is)) ∙ g in
               let same : t.last.view ≡ u = cc at in
               inl (record {
