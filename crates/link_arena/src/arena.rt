@@ -161,6 +161,7 @@ impl Arena {
         ensures at { (u : ℕ) → at self.new u ≡ (if u == slot.0 then None else at self.old u) }
         ensures key_list { (k : KeyId) → key_list self.new k ≡ (if key_names k result then taken slot.0 (key_list self.old k) else key_list self.old k) }
         ensures tx_list { (t : TxId) → tx_list self.new t ≡ (if of_tx t result then taken slot.0 (tx_list self.old t) else tx_list self.old t) }
+        ensures lists { AreLists self.new }
         ensures spare { self.new.spare ≡ self.old.spare }
     {
         let version = read(&self.nodes, slot.0).version;
@@ -189,6 +190,7 @@ impl Arena {
         ensures at { (u : ℕ) → at self.new u ≡ at self.old u }
         ensures key_list { (v : Version) → at self.old slot.0 ≡ Some v → (k : KeyId) → key_list self.new k ≡ (if key_names k v then put_before (number_of before) slot.0 (taken slot.0 (key_list self.old k)) else key_list self.old k) }
         ensures tx_list { (t : TxId) → tx_list self.new t ≡ tx_list self.old t }
+        ensures lists { AreLists self.new }
         ensures spare { self.new.spare ≡ self.old.spare }
     {
         let version = read(&self.nodes, slot.0).version;
@@ -215,6 +217,7 @@ impl Arena {
         ensures at { (u : ℕ) → at self.new u ≡ (if u == slot.0 then dated ts kind (at self.old u) else at self.old u) }
         ensures key_list { (k : KeyId) → key_list self.new k ≡ key_list self.old k }
         ensures tx_list { (t : TxId) → tx_list self.new t ≡ tx_list self.old t }
+        ensures lists { AreLists self.new }
         ensures spare { self.new.spare ≡ self.old.spare }
     {
         let node = read(&self.nodes, slot.0);
