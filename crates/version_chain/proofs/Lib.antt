@@ -1,6 +1,8 @@
 pub mod Each
 pub mod Lists
 pub mod Ordered
-pub mod Ranges
+pub mod OfKey
 pub mod Keeping
-pub mod Settling
+pub mod Flats
+pub mod Spots
+pub mod Walking

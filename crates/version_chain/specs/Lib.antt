@@ -1,1 +1,3 @@
 pub mod ChainLists
+pub mod Walks
+pub mod Flat

@@ -1,7 +1,6 @@
-//! The versions of all keys in order, with look-ups of one key by halving.
+//! The versions of all keys in order, over an arena of linked slots.
 #![tactic(auto)]
 
-pub mod chains;
-mod places;
+pub mod walks;
 
-pub use chains::Chains;
+pub use walks::Walk;
