@@ -54,11 +54,11 @@ bounded_from b scene ok events t h =
     below_ : (t p : ℕ) → t < 2 ^ 62 + p → p ≤ 1024 * 113 → t < ts_limit
     below_ t p l r = omega (arith, l, r)
 
-and_both : (a b : Bool) → a ≡ true → b ≡ true → (a && b) ≡ true
+pub and_both : (a b : Bool) → a ≡ true → b ≡ true → (a && b) ≡ true
 and_both true b e f = f
 and_both false b e f = absurd cc
 
-all_in : {A : Type 0} (test : A → Bool) (xs : List A) → ((x : A) → In x xs → test x ≡ true) → list_all test xs ≡ true
+pub all_in : {A : Type 0} (test : A → Bool) (xs : List A) → ((x : A) → In x xs → test x ≡ true) → list_all test xs ≡ true
 all_in test [] f = refl
 all_in test (x ∷ xs) f = and_both (test x) (list_all test xs) (f x (inl refl)) (all_in test xs (λ y h. f y (inr h)))
 
@@ -75,7 +75,7 @@ not_is_false : (b : Bool) → not b ≡ true → b ≡ false
 not_is_false true e = absurd cc
 not_is_false false e = refl
 
-filter_distinct : (test : Write → Bool) (ws : List Write) → AreDistinct ws → AreDistinct (filter test ws)
+pub filter_distinct : (test : Write → Bool) (ws : List Write) → AreDistinct ws → AreDistinct (filter test ws)
 filter_distinct test [] d = refl
 filter_distinct test (w ∷ ws) d =
     let rest_ : AreDistinct (filter test ws) = filter_distinct test ws (and_right (not (list_any (same_key w.key) (map (λ (z : Write). z.key) ws))) _ d) in

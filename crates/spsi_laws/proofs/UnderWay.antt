@@ -1,0 +1,8 @@
+-- What an undecided transaction waits for from other nodes is under way: messages are valid, and what was given was judged.
+
+pub mod NewMessages
+pub mod NamedMessages
+pub mod ValidMessages
+pub mod OneOwn
+pub mod PastReads
+pub mod SentFor
