@@ -6,3 +6,5 @@ pub mod ValidMessages
 pub mod OneOwn
 pub mod PastReads
 pub mod SentFor
+pub mod Followed
+pub mod RequestsKept

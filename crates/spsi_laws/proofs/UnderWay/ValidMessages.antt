@@ -57,7 +57,7 @@ pub record Posted (scene : Scene) (s : Stage) : Type 0 where
 pub place_exists : (scene : Scene) (n : ℕ) → n < scene.nodes → has_node (at_place scene n) (record { 0 = n + 1 }) ≡ true
 place_exists scene n less = and_both (nat_lt 0 (n + 1)) (nat_le (n + 1) scene.nodes) (lt-ltb 0 (n + 1) (omega arith)) (le-leb (n + 1) scene.nodes (omega (arith, less)))
 
-posted_keeps : (scene : Scene) → IsScene scene → (s : Stage) (i : ℕ) (v : View) (input : Input) (w : Where) (d e : Doing) → slice_get s.nodes i ≡ Some v → IsSeen s input → Posted scene s
+pub posted_keeps : (scene : Scene) → IsScene scene → (s : Stage) (i : ℕ) (v : View) (input : Input) (w : Where) (d e : Doing) → slice_get s.nodes i ≡ Some v → IsSeen s input → Posted scene s
     → Act (at_place scene i) input w d e → Posted scene (during s i d) → Posted scene (during s i e)
 posted_keeps scene ok s i v input w d e is seen hs act h =
     let there : slice_get (slice_set s.nodes i d.view) i ≡ Some d.view = get_set s.nodes i v d.view is in
@@ -97,7 +97,7 @@ posted_keeps scene ok s i v input w d e is seen hs act h =
     by_here here input d e m (p_reply tx k rs v by fc g) = refl
     by_here here input d e m (p_decision to b z) = refl
 
-posted_opening : (scene : Scene) → Posted scene (stage_of (opening scene))
+pub posted_opening : (scene : Scene) → Posted scene (stage_of (opening scene))
 posted_opening scene = record {
   facts = λ n v g. subst (MomentFacts (at_place scene n)) (sym (got_replicate scene.nodes n (opening_view scene) v g)) (moment_opening (at_place scene n));
   count = length-replicate scene.nodes (opening_view scene);
