@@ -8,3 +8,4 @@ pub mod PastReads
 pub mod SentFor
 pub mod Followed
 pub mod RequestsKept
+pub mod ReadsWaiting
