@@ -9,3 +9,5 @@ pub mod SentFor
 pub mod Followed
 pub mod RequestsKept
 pub mod ReadsWaiting
+pub mod GivenAt
+pub mod Acknowledged

@@ -27,7 +27,7 @@ use Rattle.str_scene.specs.Scenes.{Here, Scene}
 use Rattle.str_model.proofs.ViewFacts.TimesBelow.{BodyBelow, ViewBelow, body_higher, passed_below, view_higher}
 use Rattle.str_model.proofs.ViewFacts.ChangesBelow.{view_act}
 
-ignore_is : (v : View) (a : Arrived) → master_turn v a ≡ Ignore → nat_lt (proposed v a) ts_limit ≡ false
+pub ignore_is : (v : View) (a : Arrived) → master_turn v a ≡ Ignore → nat_lt (proposed v a) ts_limit ≡ false
 unfolding master_turn
 ignore_is v a e = by_refuse (find (refuses a) (met a.writes v.versions)) e
   where

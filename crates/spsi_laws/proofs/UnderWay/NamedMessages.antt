@@ -25,7 +25,7 @@ use Rattle.str_model.proofs.OwnFacts.AskedParts.{gate_ask}
 use Rattle.str_model.proofs.Principle.SingleChanges.{Comes, IsAsked, IsHere, asked_before, asked_now, it_comes, it_waits}
 use Rattle.str_model.proofs.ViewFacts.MarksRise.{script_op}
 use Rattle.str_model.proofs.ViewFacts.ValidMessages.{came_named, valid_named}
-use Rattle.str_model.proofs.ViewFacts.VersionsKept.{here_named, write_key}
+use Rattle.str_model.proofs.ViewFacts.VersionsKept.{here_named, master_hosts, write_key}
 use Rattle.str_model.specs.Gates.{Ask, gate_of}
 use Rattle.str_model.specs.NodeFacts.{MomentFacts, Needs, OwnGood}
 use Rattle.str_model.specs.NodeFacts
@@ -65,14 +65,14 @@ Names here (Ack tx p ts) = (has_node here tx.node ≡ true) × (has_part here p 
 Names here (Commit tx p fc ms) = Unit {0}
 Names here (Abort tx p) = Unit {0}
 
--- to whom a message goes: a Prepare to the master of its partition, a Replicate to a slave, neither to the transaction's node, and what answers them back to it
+-- to whom a message goes: a Prepare to the master of its partition, a Replicate to a slave, neither to the transaction's node, and what answers them back from there
 abbrev pub Addressed : Scene → NodeId → NodeId → Body → Type 0
 Addressed scene from to (ReadReq tx k rs) = tx.node ≡ from
 Addressed scene from to (ReadReply tx k v by fc) = to ≡ tx.node
 Addressed scene from to (Prepare tx p rs lc ws) = (tx.node ≡ from) × (is_master scene to p ≡ true) × (tx.node.0 ≢ to.0)
-Addressed scene from to (Refusal tx p by k) = (to ≡ tx.node) × (is_master scene from p ≡ true)
+Addressed scene from to (Refusal tx p by k) = (to ≡ tx.node) × (is_master scene from p ≡ true) × (tx.node.0 ≢ from.0)
 Addressed scene from to (Replicate tx p rs lc ws) = (hosts scene to p ≡ true) × (is_master scene to p ≡ false) × (tx.node.0 ≢ to.0)
-Addressed scene from to (Ack tx p ts) = to ≡ tx.node
+Addressed scene from to (Ack tx p ts) = (to ≡ tx.node) × (hosts scene from p ≡ true) × (tx.node.0 ≢ from.0)
 Addressed scene from to (Commit tx p fc ms) = Unit {0}
 Addressed scene from to (Abort tx p) = Unit {0}
 
@@ -247,19 +247,24 @@ module _ (here : Here) (ok : IsScene here.scene) (exists : has_node here here.no
       let seat = own_seat here d.view.versions i x (h.homes i x own) a.0 a.1 in
       (a.0.node, subst (λ (q : PartId). In a.0.node (replicas here.scene q)) a.2 seat.replica)
 
+  not_same : (n : NodeId) → same_node n here.node ≡ false → n.0 ≢ here.node.0
+  not_same n e = λ q. cc (eq-eqb n.0 here.node.0 q, e)
+
   pub post_addressed : (m : Message) → Post here input d e m → Addressed here.scene m.sender m.receiver m.body
   post_addressed m (p_request i k to x own own') = refl
   post_addressed m (p_prepare i lc p x own l g t) =
       let r = seat_row i lc p x own g in (refl, first_leads here.node r.0 (replicas here.scene p) r.1, first_other here.node r.0 (replicas here.scene p) r.1 t)
   post_addressed m (p_replicate i lc p x r own l g t j) =
       let o = other_one here.node r (replicas here.scene p) j in (row_hosts here.scene r p o.0, other_follows here.node r (replicas here.scene p) t o.1, λ q. o.1 (sym q))
-  post_addressed m (p_ack a ts pl) = refl
+  post_addressed m (p_ack a ts (by_master g)) =
+      let k = (here_named here input d a h.waiters g).1 in (refl, master_hosts here a.part k.master, not_same a.tx.node k.foreign)
+  post_addressed m (p_ack a ts (by_slave from c t)) = (refl, t.hosted, not_same a.tx.node t.foreign)
   post_addressed m (p_copy a r g j) =
       let f = other_one a.tx.node r (others here.node (replicas here.scene a.part)) j in
       let o = other_one here.node r (replicas here.scene a.part) f.0 in
       let k = (here_named here input d a h.waiters g).1 in
       (row_hosts here.scene r a.part o.0, other_follows here.node r (replicas here.scene a.part) k.master o.1, λ q. f.1 (sym q))
-  post_addressed m (p_refuse a by k g t) = (refl, (here_named here input d a h.waiters g).1.master)
+  post_addressed m (p_refuse a by k g t) = let z = (here_named here input d a h.waiters g).1 in (refl, z.master, not_same a.tx.node z.foreign)
   post_addressed m (p_reply tx k rs v by fc g) = refl
   post_addressed m (p_decision to (Commit tx p fc ms) z) = tt
   post_addressed m (p_decision to (Abort tx p) z) = tt

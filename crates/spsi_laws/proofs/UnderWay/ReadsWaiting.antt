@@ -101,6 +101,19 @@ module _ (here : Here) where
       let r = Waiters.waiter_turn here kept rest w d in
       and_on d r.1 (Waiters.wait_turns here r.0 rest r.1) (turn_swept kept rest w d q) (sweep input r.0 rest r.1 (waiter_turn-waited here input InWait kept rest w d q).same)
 
+  -- what follows a rule
+  pub after_reads : (input : Input) (r : Doing) (tx : TxId) (k : KeyId) → ((rs : Ts) × In (Read tx k rs) r.view.waiters) ⊎ Sends r.sent (λ m. Replies tx k m.body)
+      → ((rs : Ts) × In (Read tx k rs) (Steps.after_rule here r).view.waiters) ⊎ Sends (Steps.after_rule here r).sent (λ m. Replies tx k m.body)
+  unfolding Steps.after_rule
+  after_reads input r tx k h =
+      let m : Doing = Pass.pass_to here (length r.view.own) r in
+      let a : KeepsRequests here [] r m = pass_ here [] (length r.view.own) r in
+      let s : Sweeps m (Waiters.wait_turns here [] m.view.waiters m) = sweep input [] m.view.waiters m refl in
+      elim h [
+        | inl z ↦ (elim (s.reads tx k z.0 (a.reads tx k z.0 z.1)) [ inl j ↦ inl (z.0, j) | inr j ↦ inr j ])
+        | inr z ↦ inr (z.0, s.sent z.0 (a.sent z.0 z.1), z.2)
+      ]
+
   -- ---- a whole step
 
   pub record StepKeeps (old : List Message) (v : View) (e : Doing) : Type 0 where
