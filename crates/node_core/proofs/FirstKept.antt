@@ -11,7 +11,7 @@ use Rattle.str_scene.specs.declared.names.TxPlace.{TxPlace}
 use Rattle.node_core.specs.FirstSteps.{committed_at_once, final_version, first_step}
 use Rattle.node_core.specs.FirstViews.{IsDecidedOwn, IsFirstOwn, IsFirstVersion, IsFirstView, IsInOrder, decided_count, is_settled, times_limit}
 use Rattle.str_base.specs.Versions.{chain, insert_all, mark_of, newest, same_key, ts_or_zero}
-use Rattle.str_model.specs.Acts.{begun, closed, fresh, in_phase}
+use Rattle.str_model.specs.Acts.{begun, closed, decided_as, fresh, in_phase}
 use Rattle.str_model.specs.Clients.{of_session, reading_limit}
 use Rattle.str_model.specs.Strange.{distinct_keys}
 use Rattle.str_model.specs.Turns.{greatest, passed}
@@ -296,7 +296,7 @@ module _ (scene : Scene) (v : View) (is : IsScene scene) (f : IsFirst scene) (h 
       news = map (final_version (first_here scene) i (next_time v x)) x.writes
 
       y : Own
-      y = in_phase (Committed (Some (next_time v x)) (Some (next_time v x))) x
+      y = decided_as (Committed (Some (next_time v x)) (Some (next_time v x))) x
 
       u : View
       u = (committed_at_once (first_here scene) i (next_time v x) x (starts v)).view

@@ -7,7 +7,7 @@ use Rattle.str_base.specs.declared.names.TxId.{TxId}
 use Rattle.str_base.specs.declared.names.Version.{Version}
 use Rattle.str_base.specs.Versions.{of_pair, of_tx, settled, without}
 use Rattle.str_model.specs.declared.messages.Input.{Input}
-use Rattle.str_model.specs.Acts.{abort_came, aborted, accepted, acked, asked, begun, certified, closed, commit_came, committed, in_phase, is_hosted_of, local_version, marked, pre_version, refused, replied, requested, taken, waits}
+use Rattle.str_model.specs.Acts.{abort_came, aborted, accepted, acked, asked, begun, certified, closed, commit_came, committed, decided_as, is_hosted_of, local_version, marked, pre_version, refused, replied, requested, taken, waits}
 use Rattle.str_model.specs.Owned.{Owns}
 use Rattle.str_model.specs.Proposals.{proposed}
 use Rattle.str_model.specs.Turns.{CommittedAt, own_fate}
@@ -166,9 +166,9 @@ finals-act here input w d e (act_commit i lc fc x d' own l n le f g) h q m k =
       | inl j ↦ (let r = in_map (settled fc) (filter (is_hosted_of here (name_of here i)) d'.view.versions) q j in
           let u = in_filter (is_hosted_of here (name_of here i)) d'.view.versions r.0 r.1 in
           let name : q.tx ≡ name_of here i = ap (λ (z : Version). z.tx) (sym r.2) ∙ hosted_name here (name_of here i) r.0 u.1 in
-          let at : slice_get (slice_set d'.view.own i (in_phase (Committed (Some lc) (Some fc)) x)) (q.tx.seq - 1) ≡ Some (in_phase (Committed (Some lc) (Some fc)) x) =
-          ap (λ (z : TxId). slice_get (slice_set d'.view.own i (in_phase (Committed (Some lc) (Some fc)) x)) (z.seq - 1)) name
-          ∙ (ap (λ m. slice_get (slice_set d'.view.own i (in_phase (Committed (Some lc) (Some fc)) x)) m) (add-sub_cancel i 1) ∙ get_set d'.view.own i x (in_phase (Committed (Some lc) (Some fc)) x) own.0) in
+          let at : slice_get (slice_set d'.view.own i (decided_as (Committed (Some lc) (Some fc)) x)) (q.tx.seq - 1) ≡ Some (decided_as (Committed (Some lc) (Some fc)) x) =
+          ap (λ (z : TxId). slice_get (slice_set d'.view.own i (decided_as (Committed (Some lc) (Some fc)) x)) (z.seq - 1)) name
+          ∙ (ap (λ m. slice_get (slice_set d'.view.own i (decided_as (Committed (Some lc) (Some fc)) x)) m) (add-sub_cancel i 1) ∙ get_set d'.view.own i x (decided_as (Committed (Some lc) (Some fc)) x) own.0) in
           own_final (ap (λ (z : TxId). z.node.0) name) (ap own_fate at ∙ ap (λ (z : Version). CommittedAt z.ts.0) r.2))
       | inr j ↦ old_final here input w d' e (act_commit i lc fc x d' own l n le f g) h q (in_without (of_tx (name_of here i)) d'.view.versions q j) k
     ]

@@ -135,7 +135,7 @@ module _ (scene : Scene) (s : Stage) (i : ℕ) (v : View) (input : Input) (w : W
   by_origin : (q : Version) → Origin (at_place scene i) input d e q → Moved d.view q
   by_origin q (og_old j) = m_old j
   by_origin q (og_local n lc snap x y own c own' j same) =
-      let l = Clearing.certified_above (at_place scene i) d.view x.snap snap x.writes lc y c j in
+      let l = ReadGuards.certified_above (at_place scene i) d.view x.snap snap x.writes lc y c j in
       m_new (omega (arith, l, ap (λ (z : Version). z.ts.0) same, ap (λ (z : Version). mark_of d.view.marks z.key) same))
   by_origin q (og_pre a ts y p less j same) = m_new (omega (arith, less, ap (λ (z : Version). z.ts.0) same, ap (λ (z : Version). mark_of d.view.marks z.key) same))
   by_origin q (og_commit n lc fc x p own o t none le j name hosted same) =

@@ -9,7 +9,7 @@ use Rattle.si_laws.proofs.Order.OrderAtMaster.{Governed, governed-keeps, governe
 use Rattle.si_laws.proofs.Guards.VersionOrigins.{AllWritten, FinalsHosted, HasWritten, all_written_opening, all_written_step, finals_hosted-act}
 use Rattle.str_model.proofs.Changes.VersionChanges.{WaitStep, w_fewer, w_more, wait_step}
 use Rattle.si_laws.proofs.Marks.ReplyMarks.{FarReads, far_opening, far_step}
-use Rattle.si_laws.proofs.Reads.FinalsReported.{CommittedIn, Reported, reported-act, reported_opening}
+use Rattle.si_laws.proofs.Sources.FinalsReported.{CommittedIn, Reported, reported-act, reported_opening}
 use Rattle.str_model.proofs.Principle.SingleChanges.{Act, Arrives, Where, a_prepare, a_read}
 use Rattle.str_model.proofs.Principle.Everywhere.{IsSeen, Stage, at_place, during, everywhere, stage_of}
 use Rattle.str_model.proofs.Lists.ListReads.{get_set, get_set_other, got_replicate, got_set}

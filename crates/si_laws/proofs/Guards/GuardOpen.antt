@@ -11,7 +11,7 @@ use Rattle.si_laws.proofs.Guards.VersionOrigins.{HasWritten}
 use Rattle.si_laws.proofs.Order.WritersApart.{master_of}
 use Rattle.str_model.proofs.OwnFacts.LocalOwners.{same_own}
 use Rattle.si_laws.proofs.Changes.ReadLetters.{ReadLetter, is_other, letters_act, marks_act, rl_commit, rl_other, rl_reply, rl_request}
-use Rattle.si_laws.proofs.Reads.FinalsReported.{CommittedIn}
+use Rattle.si_laws.proofs.Sources.FinalsReported.{CommittedIn}
 use Rattle.si_laws.proofs.Guards.DecidedAbove.{all_moved}
 use Rattle.str_model.proofs.Changes.OwnTurns.{OwnChange, o_acks, o_aborts, o_asks, o_begins, o_certifies, o_closes, o_commits, o_puts, o_rests, own_change}
 use Rattle.str_model.proofs.Principle.SingleChanges.{Act, Where}
@@ -32,7 +32,7 @@ use Rattle.str_base.specs.declared.names.TxId.{TxId}
 use Rattle.str_base.specs.declared.names.Value.{Value}
 use Rattle.str_base.specs.declared.names.Version.{Version}
 use Rattle.str_base.specs.declared.names.Write.{Write}
-use Rattle.str_model.specs.Acts.{fresh, in_phase, local_version, marks_in}
+use Rattle.str_model.specs.Acts.{decided_as, fresh, local_version, marks_in}
 use Rattle.str_model.specs.Gates.{CommitAt, dep_parts, gate_of}
 use Rattle.str_model.specs.Owned.{Owns}
 use Rattle.str_model.specs.Turns.{own_fate}
@@ -49,7 +49,7 @@ use Rattle.str_scene.specs.Scenes.{Here, Scene, hosts, in_part, is_master, part_
 data OpenNext (here : Here) (d e : View) (j lc : ℕ) (x : Own) : Type 0 where
   on_open : (y : Own) → Owns e j y → is_decided y.phase ≡ false → lc_of y.phase ≡ Some lc → OpenNext here d e j lc x
   on_gone : (y : Own) → Owns e j y → IsAborted y → OpenNext here d e j lc x
-  on_commit : (fc : ℕ) → gate_of here d lc x ≡ CommitAt fc → Owns e j (in_phase (Committed (Some lc) (Some fc)) x) → OpenNext here d e j lc x
+  on_commit : (fc : ℕ) → gate_of here d lc x ≡ CommitAt fc → Owns e j (decided_as (Committed (Some lc) (Some fc)) x) → OpenNext here d e j lc x
 
 module _ (here : Here) (input : Input) (d e : View) (j lc : ℕ) (x : Own) (own : Owns d j x) (op : is_decided x.phase ≡ false) (l : lc_of x.phase ≡ Some lc) where
   set_next : (i : ℕ) (x' y : Own) → Owns d i x' → e.own ≡ slice_set d.own i y → (x ≡ x' → Owns e j y → OpenNext here d e j lc x) → OpenNext here d e j lc x
@@ -72,12 +72,12 @@ module _ (here : Here) (input : Input) (d e : View) (j lc : ℕ) (x : Own) (own 
   open_next (o_aborts i cause x' o f q) = set_next i x' _ o q (λ s z. on_gone _ z (lc_of x'.phase, cause, refl))
   open_next (o_commits i m fc x' o f k gate q vs) = set_next i x' _ o q (λ s z. committed_ i m fc x' k gate s z)
     where
-      committed_ : (i m fc : ℕ) (x' : Own) → lc_of x'.phase ≡ Some m → gate_of here d m x' ≡ CommitAt fc → x ≡ x' → Owns e j (in_phase (Committed (Some m) (Some fc)) x') → OpenNext here d e j lc x
+      committed_ : (i m fc : ℕ) (x' : Own) → lc_of x'.phase ≡ Some m → gate_of here d m x' ≡ CommitAt fc → x ≡ x' → Owns e j (decided_as (Committed (Some m) (Some fc)) x') → OpenNext here d e j lc x
       committed_ i m fc x' k gate s z =
           let both : Some m ≡ Some lc = sym k ∙ (ap (λ (y : Own). lc_of y.phase) (sym s) ∙ l) in
           let same : m ≡ lc = cc both in
           on_commit fc (subst₂ (λ (a : ℕ) (y : Own). gate_of here d a y ≡ CommitAt fc) same (sym s) gate)
-          (subst₂ (λ (a : ℕ) (y : Own). Owns e j (in_phase (Committed (Some a) (Some fc)) y)) same (sym s) z)
+          (subst₂ (λ (a : ℕ) (y : Own). Owns e j (decided_as (Committed (Some a) (Some fc)) y)) same (sym s) z)
   open_next (o_closes i x' o p q) = set_next i x' _ o q (λ s z. absurd (let y : lc_of x'.phase ≡ Some lc = ap (λ (u : Own). lc_of u.phase) (sym s) ∙ l in cc (ap lc_of p, y)))
 
 same_or_other : (t u : TxId) → (t ≡ u) ⊎ (t ≢ u)
@@ -115,7 +115,7 @@ module _ (scene : Scene) (ok : IsScene scene) (s : Stage) (i : ℕ) (v : View) (
     mine_in : In mine d.view.versions
     mine_in = (h.governed_.linked_.home i d.view (there_d scene s i v input w d e is seen act h) j x own).locals op lc l write in_buffer
 
-    module _ (fc : ℕ) (gate : gate_of (at_place scene i) d.view lc x ≡ CommitAt fc) (own' : Owns e.view j (in_phase (Committed (Some lc) (Some fc)) x)) where
+    module _ (fc : ℕ) (gate : gate_of (at_place scene i) d.view lc x ≡ CommitAt fc) (own' : Owns e.view j (decided_as (Committed (Some lc) (Some fc)) x)) where
       free : (x.snap.deps ≡ []) × (lc ≤ fc)
       free = gate_commits x.snap lc x.parts (map (dep_parts (at_place scene i) d.view.own) x.snap.deps) fc gate
 

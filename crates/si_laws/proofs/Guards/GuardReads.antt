@@ -12,7 +12,7 @@ use Rattle.si_laws.proofs.Guards.VersionOrigins.{HasWritten}
 use Rattle.str_model.proofs.OwnFacts.LocalOwners.{LocalOwner}
 use Rattle.si_laws.proofs.Changes.ReadLetters.{ReadLetter, is_other, letters_act, rl_commit, rl_other, rl_reply, rl_request}
 use Rattle.si_laws.proofs.Guards.ReadOrigins.{ReadOrigin, read_origin, ro_old, ro_read, ro_take}
-use Rattle.si_laws.proofs.Reads.ReadSources.{ReplyBack, pb_came, pb_old, reply-act}
+use Rattle.si_laws.proofs.Sources.ReadSources.{ReplyBack, pb_came, pb_old, reply-act}
 use Rattle.si_laws.proofs.Marks.ReplyMarks.{HasRs, has_rs_stays}
 use Rattle.si_laws.proofs.Guards.ReadsSaw.{ReadSees, ServeSees, clear_none, clear_seen, local-sees, locals_seen, plain-sees, sees_final, sees_local, sees_none, serve-sees, serves_final, serves_none}
 use Rattle.str_model.proofs.Changes.PairWords.{decided-step}

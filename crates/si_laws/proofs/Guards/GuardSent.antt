@@ -9,7 +9,7 @@ use Rattle.str_model.proofs.ViewFacts.MarksRise.{raise_all-rises}
 use Rattle.si_laws.proofs.Order.MasterFacts.{IsBefore}
 use Rattle.si_laws.proofs.Guards.VersionOrigins.{HasWritten, Origin, og_came, og_commit, og_local, og_old, og_pre, origin}
 use Rattle.si_laws.proofs.Changes.ReadLetters.{ReadLetter, is_other, letters_act, rl_commit, rl_other, rl_reply, rl_request}
-use Rattle.si_laws.proofs.Reads.FinalsReported.{CommittedIn}
+use Rattle.si_laws.proofs.Sources.FinalsReported.{CommittedIn}
 use Rattle.si_laws.proofs.Guards.DecidedAbove.{came_above}
 use Rattle.str_model.proofs.Principle.SingleChanges.{Act, Where}
 use Rattle.str_model.proofs.Principle.Everywhere.{IsSeen, Sent, Stage, at_place, during}

@@ -8,7 +8,7 @@ use Rattle.si_laws.proofs.Stages.LinkedStates.{IsCertified, one_certified, one_o
 use Rattle.si_laws.proofs.Order.MasterFacts.{IsBefore}
 use Rattle.si_laws.proofs.Guards.VersionOrigins.{HasWritten}
 use Rattle.str_model.proofs.OwnFacts.LocalOwners.{open-fate}
-use Rattle.si_laws.proofs.Reads.FinalsReported.{CommittedIn}
+use Rattle.si_laws.proofs.Sources.FinalsReported.{CommittedIn}
 use Rattle.str_model.proofs.Principle.Everywhere.{Stage}
 use Rattle.str_model.proofs.Lists.Members.{In}
 use Rattle.std.proofs.Common.{List, None, Option, Some, ap, arith, inl, inr, refl, slice_get, subst, subst₂, sym, true, ℕ, ◌+◌, ◌<◌, ◌∙◌, ◌≡◌, ◌≢◌, ◌≤◌, ◌⊎◌}

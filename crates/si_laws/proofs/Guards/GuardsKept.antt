@@ -8,7 +8,7 @@ use Rattle.si_laws.proofs.Stages.LinkedStates.{one_of}
 use Rattle.si_laws.proofs.Guards.VersionOrigins.{HasWritten, Origin, has_written_stays, og_came, og_commit, og_local, og_old, og_pre, origin}
 use Rattle.str_model.proofs.OwnFacts.LocalOwners.{open-fate, same_own}
 use Rattle.si_laws.proofs.Changes.ReadLetters.{marks_act}
-use Rattle.si_laws.proofs.Reads.FinalsReported.{CommittedIn, lift_c}
+use Rattle.si_laws.proofs.Sources.FinalsReported.{CommittedIn, lift_c}
 use Rattle.si_laws.proofs.Guards.DecidedAbove.{all_moved, own_local}
 use Rattle.str_model.proofs.Principle.SingleChanges.{Act, Where}
 use Rattle.str_model.proofs.Principle.Everywhere.{IsSeen, Stage, at_place, during}

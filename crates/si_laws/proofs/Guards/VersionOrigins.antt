@@ -120,7 +120,7 @@ AllWritten scene s = (n : ℕ) (v : View) (q : Version) → slice_get s.nodes n 
 module _ (scene : Scene) (s : Stage) (i : ℕ) (v : View) (input : Input) (w : Where) (d e : Doing) (is : slice_get s.nodes i ≡ Some v) (seen : IsSeen s input) (act : Act (at_place scene i) input w d e) where
   pub has_written_stays : (u : TxId) (k : KeyId) (a : Value) → HasWritten scene (during s i d) u k a → HasWritten scene (during s i e) u k a
   has_written_stays u k a h =
-      record { rs = h.rs; lc = h.lc; ws = h.ws; certified = Linked.certified_stays scene s i v input w d e is act u h.rs h.lc h.ws h.certified; write = h.write }
+      record { rs = h.rs; lc = h.lc; ws = h.ws; certified = LinkedStates.certified_stays scene s i v input w d e is act u h.rs h.lc h.ws h.certified; write = h.write }
 
   written_by : (q : Version) → Linked scene (during s i d) → Stand (at_place scene i) d.view → Masters scene (during s i d) → AllWritten scene (during s i d) → Origin (at_place scene i) input d e q → HasWritten scene (during s i e) q.tx q.key q.value
   written_by q l st m h (og_old j) = has_written_stays q.tx q.key q.value (h i d.view q (get_set s.nodes i v d.view is) j)

@@ -7,7 +7,7 @@ use Rattle.si_laws.proofs.Isolation.IsolationHolds.{isolated_run}
 use Rattle.si_laws.proofs.Guards.GuardedNewest.{newest_none, newest_some}
 use Rattle.si_laws.proofs.Guards.VersionOrigins.{HasWritten}
 use Rattle.str_model.proofs.OwnFacts.LocalOwners.{WeakDep}
-use Rattle.si_laws.proofs.Reads.FinalsReported.{CommittedIn, ReadOk, ro_committed, ro_gone, ro_listed}
+use Rattle.si_laws.proofs.Sources.FinalsReported.{CommittedIn, ReadOk, ro_committed, ro_gone, ro_listed}
 use Rattle.si_laws.proofs.Stages.ParticipantSeats.{of_nth}
 use Rattle.str_model.proofs.OwnFacts.DependenciesStand.{fate_open}
 use Rattle.str_model.proofs.Principle.Everywhere.{at_place, stage_of}

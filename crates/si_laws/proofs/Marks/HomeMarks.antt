@@ -11,7 +11,7 @@ use Rattle.str_model.specs.declared.messages.Input.{Input}
 use Rattle.str_model.specs.declared.names.ReadDone.{ReadDone}
 use Rattle.str_base.specs.declared.names.Value.{Value}
 use Rattle.dependency_set.specs.Snapshots.{Snap}
-use Rattle.str_model.specs.Acts.{abort_came, aborted, accepted, acked, asked, begun, certified, closed, commit_came, committed, fresh, in_phase, marked, refused, replied, requested, taken, waits, with_asked}
+use Rattle.str_model.specs.Acts.{abort_came, aborted, accepted, acked, asked, begun, certified, closed, commit_came, committed, decided_as, fresh, in_phase, marked, refused, replied, requested, taken, waits, with_asked}
 use Rattle.str_model.specs.Owned.{IsView, Owns, WaitsFor}
 use Rattle.str_model.specs.Runs.{opening_view, run}
 use Rattle.str_model.specs.Scripts.{noted, own_op}
@@ -145,9 +145,9 @@ module _ (here : Here) (ok : IsScene here.scene) where
       turn d'.view e.view i x (record x { snap = snap; parts = participants here.scene here.node x.writes; phase = Local lc }) refl refl own.0 (less d'.view x (record x { snap = snap; parts = participants here.scene here.node x.writes; phase = Local lc }) (record { reads = refl; rs = cert_rs here d'.view x.snap snap x.writes lc c; waits = λ k z. absurd z })) h
   marked-act input w d e (act_ask i lc p x d' own f l g) h = turn d'.view e.view i x (record x { parts = with_asked p x.parts; phase = Global lc }) refl refl own.0 (less d'.view x (record x { parts = with_asked p x.parts; phase = Global lc }) (record { reads = refl; rs = refl; waits = λ k z. absurd z })) h
   marked-act input w d e (act_ack i lc from tx p ts parts x d' own c q g) h = turn d'.view e.view i x (record x { parts = parts }) refl refl own.0 (less d'.view x (record x { parts = parts }) (record { reads = refl; rs = refl; waits = λ k z. z })) h
-  marked-act input w d e (act_abort i cause x d' own f y) h = turn d'.view e.view i x (in_phase (Aborted (lc_of x.phase) cause) x) refl refl own.0 (less d'.view x (in_phase (Aborted (lc_of x.phase) cause) x) (record { reads = refl; rs = refl; waits = λ k z. absurd z })) h
-  marked-act input w d e (act_commit i lc fc x d' own l n le f g) h = turn d'.view e.view i x (in_phase (Committed (Some lc) (Some fc)) x) refl refl own.0 (less d'.view x (in_phase (Committed (Some lc) (Some fc)) x) (record { reads = refl; rs = refl; waits = λ k z. absurd z })) h
-  marked-act input w d e (act_close i x d' own p n) h = turn d'.view e.view i x (in_phase (Committed None None) x) refl refl own.0 (less d'.view x (in_phase (Committed None None) x) (record { reads = refl; rs = refl; waits = λ k z. absurd z })) h
+  marked-act input w d e (act_abort i cause x d' own f y) h = turn d'.view e.view i x (decided_as (Aborted (lc_of x.phase) cause) x) refl refl own.0 (less d'.view x (decided_as (Aborted (lc_of x.phase) cause) x) (record { reads = refl; rs = refl; waits = λ k z. absurd z })) h
+  marked-act input w d e (act_commit i lc fc x d' own l n le f g) h = turn d'.view e.view i x (decided_as (Committed (Some lc) (Some fc)) x) refl refl own.0 (less d'.view x (decided_as (Committed (Some lc) (Some fc)) x) (record { reads = refl; rs = refl; waits = λ k z. absurd z })) h
+  marked-act input w d e (act_close i x d' own p n) h = turn d'.view e.view i x (decided_as (Committed None None) x) refl refl own.0 (less d'.view x (decided_as (Committed None None) x) (record { reads = refl; rs = refl; waits = λ k z. absurd z })) h
   marked-act input w d e (act_accept a ts d' g m) h = rest d'.view e.view (rises_self d'.view.marks) refl h
   marked-act input w d e (act_refuse a u k d' g m) h = rest d'.view e.view (rises_self d'.view.marks) refl h
   marked-act input w d e (act_take from a d' c l) h = rest d'.view e.view (rises_self d'.view.marks) refl h

@@ -21,7 +21,7 @@ use Rattle.str_base.specs.declared.names.Ts.{Ts}
 use Rattle.str_base.specs.declared.names.TxId.{TxId}
 use Rattle.str_base.specs.declared.names.Value.{Value}
 use Rattle.str_base.specs.Versions.{mark_of, same_node, stamp}
-use Rattle.str_model.specs.Acts.{fresh}
+use Rattle.str_model.specs.Acts.{decided_as, fresh}
 use Rattle.str_model.specs.declared.messages.Body.{Body}
 use Rattle.str_model.specs.declared.messages.Body.TheVariants.{Abort, Ack, Commit, Prepare, ReadReply, ReadReq, Refuse as Refusal, Replicate}
 use Rattle.str_model.specs.declared.messages.Input.{Input}
@@ -77,7 +77,7 @@ pub rs_stays : (here : Here) (d e : Doing) (i : ℕ) (x : Own) → TellStep here
 rs_stays here d e i x (t_rests o r) own = (x, subst (λ (xs : List Own). slice_get xs i ≡ Some x) (sym o) own, refl)
 rs_stays here d e i x (t_begins place rs b o r) own = (x, subst (λ (xs : List Own). slice_get xs i ≡ Some x) (sym o) (get_push d.view.own i (fresh place rs) x own), refl)
 rs_stays here d e i x (t_goes j z y is f g p q o r) own = rs_set d.view.own e.view.own i j x z y is q o own
-rs_stays here d e i x (t_decides j z y is f g p q o r) own = rs_set d.view.own e.view.own i j x z y is q o own
+rs_stays here d e i x (t_decides j z p is f g o r) own = rs_set d.view.own e.view.own i j x z (decided_as p z) is refl o own
 
 module _ (scene : Scene) (s : Stage) (i : ℕ) (v : View) (input : Input) (w : Where) (d e : Doing) (is : slice_get s.nodes i ≡ Some v) (seen : IsSeen s input) (act : Act (at_place scene i) input w d e) where
   pub has_rs_stays : (tx : TxId) (rs : ℕ) → HasRs scene (during s i d) tx rs → HasRs scene (during s i e) tx rs

@@ -129,7 +129,7 @@ module _ (scene : Scene) (ok : IsScene scene) (events : List Event) where
   commit_at_master i a f k ia c wrote_ =
       let en = entry scene ok (run scene events) (good_everywhere scene events) i a ia in
       let x : Own = en.made.x in
-      let phase = committed_phase x.phase x.gets f c.0 en.made.decided (ap (λ (z : Answer). z.outcome) (sym en.made.same) ∙ c.1) in
+      let phase = committed_phase x.phase en.made.gets f c.0 en.made.decided (ap (λ (z : Answer). z.outcome) (sym en.made.same) ∙ c.1) in
       let st : BegunAt scene (stage_of (run scene events)) a.tx x =
       record { n = en.m; i = en.made.i; view = en.v; there = en.is_view; own = en.made.owns; name = ap (λ (z : Answer). z.tx) en.made.same } in
       let wr = wrote_it (run scene events).answers a en.m en.made.i en.v x f k en.is_view en.made.owns (ap (λ (z : Answer). z.place) en.made.same) phase wrote_ in

@@ -18,7 +18,7 @@ use Rattle.str_base.specs.Values.{is_below}
 use Rattle.str_model.specs.declared.messages.Arrived.{Arrived}
 use Rattle.str_model.specs.declared.messages.Body.TheVariants.{Refuse as Refusal, Replicate}
 use Rattle.str_model.specs.declared.messages.Input.{Input}
-use Rattle.str_model.specs.Acts.{aborted, asked, certified, closed, committed, in_phase, marked, requested, with_asked}
+use Rattle.str_model.specs.Acts.{aborted, asked, certified, closed, committed, decided_as, in_phase, marked, requested, with_asked}
 use Rattle.str_model.specs.Arrivals
 use Rattle.str_model.specs.Arrivals.{evict, held_key}
 use Rattle.str_model.specs.Gates.{Ask, CommitAt, GateTurn, Missing, Shut, gate_of}
@@ -58,16 +58,16 @@ module _ (here : Here) (input : Input) (p : ℕ) where
   pub aborted_cause : (cause c : Cause) (lc : Option ℕ) (x y : Own) (d : Doing) → Owns d.view p x → Owns (aborted here p cause x d).view p y → y.phase ≡ Aborted lc c → cause ≡ c
   unfolding aborted
   aborted_cause cause c lc x y d own own' e =
-      let s : Aborted (lc_of x.phase) cause ≡ Aborted lc c = ap (λ (z : Own). z.phase) (set_owns d.view.own p x (in_phase (Aborted (lc_of x.phase) cause) x) y own own') ∙ e in cc s
+      let s : Aborted (lc_of x.phase) cause ≡ Aborted lc c = ap (λ (z : Own). z.phase) (set_owns d.view.own p x (decided_as (Aborted (lc_of x.phase) cause) x) y own own') ∙ e in cc s
 
-  aborted_owns : (cause : Cause) (x : Own) (d : Doing) → Owns d.view p x → Owns (aborted here p cause x d).view p (in_phase (Aborted (lc_of x.phase) cause) x)
+  aborted_owns : (cause : Cause) (x : Own) (d : Doing) → Owns d.view p x → Owns (aborted here p cause x d).view p (decided_as (Aborted (lc_of x.phase) cause) x)
   unfolding aborted
-  aborted_owns cause x d own = get_set d.view.own p x (in_phase (Aborted (lc_of x.phase) cause) x) own
+  aborted_owns cause x d own = get_set d.view.own p x (decided_as (Aborted (lc_of x.phase) cause) x) own
 
   closed_open : (y x : Own) (lc : Option ℕ) (c : Cause) (d : Doing) → Owns d.view p x → Owns (closed here p x d).view p y → y.phase ≡ Aborted lc c → ⊥
   unfolding closed
   closed_open y x lc c d own own' e =
-      let s : Committed None None ≡ Aborted lc c = ap (λ (z : Own). z.phase) (set_owns d.view.own p x (in_phase (Committed None None) x) y own own') ∙ e in cc s
+      let s : Committed None None ≡ Aborted lc c = ap (λ (z : Own). z.phase) (set_owns d.view.own p x (decided_as (Committed None None) x) y own own') ∙ e in cc s
 
   pub put_open : (d : Doing) (x z : Own) → Owns d.view p x → is_decided z.phase ≡ false → NotAborted p (put p z d).view
   put_open d x z own op y lc cause own' e = cc (ap (λ (u : Own). is_decided u.phase) (set_owns d.view.own p x z y own own'), op, ap is_decided e)
@@ -147,7 +147,7 @@ module _ (here : Here) (input : Input) (p : ℕ) where
       → y.phase ≡ Aborted lc cause → c ≡ cause
   left_cause c cause lc z y d own own' a =
       let e : Doing = aborted here p c z d in
-      let gone : Own = in_phase (Aborted (lc_of z.phase) c) z in
+      let gone : Own = decided_as (Aborted (lc_of z.phase) c) z in
       aborted_cause c cause lc z y d own (subst (λ (u : Doing). Owns u.view p y) (at_own_decided (λ u. Pass.again_own here p u.phase u) e gone (aborted_owns c z d own) refl) own') a
 
   -- up to the closing of its turn
@@ -180,7 +180,7 @@ module _ (here : Here) (input : Input) (p : ℕ) where
   gate_done_open again lc x (Shut q) d f own op = open_not d x own op
   gate_done_open again lc x (Missing q n) d f own op = open_not d x own op
   gate_done_open again lc x (CommitAt fc) d f own op =
-      λ y l cause own' a. let s : Committed (Some lc) (Some fc) ≡ Aborted l cause = ap (λ (u : Own). u.phase) (set_owns d.view.own p x (in_phase (Committed (Some lc) (Some fc)) x) y own own') ∙ a in cc s
+      λ y l cause own' a. let s : Committed (Some lc) (Some fc) ≡ Aborted l cause = ap (λ (u : Own). u.phase) (set_owns d.view.own p x (decided_as (Committed (Some lc) (Some fc)) x) y own own') ∙ a in cc s
 
   gate_phase_open : (again : Doing → Doing) (ph : Phase) (x : Own) (d : Doing) → ((e : Doing) → NotAborted p e.view → NotAborted p (again e).view) → Owns d.view p x → is_decided x.phase ≡ false
       → NotAborted p (Pass.gate_phase here p again ph x d).view

@@ -5,6 +5,7 @@ use Rattle.str_model.specs.declared.messages.Answer.{Answer}
 use Rattle.str_model.specs.declared.messages.Input.{Input}
 use Rattle.str_model.specs.declared.messages.Outcome.TheVariants.{Aborted as Aborts}
 use Rattle.str_model.specs.declared.names.Got.{Got}
+use Rattle.str_model.specs.Acts.{decided_as}
 use Rattle.str_model.specs.Owned.{Owns}
 use Rattle.str_model.specs.Runs.{run}
 use Rattle.str_model.specs.Views.{Aborted, Committed, Doing, Own, Phase, View, is_decided}
@@ -80,9 +81,9 @@ module _ (scene : Scene) (s : Stage) (i : ℕ) (v : View) (input : Input) (w : W
   released_named a cause (t_rests o r) h m q = lift_n a cause (h a cause (in_right s.answers d.released a (subst (In a) r m)) q)
   released_named a cause (t_begins place rs b o r) h m q = lift_n a cause (h a cause (in_right s.answers d.released a (subst (In a) r m)) q)
   released_named a cause (t_goes n x y own f g p rs o r) h m q = lift_n a cause (h a cause (in_right s.answers d.released a (subst (In a) r m)) q)
-  released_named a cause (t_decides n x y own f g p rs o r) h m q =
-      elim (in_release (told (at_place scene i) n y) d.released a (subst (In a) r m)) [
-        | inl t ↦ (let c = outcome_cause y.phase y.gets cause g (ap (λ (z : Answer). z.outcome) t ∙ q) in
+  released_named a cause (t_decides n x p own f g o r) h m q =
+      elim (in_release (told (at_place scene i) n (decided_as p x) x.gets) d.released a (subst (In a) r m)) [
+        | inl t ↦ (let c = outcome_cause p x.gets cause g (ap (λ (z : Answer). z.outcome) t ∙ q) in
             record {
               node = i;
               at_node = ap (λ (z : Answer). z.tx.node.0) (sym t);
@@ -90,8 +91,8 @@ module _ (scene : Scene) (s : Stage) (i : ℕ) (v : View) (input : Input) (w : W
               at_place_ = ap (λ (z : Answer). z.tx.seq) (sym t);
               view = e.view;
               there = here_e;
-              own = y;
-              owns = rw o (get_set d.view.own n x y own);
+              own = decided_as p x;
+              owns = rw o (get_set d.view.own n x (decided_as p x) own);
               lc = c.0;
               phase = c.1;
             })

@@ -29,7 +29,7 @@ use Rattle.str_model.proofs.Principle.Everywhere.{IsSeen, Sent, Stage, at_place,
 use Rattle.str_model.proofs.Changes.SnapshotsGain.{if_elim}
 use Rattle.str_model.proofs.Lists.ListReads.{get_push, get_set, get_set_other, got_replicate, got_set, same_or_not}
 use Rattle.str_model.proofs.Lists.Members.{In, in_append, in_at, in_filter, in_insert_all, in_left, in_map, in_right, in_without}
-use Rattle.si_laws.proofs.Reads.LetterSources.{LetterFrom, letter-act, lf_abort, lf_ack, lf_commit, lf_copy, lf_prepare, lf_refuse, lf_replicate, lf_reply, lf_request}
+use Rattle.si_laws.proofs.Sources.LetterSources.{LetterFrom, letter-act, lf_abort, lf_ack, lf_commit, lf_copy, lf_prepare, lf_refuse, lf_replicate, lf_reply, lf_request}
 use Rattle.str_model.proofs.ViewFacts.MarksRise.{same_key-is}
 use Rattle.str_model.proofs.OwnFacts.LocalOwners.{same_own}
 use Rattle.str_model.proofs.Changes.VersionChanges.{Placed, WaitStep, by_master, by_slave, w_fewer, w_more, wait_step}

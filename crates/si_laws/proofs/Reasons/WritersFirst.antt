@@ -17,7 +17,7 @@ use Rattle.str_model.proofs.Lists.Members.{in_at}
 use Rattle.si_laws.proofs.Reasons.DependenciesFirst.{cascades, dependencies_first}
 use Rattle.si_laws.proofs.Reasons.CommitsAfter.{committed_is, decided_later, fate_own, nth_place, order, stand_moment, stood_before, strict}
 use Rattle.str_model.proofs.OwnFacts.LocalOwners.{same_own}
-use Rattle.si_laws.proofs.Reads.FinalsReported.{CommittedIn, ReadOk, Reported, reported-act, reported_opening, ro_committed, ro_gone, ro_listed}
+use Rattle.si_laws.proofs.Sources.FinalsReported.{CommittedIn, ReadOk, Reported, reported-act, reported_opening, ro_committed, ro_gone, ro_listed}
 use Rattle.si_laws.specs.GateLaw.{CommittedBefore, GateLaw, HasCommitted, WritersFirst}
 use Rattle.si_laws.specs.Standing.{ReadFrom}
 

@@ -189,7 +189,7 @@ module _ (scene : Scene) (ok : IsScene scene) (w : World) (h : Good scene (stage
               omega (arith, r, ap (λ (z : Answer). z.rs.0) t.x.made.same, ap (λ (z : Answer). z.rs.0) t.y.made.same);
           fc = λ i j fc a b less is js e o.
               let t = of_session_both i j a b less is js e in
-              let c = committed_phase t.x.made.x.phase t.x.made.x.gets fc o.0 t.x.made.decided (sym (ap (λ (z : Answer). z.outcome) t.x.made.same) ∙ o.1) in
+              let c = committed_phase t.x.made.x.phase t.x.made.gets fc o.0 t.x.made.decided (sym (ap (λ (z : Answer). z.outcome) t.x.made.same) ∙ o.1) in
               let f = t.x.good.ordered.order t.x.made.i t.y.made.i t.x.made.x t.y.made.x t.less t.x.made.owns t.y_owns
               (sym (ap (λ (z : Answer). z.place.session.0) t.x.made.same) ∙ (ap (λ (p : SessionId). p.0) e ∙ ap (λ (z : Answer). z.place.session.0) t.y.made.same)) in
               omega (arith, f.final c.0 fc c.1, ap (λ (z : Answer). z.rs.0) t.y.made.same);

@@ -15,6 +15,7 @@ use Rattle.str_model.proofs.Lists.ListReads.{got_replicate, got_set}
 use Rattle.str_model.proofs.Lists.Members.{In, in_append}
 use Rattle.str_model.proofs.Changes.OwnChanges.{own_step}
 use Rattle.str_model.proofs.OwnFacts.PlacesInOrder.{InOrder, PlacedIn, order-step}
+use Rattle.si_laws.proofs.Scripts.EvaluationKept.{AllEvaluate, decision-ends, gives-act}
 use Rattle.si_laws.proofs.Sessions.SessionOrder.{Told, ours-step, rising-step, told-step, told_in}
 use Rattle.str_model.proofs.Changes.AnswerChanges.{Rising, none_pass, not_true, r_none, tell_step}
 use Rattle.str_model.proofs.OwnFacts.NodeTimes.{timed-step, timed_opening}
@@ -23,6 +24,7 @@ use Rattle.str_model.proofs.OwnFacts.NodeTimes.{timed-step, timed_opening}
 pub record NodeGood (scene : Scene) (n : ℕ) (answers : List Answer) (v : View) : Type 0 where
   pub timed : AreTimed v
   pub ordered : InOrder scene n v.own
+  pub evaluates : AllEvaluate (at_place scene n) v
   pub told_ : (s : ℕ) (text : Session) → nth scene.sessions s ≡ Some text → text.node.0 ≡ n + 1 → Told (at_place scene n) s v.own (filter (told_in s) answers)
 
 -- what holds of a cluster
@@ -45,7 +47,8 @@ mid-keeps scene n old input w d e a h =
       good = record {
         timed = timed-step d.view e.view (own_step here input w d e a) h.good.timed;
         ordered = order-step here n d e refl t h.good.timed h.good.ordered;
-        told_ = λ s text q r. told-step here n s old d e t h.up h.good.ordered (h.good.told_ s text q r);
+        evaluates = gives-act here input w d e a h.good.evaluates;
+        told_ = λ s text q r. told-step here n s old d e t (decision-ends here input w d e a h.good.evaluates) h.up h.good.ordered (h.good.told_ s text q r);
       };
       up = rising-step here d e t h.up;
       ours = ours-step here n d e t h.good.ordered h.ours;
@@ -98,6 +101,7 @@ good-keeps scene s i v input e is seen p h =
         record {
           timed = g.timed;
           ordered = g.ordered;
+          evaluates = g.evaluates;
           told_ = λ k text a b.
               let none : filter (told_in k) e.released ≡ [] = other_session scene i k text e.released a (λ c. q.0 (omega (arith, b, c))) m.ours in
               let same : filter (told_in k) (s.answers ++ e.released) ≡ filter (told_in k) s.answers =
@@ -111,6 +115,7 @@ good_opening scene =
       nodes = λ n v g. subst (NodeGood scene n []) (sym (got_replicate scene.nodes n (opening_view scene) v g)) (record {
         timed = timed_opening scene;
         ordered = record { placed = λ i x q. absurd (cc q); order = λ i j x y less q r s. absurd (cc q) };
+        evaluates = λ i x q. absurd (cc q);
         told_ = λ s text q r. record { made = λ c a g. absurd (cc g); none = λ f. refl; last = λ i x q ofs none. absurd (cc q) };
       });
       named = λ a k. absurd k;

@@ -22,7 +22,7 @@ use Rattle.str_base.specs.declared.names.Ts.{Ts}
 use Rattle.str_base.specs.declared.names.TxId.{TxId}
 use Rattle.str_base.specs.declared.names.Version.{Version}
 use Rattle.str_base.specs.declared.names.Write.{Write}
-use Rattle.str_model.specs.Acts.{in_phase, pre_version}
+use Rattle.str_model.specs.Acts.{decided_as, pre_version}
 use Rattle.str_model.specs.Owned.{Owns}
 use Rattle.str_model.specs.Proposals.{is_pair}
 use Rattle.str_model.specs.Strange.{has_named, has_node}
@@ -264,10 +264,10 @@ module _ (scene : Scene) (s : Stage) (i : ℕ) (v : View) (input : Input) (w : W
   new_told m (n_ack a ts k from q vs ds) = subst (λ (b : Body). Told scene (during s i e) m.sender m.receiver b) (sym q) (new_ack m a ts k from vs ds)
   new_told m (n_commit j lc fc x a ms own own' k r q) =
       subst (λ (b : Body). Told scene (during s i e) m.sender m.receiver b) (sym q.0)
-      (in_phase (Committed (Some lc) (Some fc)) x, own_decided j (in_phase (Committed (Some lc) (Some fc)) x) own' refl, (Some lc, refl), (a, k, refl, sym r.1), r.0, q.1)
+      (decided_as (Committed (Some lc) (Some fc)) x, own_decided j (decided_as (Committed (Some lc) (Some fc)) x) own' refl, (Some lc, refl), (a, k, refl, sym r.1), r.0, q.1)
   new_told m (n_abort j cause x a own own' k r q) =
       subst (λ (b : Body). Told scene (during s i e) m.sender m.receiver b) (sym q)
-      (in_phase (Aborted (lc_of x.phase) cause) x, own_decided j (in_phase (Aborted (lc_of x.phase) cause) x) own' refl, (lc_of x.phase, cause, refl), (a, k, refl, sym r.1), r.0)
+      (decided_as (Aborted (lc_of x.phase) cause) x, own_decided j (decided_as (Aborted (lc_of x.phase) cause) x) own' refl, (lc_of x.phase, cause, refl), (a, k, refl, sym r.1), r.0)
   new_told m (n_plain q) = plain_told scene (during s i e) m.sender m.receiver m.body q
 
   pub told_e : (m : Message) → In m (s.sent ++ e.sent) → Told scene (during s i e) m.sender m.receiver m.body

@@ -6,7 +6,7 @@ use Rattle.std.proofs.Common.{Bool, List, None, Option, Some, [], ap, arith, con
 use Rattle.std.proofs.lemmas.List.Sums.{sum_by-append, sum_by-cons}
 use Rattle.std.specs.List.{count_by, sum_by}
 use Rattle.str_base.specs.Versions.{stamp}
-use Rattle.str_model.specs.Acts.{abort_came, aborted, accepted, acked, asked, begun, certified, closed, commit_came, committed, fresh, in_phase, marked, refused, replied, requested, taken, waits, with_asked}
+use Rattle.str_model.specs.Acts.{abort_came, aborted, accepted, acked, asked, begun, certified, closed, commit_came, committed, decided_as, fresh, in_phase, marked, refused, replied, requested, taken, waits, with_asked}
 use Rattle.str_model.specs.Acts
 use Rattle.str_model.specs.declared.messages.Body.TheVariants.{Ack, ReadReply, ReadReq, Refuse as Refusal}
 use Rattle.str_model.specs.declared.messages.Input.{Input}
@@ -93,12 +93,12 @@ module _ (here : Here) (input : Input) (w : Where) where
       let r = sent_some d'.sent (Acts.ask_letters here i lc x q (replicas here.scene q)) in omega (arith, p, r)
   rise_act d e (act_ack i lc from tx q ts parts x d' own c r g) = let p = own_same d'.view.own i x (record x { parts = parts }) own.0 refl in omega (arith, p)
   rise_act d e (act_abort i cause x d' own f y) =
-      let p = own_same d'.view.own i x (in_phase (Aborted (lc_of x.phase) cause) x) own.0 refl in
+      let p = own_same d'.view.own i x (decided_as (Aborted (lc_of x.phase) cause) x) own.0 refl in
       let r = sent_some d'.sent (Acts.abort_letters here i x.parts) in omega (arith, p, r)
   rise_act d e (act_commit i lc fc x d' own l n le f g) =
-      let p = own_same d'.view.own i x (in_phase (Committed (Some lc) (Some fc)) x) own.0 (sym l) in
+      let p = own_same d'.view.own i x (decided_as (Committed (Some lc) (Some fc)) x) own.0 (sym l) in
       let r = sent_some d'.sent (Acts.commit_letters here i x fc d'.view) in omega (arith, p, r)
-  rise_act d e (act_close i x d' own q n) = let p = own_same d'.view.own i x (in_phase (Committed None None) x) own.0 (sym (ap lc_of q)) in omega (arith, p)
+  rise_act d e (act_close i x d' own q n) = let p = own_same d'.view.own i x (decided_as (Committed None None) x) own.0 (sym (ap lc_of q)) in omega (arith, p)
   rise_act d e (act_accept a ts d' h m) =
       let r = sent_ack d'.sent (Acts.copies here a (replicas here.scene a.part)) (letter here a.tx.node (Ack a.tx a.part (stamp ts))) refl in omega (arith, r)
   rise_act d e (act_refuse a u k d' h m) = let r = sent_some d'.sent (letter here a.tx.node (Refusal a.tx a.part u k) ∷ []) in omega (arith, r)

@@ -1,7 +1,7 @@
 -- No writer that an undecided transaction has read from is aborted, and each of its dependencies is live.
 use Rattle.si_laws.proofs.Isolation.WritersAnswered.{answering}
 use Rattle.si_laws.proofs.Order.CertifiedVersions.{BegunAt, begun_at, begun_there, one_state}
-use Rattle.si_laws.proofs.Reads.FinalsReported.{ReadOk, ro_committed, ro_gone, ro_listed}
+use Rattle.si_laws.proofs.Sources.FinalsReported.{ReadOk, ro_committed, ro_gone, ro_listed}
 use Rattle.si_laws.proofs.Stages.ParticipantSeats.{of_nth}
 use Rattle.si_laws.specs.Standing.{Begun, DependsOn, IsAborted, IsOpen, ReadFrom}
 use Rattle.spsi_laws.proofs.Dependencies.CommittedAlone.{committed_not_aborted}

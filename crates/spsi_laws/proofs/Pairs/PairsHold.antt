@@ -7,7 +7,7 @@ use Rattle.si_laws.proofs.Reasons.CommitsAfter.{committed_is}
 use Rattle.si_laws.proofs.Guards.GuardGrounds.{committer}
 use Rattle.si_laws.proofs.Guards.GuardSent.{same_or_other}
 use Rattle.si_laws.proofs.Stages.LinkedStates.{one_of}
-use Rattle.si_laws.proofs.Reads.FinalsReported.{CommittedIn}
+use Rattle.si_laws.proofs.Sources.FinalsReported.{CommittedIn}
 use Rattle.si_laws.proofs.Stages.ParticipantSeats.{of_nth}
 use Rattle.si_laws.specs.SpeculativeIsolation.{RestsFurther, RestsOn}
 use Rattle.si_laws.specs.Standing.{Before, IsCommitted, IsOpen, by_commit, by_node}

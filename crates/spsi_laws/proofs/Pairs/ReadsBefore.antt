@@ -5,7 +5,7 @@ use Rattle.dependency_set.specs.Snapshots.{Snap, holds}
 use Rattle.dependency_set.specs.declared.names.Dep.{Dep}
 use Rattle.si_laws.proofs.Dependencies.AroundLocal.{Around, Stand, final_below, final_late, local_above, local_below}
 use Rattle.si_laws.proofs.Guards.GuardGrounds.{Grounds, grounds_step}
-use Rattle.si_laws.proofs.Reads.FinalsReported.{Reported}
+use Rattle.si_laws.proofs.Sources.FinalsReported.{Reported}
 use Rattle.spsi_laws.proofs.Pairs.ReadsCounted.{AllCounted, Counted, ReadsVia, by_dep, c_final, c_listed, counted_act, dep_reads, its_own, via_back}
 use Rattle.spsi_laws.proofs.Pairs.SnapshotsGrow.{gate_below}
 use Rattle.spsi_laws.proofs.Pairs.CertifiedLast.{CertifiedWith, left_names, reads_last}

@@ -3,7 +3,7 @@
 use Rattle.std.proofs.Common.{List, None, Option, Some, [], add-sub_cancel, ap, arith, false, inl, inr, refl, slice_get, slice_set, subst, sym, ℕ, ◌+◌, ◌-◌, ◌∙◌, ◌∷◌, ◌≡◌, ◌≤◌, ◌⊎◌}
 use Rattle.dependency_set.specs.Snapshots.{Snap}
 use Rattle.dependency_set.specs.declared.names.Dep.{Dep}
-use Rattle.si_laws.proofs.Reads.FinalsReported.{CommittedIn, Reported, lift_c}
+use Rattle.si_laws.proofs.Sources.FinalsReported.{CommittedIn, Reported, lift_c}
 use Rattle.spsi_laws.proofs.Pairs.SnapshotsGrow.{GainsAll, Grows}
 use Rattle.spsi_laws.proofs.Pairs.CertifiedLast.{SettledIn, fates_on, lasts_act, left_names, looked}
 use Rattle.spsi_laws.proofs.Pairs.ReadsMove.{Moves, OwnMove, ReadsOn, Source, m_begins, m_rests, m_sets, mv_grows, mv_resolve, mv_same, no_read, one_read, own_move, src_final, src_local, src_none, src_reply}

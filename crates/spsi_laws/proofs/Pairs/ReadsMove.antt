@@ -2,7 +2,7 @@
 use Rattle.std.proofs.Common.{None, Option, Some, [], ap, false, inl, inr, refl, slice_get, slice_set, subst, sym, true, ℕ, ◌++◌, ◌-◌, ◌∙◌, ◌∷◌, ◌≡◌, ◌≤◌}
 use Rattle.dependency_set.specs.Snapshots.{Snap, holds}
 use Rattle.si_laws.proofs.Changes.ReadTurns.{local-is, reply-is}
-use Rattle.si_laws.proofs.Reads.ReadSources.{finish-snap, finish_next-snap}
+use Rattle.si_laws.proofs.Sources.ReadSources.{finish-snap, finish_next-snap}
 use Rattle.spsi_laws.proofs.Pairs.SnapshotsGrow.{FinalSource, Grows, cert-grows, local-grows, plain-grows, reply-grows}
 use Rattle.str_base.specs.declared.names.KeyId.{KeyId}
 use Rattle.str_base.specs.declared.names.Kind.TheVariants.{Final, Local as LocalKind}

@@ -16,7 +16,7 @@ use Rattle.str_model.proofs.Changes.SnapshotsGain.{Names, if_elim}
 use Rattle.str_model.proofs.Lists.ListReads.{got_push, got_set}
 use Rattle.str_model.proofs.Lists.Members.{In}
 use Rattle.str_model.proofs.Principle.OwnPaths.{free_at, op_or_commit-path}
-use Rattle.str_model.specs.Acts.{abort_came, aborted, accepted, acked, begun, commit_came, fresh, in_phase, marked, refused, replied, taken, waits}
+use Rattle.str_model.specs.Acts.{abort_came, aborted, accepted, acked, begun, commit_came, decided_as, fresh, in_phase, marked, refused, replied, taken, waits}
 use Rattle.str_model.specs.Arrivals.{held_key}
 use Rattle.str_model.specs.Arrivals
 use Rattle.str_model.specs.Clients
@@ -93,7 +93,7 @@ set_calm d e i x y own op q rd nm j z oz opz = elim (got_set d.own i j y z (subs
 
 pub aborted_calm : (here : Here) (i : ℕ) (cause : Rattle.str_base.specs.declared.names.Cause.Cause) (x : Own) (d : Doing) → Owns d.view i x → is_decided x.phase ≡ false → Calm d.view (aborted here i cause x d).view
 unfolding aborted
-aborted_calm here i cause x d own op = set_calm d.view (aborted here i cause x d).view i x (in_phase (Aborted (lc_of x.phase) cause) x) own op refl refl (λ seq n. n)
+aborted_calm here i cause x d own op = set_calm d.view (aborted here i cause x d).view i x (decided_as (Aborted (lc_of x.phase) cause) x) own op refl refl (λ seq n. n)
 
 module _ (here : Here) (input : Input) where
   -- ---- a client step

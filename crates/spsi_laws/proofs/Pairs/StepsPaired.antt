@@ -13,7 +13,7 @@ use Rattle.str_model.proofs.Principle.Everywhere.{IsSeen, Stage, at_place, durin
 use Rattle.str_model.proofs.Lists.ListReads.{get_set, got_replicate, got_set}
 use Rattle.str_model.proofs.Changes.DependencyLooks.{after_look}
 use Rattle.str_model.proofs.Principle.RulePaths.{rule-path}
-use Rattle.str_model.specs.Acts.{aborted, in_phase}
+use Rattle.str_model.specs.Acts.{aborted, decided_as}
 use Rattle.str_model.specs.Owned.{Owns}
 use Rattle.str_model.specs.Pass
 use Rattle.str_model.specs.Runs.{opening, opening_view, run}
@@ -41,7 +41,7 @@ module _ (here : Here) (i : ℕ) (x : Own) (d : Doing) (own : Owns d.view i x) (
   lost_calm : (cause : Cause) (y : Own) → is_decided y.phase ≡ false → Calm (put i y d).view (aborted here i cause y (put i y d)).view
   unfolding aborted
   lost_calm cause y op' =
-      set_calm (put i y d).view (aborted here i cause y (put i y d)).view i y (in_phase (Rattle.str_model.specs.Views.Aborted (Rattle.str_model.specs.Views.lc_of y.phase) cause) y) (get_set d.view.own i x y own) op' refl refl (λ seq n. n)
+      set_calm (put i y d).view (aborted here i cause y (put i y d)).view i y (decided_as (Rattle.str_model.specs.Views.Aborted (Rattle.str_model.specs.Views.lc_of y.phase) cause) y) (get_set d.view.own i x y own) op' refl refl (λ seq n. n)
 
   look_calm : (t : DepTurn) → dep_turn d.view.own x.snap ≡ t → Calm d.view (after_look here i x t d).view
   look_calm (Keep f es) e = left_calm (Keep f es) e

@@ -1,6 +1,6 @@
 -- Of two transactions that wrote one key: which is before the other, as it is known in the midst of a step too; and that each change keeps it.
 use Rattle.std.proofs.Common.{Some, add-sub_cancel, ap, arith, inl, inr, slice_get, slice_set, subst, sym, ℕ, ◌+◌, ◌-◌, ◌∙◌, ◌≡◌, ◌≤◌}
-use Rattle.si_laws.proofs.Reads.FinalsReported.{CommittedIn, Reported, lift_c, reported-act}
+use Rattle.si_laws.proofs.Sources.FinalsReported.{CommittedIn, Reported, lift_c, reported-act}
 use Rattle.spsi_laws.proofs.Pairs.CertifiedLast.{Lasts, fates_on, lasts_act}
 use Rattle.str_base.specs.declared.names.TxId.{TxId}
 use Rattle.str_base.specs.declared.names.Write.{Write}

@@ -27,7 +27,7 @@ use Rattle.str_model.proofs.Principle.StepPaths.{first-path, half_turn-path, res
 use Rattle.str_model.proofs.Changes.SnapshotsGain.{and_right, find_none, if_elim, in_last, or_false_right, visible-is}
 use Rattle.str_model.proofs.Lists.ListReads.{get_set, get_set_other}
 use Rattle.str_model.proofs.Lists.Members.{In, in_filter, in_flat_map, in_right, map_in}
-use Rattle.str_model.specs.Acts.{aborted, asked, certified, closed, committed, in_phase, marked, requested, with_asked}
+use Rattle.str_model.specs.Acts.{aborted, asked, certified, closed, committed, decided_as, in_phase, marked, requested, with_asked}
 use Rattle.str_model.specs.Gates.{Ask, CommitAt, DepParts, GateTurn, Missing, Shut, dep_parts, gate_of, gate_turn}
 use Rattle.str_model.specs.Gates
 use Rattle.str_model.specs.Owned.{Owns}
@@ -242,7 +242,7 @@ module _ (here : Here) where
   cert_half : (i : ℕ) (x : Own) (t : CertTurn) (d : Doing) → Owns d.view i x → Fit d.view → cert_turn here d.view x.snap x.writes ≡ t → HalfDone (Scripts.cert_done here i x t d).view i
   unfolding certified aborted
   cert_half i x (Certified lc snap) d o h t = put_free d.view _ i x (record x { snap = snap; parts = participants here.scene here.node x.writes; phase = Local lc }) o refl (λ s. s)
-  cert_half i x (Conflict u k) d o h t = put_free d.view _ i x (in_phase (Aborted (lc_of x.phase) _) x) o refl (λ s. s)
+  cert_half i x (Conflict u k) d o h t = put_free d.view _ i x (decided_as (Aborted (lc_of x.phase) _) x) o refl (λ s. s)
   cert_half i x (WaitGate by) d o h t = put_back d.view _ i x (in_phase CertWait x) o refl refl refl (cert_back d.view i x by h o t)
 
   again_half : (i : ℕ) (p : Phase) (x : Own) (d : Doing) → Owns d.view i x → x.phase ≡ p → Fit d.view → HalfDone (Pass.again_own here i p x d).view i
@@ -438,7 +438,7 @@ module _ (here : Here) where
     gate_done_rests i again lc x (Ask p) d rec o h f l e = rec p e (fits-act input (InTurn i) d (asked here i lc p x d) (act_ask i lc p x d (o, refl) f l e) h)
     gate_done_rests i again lc x (Shut q) d rec o h f l e = stays_rests d i x o (certified_rests d.view i lc x l (λ n. waits_for_ack lc x d.view (Shut q) e (λ p z. cc z) (λ c z. cc z) n))
     gate_done_rests i again lc x (Missing p m) d rec o h f l e = stays_rests d i x o (certified_rests d.view i lc x l (λ n. waits_for_ack lc x d.view (Missing p m) e (λ q z. cc z) (λ c z. cc z) n))
-    gate_done_rests i again lc x (CommitAt fc) d rec o h f l e = put_rests d.view _ i x (in_phase (Committed (Some lc) (Some fc)) x) o refl refl
+    gate_done_rests i again lc x (CommitAt fc) d rec o h f l e = put_rests d.view _ i x (decided_as (Committed (Some lc) (Some fc)) x) o refl refl
 
     gates_rest : (i n : ℕ) (d : Doing) (x : Own) (lc : ℕ) → Fit d.view → Owns d.view i x → lc_of x.phase ≡ Some lc → is_decided x.phase ≡ false → unasked_in x < n → DoneAt (Pass.gates here i n d).view i
     gates_rest i zero d x lc h o l op lt = absurd (omega (arith, lt))
@@ -474,8 +474,8 @@ module _ (here : Here) where
 
     close_free_rests : (i : ℕ) (wish : Bool) (x : Own) (d : Doing) → Owns d.view i x → DoneAt (Pass.close_free here i wish x d).view i
     unfolding aborted closed
-    close_free_rests i true x d o = put_rests d.view _ i x (in_phase (Aborted (lc_of x.phase) Rattle.str_base.specs.declared.names.Cause.TheVariants.Wish) x) o refl refl
-    close_free_rests i false x d o = put_rests d.view _ i x (in_phase (Committed None None) x) o refl refl
+    close_free_rests i true x d o = put_rests d.view _ i x (decided_as (Aborted (lc_of x.phase) Rattle.str_base.specs.declared.names.Cause.TheVariants.Wish) x) o refl refl
+    close_free_rests i false x d o = put_rests d.view _ i x (decided_as (Committed None None) x) o refl refl
 
     empty_not : (ds : List Dep) → Pass.is_empty ds ≡ false → ds ≡ [] → ⊥
     empty_not [] e q = cc e

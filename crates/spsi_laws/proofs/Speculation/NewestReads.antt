@@ -10,7 +10,7 @@ use Rattle.si_laws.proofs.Guards.ChainsInTime.{IsVisible, none_visible, visible_
 use Rattle.si_laws.proofs.Stages.LinkedStates.{one_certified, one_of}
 use Rattle.si_laws.proofs.Order.MasterFacts.{by_kind}
 use Rattle.si_laws.proofs.Guards.VersionOrigins.{HasWritten}
-use Rattle.si_laws.proofs.Reads.FinalsReported.{ReadOk, ro_committed, ro_gone, ro_listed}
+use Rattle.si_laws.proofs.Sources.FinalsReported.{ReadOk, ro_committed, ro_gone, ro_listed}
 use Rattle.si_laws.proofs.Stages.ParticipantSeats.{of_nth}
 use Rattle.si_laws.specs.SpeculativeIsolation.{ReadLocal}
 use Rattle.si_laws.specs.Standing.{IsOpen}
@@ -187,9 +187,9 @@ newest_holds scene ok es n v i x there own op r h ow = by_guard ((state scene ok
     by_guard : ReadGuard scene (stage_of (run scene es)) p.0 x.snap.rs r → ReadLocal (run scene es) n v x r
     by_guard (rg_final (fg_none q a g)) = absurd (let z : None ≡ Some ow.0 = sym q ∙ ow.2 in cc z)
     by_guard (rg_final (fg_some u f q c wr g)) =
-        absurd (committed_not_open scene (stage_of (run scene es)) ow.0 f ow.1 (subst (λ (t : TxId). Rattle.si_laws.proofs.Reads.FinalsReported.CommittedIn (stage_of (run scene es)) t f) (named u q) c) writer ow.4)
+        absurd (committed_not_open scene (stage_of (run scene es)) ow.0 f ow.1 (subst (λ (t : TxId). Rattle.si_laws.proofs.Sources.FinalsReported.CommittedIn (stage_of (run scene es)) t f) (named u q) c) writer ow.4)
     by_guard (rg_sent u f q c wr m) =
-        absurd (committed_not_open scene (stage_of (run scene es)) ow.0 f ow.1 (subst (λ (t : TxId). Rattle.si_laws.proofs.Reads.FinalsReported.CommittedIn (stage_of (run scene es)) t f) (named u q) c) writer ow.4)
+        absurd (committed_not_open scene (stage_of (run scene es)) ow.0 f ow.1 (subst (λ (t : TxId). Rattle.si_laws.proofs.Sources.FinalsReported.CommittedIn (stage_of (run scene es)) t f) (named u q) c) writer ow.4)
     by_guard (rg_gone u q g) =
         let there_ : BegunAt scene (stage_of (run scene es)) ow.0 g.x = record { n = p.0; i = g.j; view = g.view; there = g.there; own = g.owns; name = sym (named u q) ∙ g.name } in
         let same : g.x ≡ ow.1 = one_state scene (stage_of (run scene es)) ow.0 g.x ow.1 there_ writer in

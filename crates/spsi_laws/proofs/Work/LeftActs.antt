@@ -14,7 +14,7 @@ use Rattle.dependency_set.specs.Snapshots.{Snap}
 use Rattle.dependency_set.specs.declared.names.Dep.{Dep}
 use Rattle.str_model.proofs.Changes.SnapshotsGain.{and_left}
 use Rattle.str_model.proofs.Lists.Members.{In}
-use Rattle.str_model.specs.Acts.{abort_letters, aborted, ask_letters, asked, asked_ones, certified, closed, commit_letters, committed, in_phase, marked, marks_in, requested, with_asked}
+use Rattle.str_model.specs.Acts.{abort_letters, aborted, ask_letters, asked, asked_ones, certified, closed, commit_letters, committed, decided_as, in_phase, marked, marks_in, requested, with_asked}
 use Rattle.str_model.specs.Gates.{Ask, DepParts, GateTurn, gate_turn}
 use Rattle.str_model.specs.Gates
 use Rattle.str_model.specs.Views.{Aborted, Committed, Doing, Global, Local, Own, Remote, is_decided, lc_of, letter, name_of, put}
@@ -130,8 +130,8 @@ module _ (here : Here) where
   pub eases_abort : (i : ℕ) (cause : Cause) (x : Own) (d : Doing) (g c : ℕ) → slice_get d.view.own i ≡ Some x → length (asked_ones x.parts) + g ≤ left_of here x + c → Eases here d (aborted here i cause x d) g c
   unfolding aborted
   eases_abort i cause x d g c o l =
-      eases_own d (aborted here i cause x d) i x (in_phase (Aborted (lc_of x.phase) cause) x) (abort_letters here i x.parts) g c o refl refl refl refl
-      (let a = left_aborted here (in_phase (Aborted (lc_of x.phase) cause) x) (lc_of x.phase) cause refl in
+      eases_own d (aborted here i cause x d) i x (decided_as (Aborted (lc_of x.phase) cause) x) (abort_letters here i x.parts) g c o refl refl refl refl
+      (let a = left_aborted here (decided_as (Aborted (lc_of x.phase) cause) x) (lc_of x.phase) cause refl in
       let b = weights_map here.scene (λ (a : Asked). letter here a.node (Abort (name_of here i) a.part)) 1 (asked_ones x.parts) (λ z. refl) in
       omega (arith, a, b, l))
 
@@ -139,8 +139,8 @@ module _ (here : Here) where
   pub eases_commit : (i lc fc : ℕ) (x : Own) (d : Doing) → slice_get d.view.own i ≡ Some x → lc_of x.phase ≡ Some lc → is_decided x.phase ≡ false → Eases here d (committed here i lc fc x d) 0 0
   unfolding committed
   eases_commit i lc fc x d o l f =
-      eases_own d (committed here i lc fc x d) i x (in_phase (Committed (Some lc) (Some fc)) x) (commit_letters here i x fc d.view) 0 0 o refl refl refl refl
-      (let a = left_committed here (in_phase (Committed (Some lc) (Some fc)) x) (Some lc) (Some fc) refl in
+      eases_own d (committed here i lc fc x d) i x (decided_as (Committed (Some lc) (Some fc)) x) (commit_letters here i x fc d.view) 0 0 o refl refl refl refl
+      (let a = left_committed here (decided_as (Committed (Some lc) (Some fc)) x) (Some lc) (Some fc) refl in
       let b = weights_map here.scene (λ (a : Asked). letter here a.node (Commit (name_of here i) a.part (record { 0 = fc }) (marks_in here d.view a.part x.writes))) 1 x.parts (λ z. refl) in
       let k = few_parts_left here x lc l f in
       omega (arith, a, b, k))
@@ -149,8 +149,8 @@ module _ (here : Here) where
   pub eases_close : (i : ℕ) (x : Own) (d : Doing) → slice_get d.view.own i ≡ Some x → Eases here d (closed here i x d) 0 0
   unfolding closed
   eases_close i x d o =
-      eases_own d (closed here i x d) i x (in_phase (Committed None None) x) [] 0 0 o refl refl refl (sym (Rattle.std.proofs.Common.append-nil d.sent))
-      (let a = left_committed here (in_phase (Committed None None) x) None None refl in
+      eases_own d (closed here i x d) i x (decided_as (Committed None None) x) [] 0 0 o refl refl refl (sym (Rattle.std.proofs.Common.append-nil d.sent))
+      (let a = left_committed here (decided_as (Committed None None) x) None None refl in
       let z = weights_none here.scene in
       omega (arith, a, z))
 

@@ -15,7 +15,7 @@ use Rattle.str_base.specs.declared.names.PartId.{PartId}
 use Rattle.str_base.specs.declared.names.Ts.{Ts}
 use Rattle.str_base.specs.declared.names.TxId.{TxId}
 use Rattle.str_base.specs.declared.names.Version.{Version}
-use Rattle.str_model.specs.Acts.{abort_came, aborted, accepted, acked, asked, begun, certified, closed, commit_came, committed, decided_versions, fresh, in_phase, is_hosted_of, local_version, marked, pre_version, refused, replied, requested, taken, waits, with_asked}
+use Rattle.str_model.specs.Acts.{abort_came, aborted, accepted, acked, asked, begun, certified, closed, commit_came, committed, decided_as, decided_versions, fresh, in_phase, is_hosted_of, local_version, marked, pre_version, refused, replied, requested, taken, waits, with_asked}
 use Rattle.str_model.specs.Gates.{CommitAt, gate_of}
 use Rattle.str_model.specs.Owned.{Owns}
 use Rattle.str_model.specs.Proposals.{is_done, proposed}
@@ -39,11 +39,11 @@ pub data OwnChange (here : Here) (input : Input) (d e : View) : Type 0 where
       → e.own ≡ slice_set d.own i (record x { parts = with_asked p x.parts; phase = Global lc }) → OwnChange here input d e
   o_acks : (i lc : ℕ) (from : NodeId) (tx : TxId) (p : PartId) (ts : Ts) (parts : List Asked) (x : Own) → Owns d i x → Comes here input from (Ack tx p ts) → x.phase ≡ Global lc
       → KeepsAck here i x from tx p ts parts → e.own ≡ slice_set d.own i (record x { parts = parts }) → OwnChange here input d e
-  o_aborts : (i : ℕ) (cause : Cause) (x : Own) → Owns d i x → is_decided x.phase ≡ false → e.own ≡ slice_set d.own i (in_phase (Aborted (lc_of x.phase) cause) x)
+  o_aborts : (i : ℕ) (cause : Cause) (x : Own) → Owns d i x → is_decided x.phase ≡ false → e.own ≡ slice_set d.own i (decided_as (Aborted (lc_of x.phase) cause) x)
       → OwnChange here input d e
   o_commits : (i lc fc : ℕ) (x : Own) → Owns d i x → is_decided x.phase ≡ false → lc_of x.phase ≡ Some lc → gate_of here d lc x ≡ CommitAt fc
-      → e.own ≡ slice_set d.own i (in_phase (Committed (Some lc) (Some fc)) x) → e.versions ≡ decided_versions here (name_of here i) fc d.versions → OwnChange here input d e
-  o_closes : (i : ℕ) (x : Own) → Owns d i x → x.phase ≡ Closing false → e.own ≡ slice_set d.own i (in_phase (Committed None None) x) → OwnChange here input d e
+      → e.own ≡ slice_set d.own i (decided_as (Committed (Some lc) (Some fc)) x) → e.versions ≡ decided_versions here (name_of here i) fc d.versions → OwnChange here input d e
+  o_closes : (i : ℕ) (x : Own) → Owns d i x → x.phase ≡ Closing false → e.own ≡ slice_set d.own i (decided_as (Committed None None) x) → OwnChange here input d e
 
 -- the i-th own transaction is decided by the change
 pub record DecidesOne (d e : View) (i : ℕ) : Type 0 where
@@ -111,11 +111,11 @@ module _ (here : Here) (input : Input) (w : Where) where
     own_stays d e (act_ack j lc from t q ts parts x d' own c r g) k = inl k
     own_stays d e (act_abort j cause x d' own f y) k = elim (without_other j d'.view.versions k) [
       | inl h ↦ inl h
-      | inr q ↦ inr (subst (DecidesOne d'.view e.view) q (record { old = x; was = own.0; open_ = f; new = in_phase (Aborted (lc_of x.phase) cause) x; is = get_set d'.view.own j x _ own.0; decided = refl }))
+      | inr q ↦ inr (subst (DecidesOne d'.view e.view) q (record { old = x; was = own.0; open_ = f; new = decided_as (Aborted (lc_of x.phase) cause) x; is = get_set d'.view.own j x _ own.0; decided = refl }))
     ]
     own_stays d e (act_commit j lc fc x d' own l n le f g) k = elim (without_other j d'.view.versions k) [
       | inl h ↦ inl (in_all_old (map (settled fc) (filter (is_hosted_of here (name_of here j)) d'.view.versions)) (without (of_tx (name_of here j)) d'.view.versions) v h)
-      | inr q ↦ inr (subst (DecidesOne d'.view e.view) q (record { old = x; was = own.0; open_ = f; new = in_phase (Committed (Some lc) (Some fc)) x; is = get_set d'.view.own j x _ own.0; decided = refl }))
+      | inr q ↦ inr (subst (DecidesOne d'.view e.view) q (record { old = x; was = own.0; open_ = f; new = decided_as (Committed (Some lc) (Some fc)) x; is = get_set d'.view.own j x _ own.0; decided = refl }))
     ]
     own_stays d e (act_close j x d' own q n) k = inl k
     own_stays d e (act_accept a ts d' h m) k = inl (in_all_old (map (pre_version a ts) a.writes) d'.view.versions v k)

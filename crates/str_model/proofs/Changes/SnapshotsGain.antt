@@ -85,7 +85,7 @@ union_names [] es x h = absurd h
 union_names (d ∷ ds) es x (inl q) = subst (λ (z : Dep). Names z.seq (insert_dep d (union ds es))) q (insert_dep_names d (union ds es))
 union_names (d ∷ ds) es x (inr h) = let r = union_names ds es x h in (r.0, in_insert_dep_old d (union ds es) r.0 r.1, r.2)
 
-in_insert_dep : (d : Dep) (ds : List Dep) (x : Dep) → In x (insert_dep d ds) → (d ≡ x) ⊎ In x ds
+pub in_insert_dep : (d : Dep) (ds : List Dep) (x : Dep) → In x (insert_dep d ds) → (d ≡ x) ⊎ In x ds
 in_insert_dep d [] x (inl e) = inl e
 in_insert_dep d [] x (inr h) = absurd h
 in_insert_dep d (e ∷ es) x h = by_tests (in_insert_dep d es x) (nat_lt d.seq e.seq) (d.seq == e.seq) h
@@ -97,7 +97,7 @@ in_insert_dep d (e ∷ es) x h = by_tests (in_insert_dep d es x) (nat_lt d.seq e
     by_tests rec false false (inl q) = inr (inl q)
     by_tests rec false false (inr k) = elim (rec k) [ inl q ↦ inl q | inr j ↦ inr (inr j) ]
 
-in_union : (ds es : List Dep) (x : Dep) → In x (union ds es) → In x ds ⊎ In x es
+pub in_union : (ds es : List Dep) (x : Dep) → In x (union ds es) → In x ds ⊎ In x es
 in_union [] es x h = inr h
 in_union (d ∷ ds) es x h =
     elim (in_insert_dep d (union ds es) x h) [ inl q ↦ inl (inl q) | inr k ↦ (elim (in_union ds es x k) [ inl j ↦ inl (inr j) | inr j ↦ inr j ]) ]
@@ -214,7 +214,7 @@ find_none p (w ∷ vs) v e h = by_test (find_none p vs v) (p w) refl e h
     by_test rec false q n (inl same) = ap p (sym same) ∙ q
     by_test rec false q n (inr k) = rec n k
 
-in_met : (ws : List Write) (vs : List Version) (v : Version) → In v (met ws vs) → In v vs
+pub in_met : (ws : List Write) (vs : List Version) (v : Version) → In v (met ws vs) → In v vs
 in_met ws vs v h =
     let r = in_flat_map (λ (w : Write). chain w.key vs) ws v h in (in_filter (λ (x : Version). same_key x.key r.0.key) vs v r.2).0
 

@@ -17,7 +17,7 @@ use Rattle.str_base.specs.declared.names.PartId.{PartId}
 use Rattle.str_base.specs.declared.names.Ts.{Ts}
 use Rattle.str_base.specs.declared.names.Version.{Version}
 use Rattle.str_base.specs.declared.names.Write.{Write}
-use Rattle.str_model.specs.Acts.{decided_versions, fresh, in_phase, is_hosted_of, local_version, with_asked}
+use Rattle.str_model.specs.Acts.{decided_as, decided_versions, fresh, is_hosted_of, local_version, with_asked}
 use Rattle.str_model.specs.Gates
 use Rattle.str_model.specs.Gates.{CommitAt, DepParts, ack_or_zero, dep_parts, gate_acks, gate_asks, gate_deps, gate_of, gate_turn, may_ask}
 use Rattle.str_model.specs.Owned.{Owns}
@@ -171,7 +171,7 @@ module _ (here : Here) (d e : View) (stays : (i : ℕ) (v : Version) → v.tx �
     answered = λ k fc z a h. absurd (cc z);
   }
 
-  aborted-good : (i : ℕ) (cause : Cause) (x : Own) → OwnGood here d.versions i x → OwnGood here e.versions i (in_phase (Aborted (lc_of x.phase) cause) x)
+  aborted-good : (i : ℕ) (cause : Cause) (x : Own) → OwnGood here d.versions i x → OwnGood here e.versions i (decided_as (Aborted (lc_of x.phase) cause) x)
   aborted-good i cause x g = record {
     seats_are = g.seats_are;
     none = g.none;
@@ -182,7 +182,7 @@ module _ (here : Here) (d e : View) (stays : (i : ℕ) (v : Version) → v.tx �
   }
 
   committed-good : (i lc fc : ℕ) (x : Own) → is_decided x.phase ≡ false → lc_of x.phase ≡ Some lc → gate_of here d lc x ≡ CommitAt fc
-      → e.versions ≡ decided_versions here (name_of here i) fc d.versions → OwnGood here d.versions i x → OwnGood here e.versions i (in_phase (Committed (Some lc) (Some fc)) x)
+      → e.versions ≡ decided_versions here (name_of here i) fc d.versions → OwnGood here d.versions i x → OwnGood here e.versions i (decided_as (Committed (Some lc) (Some fc)) x)
   committed-good i lc fc x f l gate q g = record {
     seats_are = λ m n. g.seats_are lc l;
     none = λ n. absurd (cc n);
@@ -203,7 +203,7 @@ module _ (here : Here) (d e : View) (stays : (i : ℕ) (v : Version) → v.tx �
           (map_in (settled fc) (filter (is_hosted_of here (name_of here i)) d.versions) (local_version here i lc w)
           (filter_in (is_hosted_of here (name_of here i)) d.versions (local_version here i lc w) (g.locals f lc l w h) (hosted w u)))
 
-  closed-good : (i : ℕ) (x : Own) → x.phase ≡ Closing false → OwnGood here d.versions i x → OwnGood here e.versions i (in_phase (Committed None None) x)
+  closed-good : (i : ℕ) (x : Own) → x.phase ≡ Closing false → OwnGood here d.versions i x → OwnGood here e.versions i (decided_as (Committed None None) x)
   closed-good i x q g = record {
     seats_are = λ m l. absurd (cc l);
     none = λ l. g.none (ap lc_of q);

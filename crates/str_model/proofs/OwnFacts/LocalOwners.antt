@@ -8,7 +8,7 @@ use Rattle.str_base.specs.declared.names.Version.{Version}
 use Rattle.str_model.specs.declared.messages.Arrived.{Arrived}
 use Rattle.str_model.specs.declared.messages.Input.{Input}
 use Rattle.str_base.specs.Versions.{finalise, insert_all, of_pair, of_tx, same_tx, settled, without}
-use Rattle.str_model.specs.Acts.{abort_came, aborted, accepted, acked, asked, begun, certified, closed, commit_came, committed, decided_versions, in_phase, is_hosted_of, local_version, marked, pre_version, refused, replied, requested, taken, waits}
+use Rattle.str_model.specs.Acts.{abort_came, aborted, accepted, acked, asked, begun, certified, closed, commit_came, committed, decided_as, decided_versions, is_hosted_of, local_version, marked, pre_version, refused, replied, requested, taken, waits}
 use Rattle.str_model.specs.Owned.{Owns}
 use Rattle.str_model.specs.Proposals.{proposed}
 use Rattle.str_model.specs.Turns.{phase_fate}
@@ -198,14 +198,14 @@ module _ (here : Here) (input : Input) (w : Where) where
       ]
   locals-act d e (act_abort n cause x d' own f y) l u i k =
       let o = l u (in_without (of_tx (name_of here n)) d'.view.versions u i) k in
-      other_local d' e (own_step here input w d' e (act_abort n cause x d' own f y)) n (in_phase (Aborted (lc_of x.phase) cause) x) u o refl
+      other_local d' e (own_step here input w d' e (act_abort n cause x d' own f y)) n (decided_as (Aborted (lc_of x.phase) cause) x) u o refl
       (gone n d'.view.versions u o.place i o.node o.seq)
   locals-act d e (act_commit n lc fc x d' own l' m le f g) l u i k =
       let j = decided_old n fc d' u i k in
       let o = l u (in_without (of_tx (name_of here n)) d'.view.versions u j) k in
-      other_local d' e (own_step here input w d' e (act_commit n lc fc x d' own l' m le f g)) n (in_phase (Committed (Some lc) (Some fc)) x) u o refl
+      other_local d' e (own_step here input w d' e (act_commit n lc fc x d' own l' m le f g)) n (decided_as (Committed (Some lc) (Some fc)) x) u o refl
       (gone n d'.view.versions u o.place j o.node o.seq)
   locals-act d e (act_close n x d' own p m) l u i k =
       let o = l u i k in
-      other_local d' e (own_step here input w d' e (act_close n x d' own p m)) n (in_phase (Committed None None) x) u o refl
+      other_local d' e (own_step here input w d' e (act_close n x d' own p m)) n (decided_as (Committed None None) x) u o refl
       (λ q. cc (ap (λ z. lc_of z.phase) (same_own d'.view o.place n o.owner x o.owns own.0 q), o.lc, ap lc_of p))

@@ -4,7 +4,7 @@ use Rattle.std.proofs.Common.{List, Option, Some, [], ap, arith, eq-eqb, eqb-tru
 use Rattle.std.proofs.lemmas.Bool.{cases_order}
 use Rattle.std.proofs.lemmas.Option.{slice_get_within}
 use Rattle.str_scene.specs.declared.names.TxPlace.{TxPlace}
-use Rattle.str_model.specs.Acts.{fresh}
+use Rattle.str_model.specs.Acts.{decided_as, fresh}
 use Rattle.str_model.specs.Clients.{of_session}
 use Rattle.str_model.specs.Owned.{AreTimed}
 use Rattle.str_scene.specs.SceneLimits.{Exists}
@@ -102,4 +102,4 @@ pub order-step : (here : Here) (n : ℕ) (d e : Doing) → here.node.0 ≡ n + 1
 order-step here n d e node (t_rests o r) t h = rw o h
 order-step here n d e node (t_begins place rs b o r) t h = rw o (order_push here n place rs d node b t h)
 order-step here n d e node (t_goes i x y is f g p q o r) t h = rw o (order_set here.scene n i x y d.view.own is f p q h)
-order-step here n d e node (t_decides i x y is f g p q o r) t h = rw o (order_set here.scene n i x y d.view.own is f p q h)
+order-step here n d e node (t_decides i x p is f g o r) t h = rw o (order_set here.scene n i x (decided_as p x) d.view.own is f refl refl h)

@@ -16,7 +16,7 @@ use Rattle.str_base.specs.declared.names.KeyId.{KeyId}
 use Rattle.str_base.specs.declared.names.TxId.{TxId}
 use Rattle.str_base.specs.declared.names.Value.{Value}
 use Rattle.str_base.specs.declared.names.Write.{Write}
-use Rattle.str_model.specs.Acts.{abort_came, aborted, accepted, acked, asked, begun, certified, closed, commit_came, committed, fresh, in_phase, marked, refused, replied, requested, taken, waits, with_asked}
+use Rattle.str_model.specs.Acts.{abort_came, aborted, accepted, acked, asked, begun, certified, closed, commit_came, committed, decided_as, fresh, in_phase, marked, refused, replied, requested, taken, waits, with_asked}
 use Rattle.str_model.specs.Evaluation
 use Rattle.str_model.specs.Evaluation.{Unmet, eval_from, value_at}
 use Rattle.str_model.specs.Owned.{Owns, wrote_key}
@@ -251,14 +251,14 @@ module _ (here : Here) where
   script-act input w d e (act_ack i lc from tx p ts parts x d' own c q g) h =
       script_set d'.view.own i x (record x { parts = parts }) own.0 (λ s. record { covers = s.covers; whole = s.whole; waits_ = s.waits_; inside = s.inside; once = s.once }) h
   script-act input w d e (act_abort i cause x d' own f y) h =
-      script_set d'.view.own i x (in_phase (Aborted (lc_of x.phase) cause) x) own.0
-      (λ s. same_good x (in_phase (Aborted (lc_of x.phase) cause) x) refl refl refl (λ m q. s.whole m q) (λ q. absurd (cc q)) s) h
+      script_set d'.view.own i x (decided_as (Aborted (lc_of x.phase) cause) x) own.0
+      (λ s. same_good x (decided_as (Aborted (lc_of x.phase) cause) x) refl refl refl (λ m q. s.whole m q) (λ q. absurd (cc q)) s) h
   script-act input w d e (act_commit i lc fc x d' own l n le f g) h =
-      script_set d'.view.own i x (in_phase (Committed (Some lc) (Some fc)) x) own.0
-      (λ s. same_good x (in_phase (Committed (Some lc) (Some fc)) x) refl refl refl (λ m q. s.whole lc l) (λ q. absurd (cc q)) s) h
+      script_set d'.view.own i x (decided_as (Committed (Some lc) (Some fc)) x) own.0
+      (λ s. same_good x (decided_as (Committed (Some lc) (Some fc)) x) refl refl refl (λ m q. s.whole lc l) (λ q. absurd (cc q)) s) h
   script-act input w d e (act_close i x d' own p n) h =
-      script_set d'.view.own i x (in_phase (Committed None None) x) own.0
-      (λ s. same_good x (in_phase (Committed None None) x) refl refl refl (λ m q. absurd (cc q)) (λ q. absurd (cc q)) s) h
+      script_set d'.view.own i x (decided_as (Committed None None) x) own.0
+      (λ s. same_good x (decided_as (Committed None None) x) refl refl refl (λ m q. absurd (cc q)) (λ q. absurd (cc q)) s) h
   script-act input w d e (act_accept a ts d' g m) h = h
   script-act input w d e (act_refuse a u k d' g m) h = h
   script-act input w d e (act_take from a d' c l) h = h

@@ -8,7 +8,7 @@ use Rattle.str_base.specs.declared.names.Version.{Version}
 use Rattle.str_base.specs.declared.names.Write.{Write}
 use Rattle.str_base.specs.Versions.{is_local, of_tx, same_key}
 use Rattle.str_model.specs.declared.messages.Arrived.{Arrived}
-use Rattle.str_model.specs.Acts.{aborted, in_phase}
+use Rattle.str_model.specs.Acts.{aborted, decided_as}
 use Rattle.str_model.specs.Arrivals
 use Rattle.str_model.specs.Arrivals.{evict, held_key}
 use Rattle.str_model.specs.Scripts
@@ -55,7 +55,7 @@ module _ (here : Here) (a : Arrived) where
       by_key y None g e is hv =
           elim (order i lt) [ inl s ↦ below i x v w s is op hv hw k o l | inr s ↦ not_held n d.view.versions v w e hv hw k (subst (λ m. of_tx (name_of here m) v ≡ true) s o) l ]
       by_key y (Some z) g e is hv =
-          elim (got_set d.view.own n i (in_phase (Aborted (lc_of y.phase) (ByConflict a.tx z.key here.node)) y) x is) [
+          elim (got_set d.view.own n i (decided_as (Aborted (lc_of y.phase) (ByConflict a.tx z.key here.node)) y) x is) [
             | inl s ↦ cc (ap (λ (u : Own). is_decided u.phase) s.1, op)
             | inr s ↦ (elim (order i lt) [ inl r ↦ below i x v w r s.1 op (in_without (of_tx (name_of here n)) d.view.versions v hv) hw k o l | inr r ↦ absurd (s.0 r) ])
           ]

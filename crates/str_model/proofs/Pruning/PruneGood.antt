@@ -1,5 +1,5 @@
 -- What a step over a pruned list needs of its view, and that each single change keeps it.
-use Rattle.std.proofs.Common.{Bool, List, None, Option, Some, [], ap, append-nil, arith, eq-eqb, eqb-true, false, filter, inl, inr, map, not, refl, slice_get, slice_set, subst, sub-one, sym, true, ℕ, ◌&&◌, ◌++◌, ◌+◌, ◌==◌, ◌∙◌, ◌∷◌, ◌≡◌, ◌≤◌, ◌||◌, ◌⊎◌}
+use Rattle.std.proofs.Common.{Bool, List, Some, [], ap, append-nil, eq-eqb, eqb-true, false, filter, inl, inr, map, not, refl, slice_get, slice_set, sym, true, ℕ, ◌&&◌, ◌++◌, ◌==◌, ◌∙◌, ◌∷◌, ◌≡◌, ◌⊎◌}
 use Rattle.std.specs.List.{list_any}
 use Rattle.std.proofs.lemmas.List.Folds.{list_any-append}
 use Rattle.str_base.specs.declared.names.PartId.{PartId}
@@ -9,12 +9,8 @@ use Rattle.str_base.specs.Versions.{is_undecided, of_pair, of_tx, same_node, sam
 use Rattle.str_scene.specs.Scenes.{Here, hosts}
 use Rattle.str_model.specs.Acts
 use Rattle.str_model.specs.Acts.{abort_came, aborted, accepted, acked, asked, begun, certified, closed, commit_came, committed, marked, refused, replied, requested, taken, waits}
-use Rattle.str_model.specs.declared.messages.Body.TheVariants.{Prepare, ReadReq}
 use Rattle.str_model.specs.declared.messages.Input.{Input}
-use Rattle.str_model.specs.declared.messages.Input.TheVariants.{Deliver}
-use Rattle.str_model.specs.declared.messages.Message.{Message}
 use Rattle.str_model.specs.Proposals.{is_done, is_pair, proposed}
-use Rattle.str_model.specs.Steps.{decides}
 use Rattle.str_model.specs.Views.{Doing, Own, View, is_decided, name_of}
 use Rattle.str_model.proofs.Principle.SingleChanges.{Act, Where, act_abort, act_abort_came, act_accept, act_ack, act_ask, act_begin, act_certify, act_close, act_commit, act_commit_came, act_mark, act_put, act_refuse, act_reply, act_request, act_take, act_unwait, act_wait}
 use Rattle.str_model.proofs.Lists.ListReads.{get_push, get_set, get_set_other, same_or_not}

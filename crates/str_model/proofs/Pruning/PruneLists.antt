@@ -1,11 +1,10 @@
 -- What a list of versions keeps when it is pruned, and that pruning again, later or after a change comes to the same.
-use Rattle.std.proofs.Common.{Bool, List, None, Option, Some, [], ap, arith, eq-eqb, eqb-true, false, filter, if◌then◌else◌, inl, inr, nat_le, not, refl, subst, sym, true, ℕ, ◌&&◌, ◌<◌, ◌==◌, ◌||◌, ◌∙◌, ◌∷◌, ◌≡◌, ◌≤◌, ◌⊎◌, leb-true, le-leb}
+use Rattle.std.proofs.Common.{Bool, List, None, Option, Some, [], ap, arith, eq-eqb, eqb-true, false, filter, if◌then◌else◌, inl, inr, nat_le, not, refl, subst, true, ℕ, ◌&&◌, ◌||◌, ◌∙◌, ◌∷◌, ◌≡◌, ◌≤◌, ◌⊎◌, leb-true, le-leb}
 use Rattle.std.specs.List.{last_or, list_any}
 use Rattle.str_base.specs.declared.names.KeyId.{KeyId}
 use Rattle.str_base.specs.declared.names.Version.{Version}
-use Rattle.str_base.specs.Versions.{chain, insert_all, insert_version, is_before, is_undecided, newest, same_key, ts_or_zero, visible, without}
+use Rattle.str_base.specs.Versions.{is_undecided, newest, same_key, ts_or_zero, visible}
 use Rattle.str_model.specs.Pruning.{covers, hides, pruned_versions}
-use Rattle.str_model.proofs.Lists.Members.{In}
 
 pub or_cases : (p q : Bool) → (p || q) ≡ true → (p ≡ true) ⊎ (q ≡ true)
 or_cases true q e = inl refl

@@ -1,5 +1,5 @@
 -- What a replica decides is the same over a pruned list: in full at or above the mark, else up to the transaction that a refusal names.
-use Rattle.std.proofs.Common.{Bool, List, None, Option, Some, [], ap, false, filter, find, if◌then◌else◌, inl, inr, max, nat_lt, not, refl, subst, sym, true, ℕ, ◌&&◌, ◌+◌, ◌<◌, ◌||◌, ◌∙◌, ◌∷◌, ◌≡◌, ◌≤◌, ◌⊎◌, arith, ltb-true, lt-ltb}
+use Rattle.std.proofs.Common.{Bool, List, None, Option, Some, [], ap, false, find, if◌then◌else◌, inl, inr, max, nat_lt, not, refl, sym, true, ℕ, ◌&&◌, ◌+◌, ◌||◌, ◌∙◌, ◌∷◌, ◌≡◌, ◌≤◌, arith, ltb-true, lt-ltb}
 use Rattle.std.specs.List.{list_any}
 use Rattle.std.proofs.lemmas.Bool.{le-ltb}
 use Rattle.str_base.specs.declared.names.KeyId.{KeyId}
@@ -7,17 +7,16 @@ use Rattle.str_base.specs.declared.names.PartId.{PartId}
 use Rattle.str_base.specs.declared.names.TxId.{TxId}
 use Rattle.str_base.specs.declared.names.Version.{Version}
 use Rattle.str_base.specs.declared.names.Write.{Write}
-use Rattle.str_base.specs.Versions.{is_local, is_undecided, of_pair, of_tx, same_key, same_node}
+use Rattle.str_base.specs.Versions.{is_local, is_undecided, of_pair, of_tx, same_key}
 use Rattle.str_base.specs.declared.names.Kind.{Kind}
 use Rattle.str_base.specs.declared.names.Kind.TheVariants.{Final, Local, Pre}
 use Rattle.str_model.specs.declared.messages.Arrived.{Arrived}
 use Rattle.str_model.specs.Arrivals.{held_key}
-use Rattle.str_model.specs.Proposals.{Accept, Ignore, MasterTurn, Park, Refuse, accepts, is_done, is_known, master_parks, master_refuses, master_turn, parks, proposed, refuses}
+use Rattle.str_model.specs.Proposals.{MasterTurn, Refuse, accepts, is_done, is_known, master_parks, master_refuses, master_turn, parks, proposed, refuses}
 use Rattle.str_model.specs.Pruning.{covers, hides, pruned, pruned_versions}
 use Rattle.str_model.specs.Turns.{met}
 use Rattle.str_model.specs.Views.{View}
-use Rattle.str_model.proofs.Lists.Members.{In}
-use Rattle.str_model.proofs.Pruning.PruneLists.{and_cases, and_true, or_cases, or_left, or_right}
+use Rattle.str_model.proofs.Pruning.PruneLists.{and_cases}
 use Rattle.str_model.proofs.Pruning.PruneOrder.{InOrder, PassesOpen}
 use Rattle.str_model.proofs.Pruning.PruneTurns.{find_met_low, key_found, key_met_pruned, passed_pruned}
 

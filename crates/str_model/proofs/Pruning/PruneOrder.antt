@@ -1,13 +1,12 @@
 -- Lists of versions in order, and pruning around the changes of a list.
-use Rattle.std.proofs.Common.{Bool, List, None, Option, Some, [], ap, arith, false, filter, flat_map, if◌then◌else◌, inl, inr, map, nat_le, not, refl, subst, sym, true, ℕ, ◌&&◌, ◌++◌, ◌||◌, ◌∙◌, ◌∷◌, ◌≡◌, ◌≤◌, ◌⊎◌}
+use Rattle.std.proofs.Common.{Bool, List, [], ap, arith, false, filter, if◌then◌else◌, inl, inr, map, nat_le, not, refl, sym, true, ℕ, ◌&&◌, ◌||◌, ◌∙◌, ◌∷◌, ◌≡◌, ◌≤◌, ◌⊎◌}
 use Rattle.std.specs.List.{list_any}
-use Rattle.str_base.specs.declared.names.KeyId.{KeyId}
 use Rattle.str_base.specs.declared.names.Version.{Version}
-use Rattle.str_base.specs.Versions.{chain, finalise, insert_all, insert_version, is_before, is_undecided, same_key, settled, without}
+use Rattle.str_base.specs.Versions.{finalise, insert_all, insert_version, is_before, is_undecided, same_key, settled, without}
 use Rattle.str_model.specs.Pruning.{covers, hides, pruned_versions}
 use Rattle.str_model.proofs.Lists.Members.{In, in_filter, in_insert}
-use Rattle.str_model.proofs.Pruning.PruneLists.{and_cases, and_true, any_kept, any_later, filter_pruned, or_right, pruned_again}
-use Rattle.str_model.proofs.Lists.VersionOrder.{before_mix, before_not, before_trans}
+use Rattle.str_model.proofs.Pruning.PruneLists.{and_cases, and_true, any_kept, any_later, or_right, pruned_again}
+use Rattle.str_model.proofs.Lists.VersionOrder.{before_mix, before_not}
 
 -- in order: none comes before one that stands earlier
 abbrev pub InOrder : List Version → Type 0

@@ -1,26 +1,23 @@
 -- What a node decides is the same over a pruned list, for snapshots at or above the mark.
-use Rattle.std.proofs.Common.{Bool, List, None, Option, Some, [], ap, arith, eq-eqb, eqb-true, false, filter, find, flat_map, if◌then◌else◌, inl, inr, leb-true, map, max, nat_le, nat_lt, not, option_map, refl, subst, sym, true, ℕ, ◌&&◌, ◌++◌, ◌<◌, ◌+◌, ◌||◌, ◌∙◌, ◌∷◌, ◌≡◌, ◌≤◌, ◌⊎◌}
+use Rattle.std.proofs.Common.{Bool, List, None, Option, Some, [], ap, arith, eq-eqb, eqb-true, false, filter, find, if◌then◌else◌, inl, inr, leb-true, map, max, nat_le, not, option_map, refl, subst, sym, true, ℕ, ◌&&◌, ◌++◌, ◌+◌, ◌||◌, ◌∙◌, ◌∷◌, ◌≡◌, ◌≤◌}
 use Rattle.std.specs.List.{last_or, list_any}
 use Rattle.std.proofs.lemmas.List.Folds.{find-append}
 use Rattle.std.specs.Option.{option_or}
-use Rattle.std.proofs.lemmas.Bool.{le-ltb, ltb-false}
+use Rattle.std.proofs.lemmas.Bool.{le-ltb}
 use Rattle.dependency_set.specs.Snapshots.{Snap}
 use Rattle.str_base.specs.declared.names.KeyId.{KeyId}
 use Rattle.str_base.specs.declared.names.Kind.{Kind}
 use Rattle.str_base.specs.declared.names.Kind.TheVariants.{Final, Local, Pre}
-use Rattle.str_base.specs.declared.names.TxId.{TxId}
 use Rattle.str_base.specs.declared.names.Version.{Version}
 use Rattle.str_base.specs.declared.names.Write.{Write}
-use Rattle.str_base.specs.Versions.{chain, finalise, insert_all, is_before, is_pre, is_undecided, last_pre, last_undecided, mark_of, newest, same_key, same_node, settled, visible, without}
+use Rattle.str_base.specs.Versions.{chain, finalise, insert_all, is_pre, is_undecided, last_pre, last_undecided, mark_of, same_key, settled, without}
 use Rattle.str_scene.specs.Scenes.{Here}
-use Rattle.str_model.specs.declared.messages.Arrived.{Arrived}
-use Rattle.str_model.specs.Proposals.{Accept, Ignore, MasterTurn, Park, Refuse, accepts, master_parks, master_refuses, master_turn, parks, proposed, refuses}
 use Rattle.str_model.specs.Pruning.{covers, hides, pruned, pruned_versions}
 use Rattle.str_model.specs.Turns.{CertTurn, ReadTurn, ServeTurn, cert_after, cert_joined, cert_turn, conflicts, greatest, joined, joined_one, met, passed, read_after, read_turn, serve_after, serve_turn}
 use Rattle.str_model.specs.Turns
 use Rattle.str_model.specs.Views.{Own, View}
 use Rattle.str_model.proofs.Lists.Members.{In, in_filter}
-use Rattle.str_model.proofs.Pruning.PruneLists.{and_cases, and_true, any_more, filter_pruned, newest_pruned, or_cases, or_left, or_right, visible_pruned}
+use Rattle.str_model.proofs.Pruning.PruneLists.{and_cases, filter_pruned, newest_pruned, or_cases, or_left, or_right, visible_pruned}
 use Rattle.str_model.proofs.Pruning.PruneOrder.{InOrder, Kernel, PassesOpen, kernel_all, order_filter, pruned_without}
 use Rattle.str_model.proofs.Lists.VersionOrder.{before_time}
 

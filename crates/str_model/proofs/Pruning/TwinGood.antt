@@ -1,9 +1,9 @@
 -- What two steps that stand alike need holds at every change; so a step over a pruned view is a step over the full one.
-use Rattle.std.proofs.Common.{Bool, List, None, Option, Some, [], ap, false, if◌then◌else◌, inl, inr, not, refl, slice_get, subst, sym, true, ℕ, ◌&&◌, ◌++◌, ◌+◌, ◌-◌, ◌==◌, ◌∙◌, ◌∷◌, ◌≡◌, ◌≤◌, ◌⊎◌, arith, eqb-true, eq-eqb}
+use Rattle.std.proofs.Common.{Bool, List, Some, [], ap, false, if◌then◌else◌, inl, inr, refl, slice_get, subst, sym, true, ℕ, ◌++◌, ◌+◌, ◌==◌, ◌∙◌, ◌∷◌, ◌≡◌, ◌≤◌, ◌⊎◌, arith, eqb-true, eq-eqb}
 use Rattle.str_base.specs.declared.names.PartId.{PartId}
 use Rattle.str_base.specs.declared.names.TxId.{TxId}
 use Rattle.str_base.specs.declared.names.Version.{Version}
-use Rattle.str_base.specs.Versions.{is_undecided, of_pair, of_tx, same_node, same_part, same_tx}
+use Rattle.str_base.specs.Versions.{is_undecided, of_tx, same_node, same_part, same_tx}
 use Rattle.str_scene.specs.Scenes.{Here}
 use Rattle.str_model.specs.Acts.{abort_came, aborted, accepted, acked, asked, begun, certified, closed, commit_came, committed, marked, refused, replied, requested, taken, waits}
 use Rattle.str_model.specs.declared.messages.Body.{Body}
@@ -12,21 +12,20 @@ use Rattle.str_model.specs.declared.messages.Input.{Input}
 use Rattle.str_model.specs.declared.messages.Input.TheVariants.{Client, Deliver}
 use Rattle.str_model.specs.declared.messages.Message.{Message}
 use Rattle.str_model.specs.declared.messages.Waiter.{Waiter}
-use Rattle.str_model.specs.declared.messages.Waiter.TheVariants.{Held, Read}
+use Rattle.str_model.specs.declared.messages.Waiter.TheVariants.{Held}
 use Rattle.str_model.specs.Proposals.{holds_pair, is_done}
 use Rattle.str_model.specs.Pruning.{pruned}
 use Rattle.str_model.specs.Steps.{drop_held, step}
-use Rattle.str_model.specs.Views.{Doing, Own, View, is_decided, name_of, starts}
+use Rattle.str_model.specs.Views.{Doing, Own, View, is_decided, name_of}
 use Rattle.str_model.proofs.Principle.SingleChanges.{Act, Arrives, IsHere, Where, a_prepare, a_read, act_abort, act_abort_came, act_accept, act_ack, act_ask, act_begin, act_certify, act_close, act_commit, act_commit_came, act_mark, act_put, act_refuse, act_reply, act_request, act_take, act_unwait, act_wait, it_comes, it_waits, left_waiting}
 use Rattle.str_model.proofs.Pruning.PruneKept.{Above, above-act, order-act}
 use Rattle.str_model.proofs.Lists.Members.{In, in_append, in_left, in_right}
 use Rattle.str_model.proofs.Pruning.PruneGood.{Finals, Finished, f_done, f_own, finals-act}
 use Rattle.str_model.proofs.Pruning.PruneLists.{and_cases, pruned_again}
 use Rattle.str_model.proofs.Pruning.PruneOrder.{InOrder, PassesOpen, in_pruned, order_pruned}
-use Rattle.str_model.proofs.Pruning.TwinChoices.{Fit}
 use Rattle.str_model.proofs.Pruning.TwinRules.{BothTo, IsOpen, IsReady}
 use Rattle.str_model.proofs.Pruning.TwinStep.{BodyFar, InputFar, twin_step}
-use Rattle.str_model.proofs.Pruning.TwinTurns.{Far, Ready}
+use Rattle.str_model.proofs.Pruning.TwinTurns.{Far}
 
 -- a read request or a Prepare is of a transaction that has its decision, or its snapshot is at or above the mark
 abbrev pub BodyHigh : ℕ → (TxId → Type 0) → Body → Type 0

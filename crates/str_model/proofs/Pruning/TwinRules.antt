@@ -1,5 +1,5 @@
 -- The rules of inputs keep twins, and are idle alike.
-use Rattle.std.proofs.Common.{Bool, List, None, Option, Some, [], ap, false, if◌then◌else◌, inl, inr, is_some, length, max, min, nat_lt, not, option_map, refl, slice_get, slice_set, sub-one, subst, suc, sym, true, zero, ℕ, ◌&&◌, ◌++◌, ◌+◌, ◌-◌, ◌∙◌, ◌∷◌, ◌≡◌, ◌≤◌, ◌||◌, ◌⊎◌}
+use Rattle.std.proofs.Common.{Bool, List, None, Option, Some, ap, false, if◌then◌else◌, inl, inr, max, min, not, refl, slice_get, sub-one, subst, suc, sym, true, zero, ℕ, ◌&&◌, ◌+◌, ◌-◌, ◌∙◌, ◌≡◌, ◌≤◌, ◌⊎◌}
 use Rattle.std.specs.List.{list_any}
 use Rattle.partition_map.specs.declared.rows.Asked.{Asked}
 use Rattle.str_base.specs.declared.names.Cause.TheVariants.{Conflict as ByConflict}
@@ -7,31 +7,23 @@ use Rattle.str_base.specs.declared.names.KeyId.{KeyId}
 use Rattle.str_base.specs.declared.names.NodeId.{NodeId}
 use Rattle.str_base.specs.declared.names.PartId.{PartId}
 use Rattle.str_base.specs.declared.names.SessionId.{SessionId}
-use Rattle.str_base.specs.declared.names.Ts.{Ts}
 use Rattle.str_base.specs.declared.names.TxId.{TxId}
 use Rattle.str_base.specs.declared.names.Value.{Value}
-use Rattle.str_base.specs.declared.names.Version.{Version}
-use Rattle.str_base.specs.declared.names.Write.{Write}
 use Rattle.str_base.specs.Versions.{of_pair, same_key, same_node}
 use Rattle.str_scene.specs.declared.names.Op.{Op}
 use Rattle.str_scene.specs.declared.names.TxPlace.{TxPlace}
 use Rattle.str_scene.specs.Scenes.{Here, Session, hosts, hosts_key, is_master, nth}
-use Rattle.str_model.specs.declared.messages.Arrived.{Arrived}
-use Rattle.str_model.specs.declared.messages.Body.{Body}
-use Rattle.str_model.specs.declared.messages.Body.TheVariants.{Abort, Ack, Commit, Prepare, ReadReply, ReadReq, Refuse as Refusal, Replicate}
-use Rattle.str_model.specs.declared.messages.Input.{Input}
 use Rattle.str_model.specs.declared.messages.Waiter.{Waiter}
-use Rattle.str_model.specs.declared.messages.Waiter.TheVariants.{Held, Read}
+use Rattle.str_model.specs.declared.messages.Waiter.TheVariants.{Read}
 use Rattle.str_model.specs.Acts.{abort_came, aborted, commit_came, marked}
 use Rattle.str_model.specs.Arrivals
 use Rattle.str_model.specs.Clients
-use Rattle.str_model.specs.Proposals.{Accept, Ignore, MasterTurn, Park, Refuse, is_done, is_known, is_parked, master_turn, prepare_turn, proposed, takes, ts_limit}
-use Rattle.str_model.specs.Pruning.{pruned}
+use Rattle.str_model.specs.Proposals.{is_done, is_known}
 use Rattle.str_model.specs.Returns
 use Rattle.str_model.specs.Steps.{decides, drop_held}
 use Rattle.str_model.specs.Turns.{Give, ServeTurn, ServeWait, serve_turn}
 use Rattle.str_model.specs.Views.{Active, Aborted, CertWait, Closing, Committed, Doing, Global, Local, Own, Phase, ReadWait, Remote, Reply, View, is_decided}
-use Rattle.str_model.proofs.Pruning.PruneMaster.{TurnAlike, known_pruned, proposed_pruned, t_refuse, t_same}
+use Rattle.str_model.proofs.Pruning.PruneMaster.{known_pruned}
 use Rattle.str_model.proofs.Pruning.PruneOrder.{InOrder, PassesOpen}
 use Rattle.str_model.proofs.Pruning.TwinChoices.{Fit, ServedAlike, s_gives, s_same, serve_alike, twin_op_or_commit}
 use Rattle.str_model.proofs.Pruning.Twins.{Twin, twin_abort_came, twin_aborted, twin_accepted, twin_acked, twin_begun, twin_commit_came, twin_marked, twin_put, twin_refused, twin_replied, twin_taken, twin_waits}

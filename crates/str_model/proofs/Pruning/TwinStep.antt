@@ -1,9 +1,8 @@
 -- A whole step keeps twins, and is idle alike.
-use Rattle.std.proofs.Common.{Bool, List, None, Option, Some, [], ap, false, if◌then◌else◌, inl, inr, length, nat_lt, not, option_map, refl, slice_get, subst, suc, sym, true, zero, ℕ, ◌&&◌, ◌++◌, ◌∙◌, ◌∷◌, ◌≡◌, ◌≤◌, ◌||◌, ◌⊎◌}
+use Rattle.std.proofs.Common.{Bool, List, None, Option, Some, [], ap, false, if◌then◌else◌, inl, inr, length, nat_lt, not, option_map, refl, slice_get, subst, suc, sym, true, zero, ℕ, ◌&&◌, ◌∙◌, ◌∷◌, ◌≡◌, ◌≤◌, ◌||◌, ◌⊎◌}
 use Rattle.str_base.specs.declared.names.KeyId.{KeyId}
 use Rattle.str_base.specs.declared.names.NodeId.{NodeId}
 use Rattle.str_base.specs.declared.names.TxId.{TxId}
-use Rattle.str_base.specs.declared.names.Version.{Version}
 use Rattle.str_base.specs.declared.names.Write.{Write}
 use Rattle.str_base.specs.Versions.{same_node}
 use Rattle.str_scene.specs.Scenes.{Here, hosts, is_master}
@@ -12,24 +11,22 @@ use Rattle.str_model.specs.declared.messages.Body.{Body}
 use Rattle.str_model.specs.declared.messages.Body.TheVariants.{Abort, Ack, Commit, Prepare, ReadReply, ReadReq, Refuse as Refusal, Replicate}
 use Rattle.str_model.specs.declared.messages.Input.{Input}
 use Rattle.str_model.specs.declared.messages.Input.TheVariants.{Client, Deliver}
-use Rattle.str_model.specs.declared.messages.Message.{Message}
 use Rattle.str_model.specs.declared.messages.Waiter.{Waiter}
 use Rattle.str_model.specs.declared.messages.Waiter.TheVariants.{Held}
 use Rattle.str_model.specs.Acts.{refused}
 use Rattle.str_model.specs.Arrivals
 use Rattle.str_model.specs.Proposals.{Accept, Ignore, MasterTurn, Park, Refuse, is_known, is_parked, master_turn, prepare_turn, proposed, takes, ts_limit}
 use Rattle.str_model.specs.Pruning.{pruned}
-use Rattle.str_model.specs.Scripts
 use Rattle.str_model.specs.Steps
 use Rattle.str_model.specs.Strange.{is_valid}
-use Rattle.str_model.specs.Views.{Doing, Own, View, is_decided, letter, name_of, starts}
+use Rattle.str_model.specs.Views.{Doing, Own, View, letter, name_of, starts}
 use Rattle.str_model.proofs.Principle.SingleChanges.{Act, Comes, InRule, Path, Where, along}
 use Rattle.str_model.proofs.Lists.Members.{In}
 use Rattle.str_model.proofs.Pruning.PruneMaster.{TurnAlike, held_pruned, proposed_pruned, t_refuse, t_same}
 use Rattle.str_model.proofs.Pruning.PruneOrder.{InOrder}
 use Rattle.str_model.proofs.Principle.RulePaths.{evict-path, rule-path}
 use Rattle.str_model.proofs.Pruning.TwinChoices.{twin_at_own}
-use Rattle.str_model.proofs.Pruning.TwinRules.{BothTo, IsFar, IsOpen, IsReady, known_same, twin_abort_rule, twin_ack, twin_client, twin_commit_rule, twin_read_reply, twin_read_req, twin_refuse}
+use Rattle.str_model.proofs.Pruning.TwinRules.{BothTo, IsOpen, IsReady, known_same, twin_abort_rule, twin_ack, twin_client, twin_commit_rule, twin_read_reply, twin_read_req, twin_refuse}
 use Rattle.str_model.proofs.Pruning.Twins.{Twin, alike_append, alike_self, twin_aborted, twin_accepted, twin_refused, twin_taken, twin_waits}
 use Rattle.str_model.proofs.Pruning.TwinTurns.{Far, Ready, masters_alike, masters_same, twin_after}
 

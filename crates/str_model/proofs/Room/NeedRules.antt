@@ -23,7 +23,7 @@ use Rattle.str_model.specs.declared.messages.Input.TheVariants.{Client, Deliver}
 use Rattle.str_model.specs.declared.messages.Waiter.{Waiter}
 use Rattle.str_model.specs.declared.messages.Waiter.TheVariants.{Held, Read}
 use Rattle.str_base.specs.Versions.{same_key, same_node, stamp}
-use Rattle.str_model.specs.Acts.{abort_came, aborted, accepted, acked, begun, certified, commit_came, copies, fresh, in_phase, marked, refused, replied, requested, taken, waits}
+use Rattle.str_model.specs.Acts.{abort_came, aborted, accepted, acked, begun, certified, commit_came, copies, decided_as, fresh, in_phase, marked, refused, replied, requested, taken, waits}
 use Rattle.str_model.specs.Arrivals.{evict, held_key, master_done, prepare_rule, read_req, replicate_rule, serve_done, take_if}
 use Rattle.str_model.specs.Arrivals
 use Rattle.str_model.specs.Clients.{client_rule}
@@ -134,7 +134,7 @@ module _ (here : Here) (i : ℕ) where
   unfolding aborted
   abort_spent n k cause x d own f le m =
       let g = aborted_cost here i n cause x d le in
-      let o = opens_less d.view.own i x (in_phase (Aborted (lc_of x.phase) cause) x) own f refl in
+      let o = opens_less d.view.own i x (decided_as (Aborted (lc_of x.phase) cause) x) own f refl in
       record { cost_is = (let c = g.cost_is in omega (arith, c, o, m)); waiting = (let w : length (aborted here i cause x d).view.waiters ≡ length d.view.waiters = ap length g.waiters in omega (arith, w)) }
 
   put_spent : (x y : Own) (d : Doing) → Owns d.view i x → is_decided x.phase ≡ false → Spent 32 d (put i y d)
@@ -305,7 +305,7 @@ module _ (here : Here) (ok : IsScene here.scene) (exists : has_node here here.no
           let s = abort_spent here i 112 0 (ByConflict a.tx w.key here.node) x d own f (p i x own) (omega arith) in
           record {
             spent = (let c = s.cost_is in omega (arith, c));
-            parts = λ j y own'. elim (got_set d.view.own i j (in_phase (Aborted (lc_of x.phase) (ByConflict a.tx w.key here.node)) x) y own') [
+            parts = λ j y own'. elim (got_set d.view.own i j (decided_as (Aborted (lc_of x.phase) (ByConflict a.tx w.key here.node)) x) y own') [
               | inl q ↦ subst (λ (z : Own). length z.parts ≤ 112) (sym q.1) (p i x own)
               | inr q ↦ p j y q.1
             ];

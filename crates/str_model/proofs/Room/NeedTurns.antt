@@ -8,7 +8,7 @@ use Rattle.str_base.specs.declared.names.KeyId.{KeyId}
 use Rattle.str_base.specs.declared.names.PartId.{PartId}
 use Rattle.str_model.specs.declared.messages.Input.{Input}
 use Rattle.str_base.specs.Versions.{same_part}
-use Rattle.str_model.specs.Acts.{aborted, asked, in_phase, marked, with_asked}
+use Rattle.str_model.specs.Acts.{aborted, asked, decided_as, marked, with_asked}
 use Rattle.str_model.specs.Gates.{Ask, CommitAt, GateTurn, Missing, Shut, gate_of}
 use Rattle.str_model.specs.NodeFacts.{In, MomentFacts}
 use Rattle.str_model.specs.Owned.{Owns}
@@ -70,7 +70,7 @@ module _ (i : ℕ) where
 module _ (here : Here) (ok : IsScene here.scene) (exists : has_node here here.node ≡ true) (i : ℕ) where
   abort_stage : (n : ℕ) (cause : Cause) (x z : Own) (d : Doing) → Owns d.view i z → length x.parts ≤ 112 → Stage i n d (aborted here i cause x d)
   unfolding aborted
-  abort_stage n cause x z d own le = over (aborted_cost here i 112 cause x d le) (λ y own'. set_done i d z (in_phase (Aborted (lc_of x.phase) cause) x) own refl y own')
+  abort_stage n cause x z d own le = over (aborted_cost here i 112 cause x d le) (λ y own'. set_done i d z (decided_as (Aborted (lc_of x.phase) cause) x) own refl y own')
 
   -- ---- the look at dependencies
 

@@ -20,7 +20,7 @@ use Rattle.str_base.specs.declared.names.Version.{Version}
 use Rattle.str_base.specs.declared.names.Write.{Write}
 use Rattle.str_base.specs.Versions.{of_pair, of_tx, settled, stamp, without}
 use Rattle.str_model.specs.Strange.{is_valid}
-use Rattle.str_model.specs.Acts.{abort_came, aborted, accepted, acked, asked, begun, certified, closed, commit_came, committed, fresh, in_phase, is_hosted_of, local_version, marked, pre_version, refused, replied, requested, taken, waits, with_asked}
+use Rattle.str_model.specs.Acts.{abort_came, aborted, accepted, acked, asked, begun, certified, closed, commit_came, committed, decided_as, fresh, in_phase, is_hosted_of, local_version, marked, pre_version, refused, replied, requested, taken, waits, with_asked}
 use Rattle.str_model.specs.Clients.{reading_limit}
 use Rattle.str_model.specs.declared.messages.Arrived.{Arrived}
 use Rattle.str_model.specs.declared.messages.Body.{Body}
@@ -220,7 +220,7 @@ module _ (here : Here) (input : Input) (w : Where) where
             floor = u.floor;
             marks = u.marks;
             versions = without_below c (of_tx (name_of here i)) d'.view.versions u.versions;
-            own = set_below d'.view i (in_phase (Aborted (lc_of x.phase) cause) x) h (record { rs = o.rs; ffc = o.ffc; deps = o.deps; lc = o.lc; finals = λ t j. absurd j; acks = o.acks });
+            own = set_below d'.view i (decided_as (Aborted (lc_of x.phase) cause) x) h (record { rs = o.rs; ffc = o.ffc; deps = o.deps; lc = o.lc; finals = λ t j. absurd j; acks = o.acks });
             waiters = u.waiters;
           }
       view_act d e (act_commit i lc fc x d' own l n m f g) k h =
@@ -234,7 +234,7 @@ module _ (here : Here) (input : Input) (w : Where) where
             marks = u.marks;
             versions = insert_below c (map (settled fc) (filter (is_hosted_of here (name_of here i)) d'.view.versions)) (without (of_tx (name_of here i)) d'.view.versions)
                 (settled_below c fc (filter (is_hosted_of here (name_of here i)) d'.view.versions) less) (without_below c (of_tx (name_of here i)) d'.view.versions u.versions);
-            own = set_below d'.view i (in_phase (Committed (Some lc) (Some fc)) x) h (record {
+            own = set_below d'.view i (decided_as (Committed (Some lc) (Some fc)) x) h (record {
               rs = o.rs;
               ffc = o.ffc;
               deps = o.deps;
@@ -246,7 +246,7 @@ module _ (here : Here) (input : Input) (w : Where) where
           }
       view_act d e (act_close i x d' own p n) k h =
           let o = own_higher b c x le (own_at b d'.view h i x own.0) in
-          put_below d' i (in_phase (Committed None None) x) h (record { rs = o.rs; ffc = o.ffc; deps = o.deps; lc = λ z j. absurd (cc j); finals = λ t j. absurd j; acks = o.acks })
+          put_below d' i (decided_as (Committed None None) x) h (record { rs = o.rs; ffc = o.ffc; deps = o.deps; lc = λ z j. absurd (cc j); finals = λ t j. absurd j; acks = o.acks })
       view_act d e (act_accept a ts d' g m) k h =
           let k' : b + 1 ≤ c = k in
           let u = view_higher b c d'.view le h in

@@ -8,7 +8,7 @@ use Rattle.str_base.specs.declared.names.PartId.{PartId}
 use Rattle.dependency_set.specs.declared.names.Dep.{Dep}
 use Rattle.dependency_set.specs.Snapshots.{Snap}
 use Rattle.str_base.specs.Versions.{same_part}
-use Rattle.str_model.specs.Acts.{asked, committed, in_phase, with_asked}
+use Rattle.str_model.specs.Acts.{asked, committed, decided_as, with_asked}
 use Rattle.str_model.specs.Gates.{Ask, CommitAt, DepParts, GateTurn, Missing, Shut, gate_of, gate_turn, may_ask}
 use Rattle.str_model.specs.Gates
 use Rattle.str_model.specs.NodeFacts.{EndedAt, In, IsShut, how_many, one_if, seats}
@@ -216,7 +216,7 @@ module _ (here : Here) (i : ℕ) where
       by_gate lc x (Shut q) own l e = λ y m own' o k. one_lc d x y lc m own own' l k (subst IsShut (sym e) tt)
       by_gate lc x (Missing p r) own l e = λ y m own' o k. one_lc d x y lc m own own' l k (subst IsShut (sym e) tt)
       by_gate lc x (CommitAt fc) own l e = λ y m own' o k.
-          (let z : Own = in_phase (Committed (Some lc) (Some fc)) x in
+          (let z : Own = decided_as (Committed (Some lc) (Some fc)) x in
           let q : Some z ≡ Some y = sym (get_set d.view.own i x z own) ∙ own' in
           let is : z ≡ y = cc q in absurd (cc (ap (λ (u : Own). is_decided u.phase) is, o)))
       by_gate lc x (Ask p) own l e =

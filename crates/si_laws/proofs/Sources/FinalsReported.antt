@@ -33,11 +33,11 @@ use Rattle.si_laws.proofs.Dependencies.AroundLocal.{named_more}
 use Rattle.si_laws.proofs.Dependencies.LeftAlone.{carried}
 use Rattle.str_model.proofs.OwnFacts.EarlierDependencies.{depends-act}
 use Rattle.si_laws.proofs.Dependencies.DependencyFates.{Stays, now_aborted, now_committed, stays-act, stays_open}
-use Rattle.si_laws.proofs.Reads.LetterSources.{FinalFrom, IsLetter, LetterFrom, ff_came, ff_commit, ff_old, final-act, letter-act, lf_abort, lf_ack, lf_commit, lf_copy, lf_prepare, lf_refuse, lf_replicate, lf_reply, lf_request}
+use Rattle.si_laws.proofs.Sources.LetterSources.{FinalFrom, IsLetter, LetterFrom, ff_came, ff_commit, ff_old, final-act, letter-act, lf_abort, lf_ack, lf_commit, lf_copy, lf_prepare, lf_refuse, lf_replicate, lf_reply, lf_request}
 use Rattle.str_model.proofs.OwnFacts.LocalOwners.{Depends, same_own}
 use Rattle.str_model.proofs.Changes.VersionChanges.{WaitStep, w_fewer, w_more, wait_step}
 use Rattle.si_laws.proofs.Changes.ReadTurns.{give-is}
-use Rattle.si_laws.proofs.Reads.ReadSources.{ReadBack, ReplyBack, pb_came, pb_old, rb_final, rb_local, rb_none, rb_old, rb_reply, reads-act, reply-act}
+use Rattle.si_laws.proofs.Sources.ReadSources.{ReadBack, ReplyBack, pb_came, pb_old, rb_final, rb_local, rb_none, rb_old, rb_reply, reads-act, reply-act}
 use Rattle.str_model.proofs.Changes.PairWords.{decided-step}
 use Rattle.str_model.proofs.OwnFacts.DependenciesStand.{open_opening}
 use Rattle.str_model.proofs.OwnFacts.NodeTimes.{becomes-rs}
