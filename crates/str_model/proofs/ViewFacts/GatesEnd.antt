@@ -120,7 +120,7 @@ asked_of scene p parts o b h =
     subst (λ q. In q (all_parts scene)) (ap (λ (z : Asked). z.part) r.2) (o r.0 r.1)
 
 -- the participant for which the gate asks
-gate_open : (snap : Snap) (lc : ℕ) (parts : List Asked) (wrote : List DepParts) (p : PartId) → gate_turn snap lc parts wrote ≡ Ask p → (a : Asked) × In a parts × (a.part ≡ p) × (a.asked ≡ false)
+pub gate_open : (snap : Snap) (lc : ℕ) (parts : List Asked) (wrote : List DepParts) (p : PartId) → gate_turn snap lc parts wrote ≡ Ask p → (a : Asked) × In a parts × (a.part ≡ p) × (a.asked ≡ false)
 unfolding gate_turn
 gate_open snap lc parts wrote p e = by_ask (find (may_ask wrote) parts) refl e
   where
