@@ -14,6 +14,7 @@ pub mod RefuseSent
 pub mod MessagesSent
 pub mod RefuseReasons
 pub mod AnswersGiven
+mod EvictedScene
 pub mod CommitsAfter
 pub mod DependenciesFirst
 pub mod WritersFirst
