@@ -56,10 +56,6 @@ bounded_from b scene ok events t h =
     below_ : (t p : ℕ) → t < 2 ^ 62 + p → p ≤ 1024 * 113 → t < ts_limit
     below_ t p l r = omega (arith, l, r)
 
-pub and_both : (a b : Bool) → a ≡ true → b ≡ true → (a && b) ≡ true
-and_both true b e f = f
-and_both false b e f = absurd cc
-
 pub all_in : {A : Type 0} (test : A → Bool) (xs : List A) → ((x : A) → In x xs → test x ≡ true) → list_all test xs ≡ true
 all_in test [] f = refl
 all_in test (x ∷ xs) f = and_from (test x) (list_all test xs) (f x (inl refl)) (all_in test xs (λ y h. f y (inr h)))
@@ -72,10 +68,6 @@ any_less k test (w ∷ ws) e =
     let rest_ : list_any (same_key k) (map (λ (w : Write). w.key) (filter test ws)) ≡ false = any_less k test ws (or_false_right (same_key k w.key) _ e) in
     if_elim (λ (zs : List Write). list_any (same_key k) (map (λ (w : Write). w.key) zs) ≡ false) (test w) (w ∷ filter test ws) (filter test ws)
     (λ t. rw (or_false_left (same_key k w.key) _ e) rest_) (λ t. rest_)
-
-not_is_false : (b : Bool) → not b ≡ true → b ≡ false
-not_is_false true e = absurd cc
-not_is_false false e = refl
 
 pub filter_distinct : (test : Write → Bool) (ws : List Write) → AreDistinct ws → AreDistinct (filter test ws)
 filter_distinct test [] d = refl
