@@ -1,5 +1,5 @@
 pub mod Worked
-pub mod Kinds
+pub mod KindTests
 pub mod ListCounts
 pub mod Changes
 pub mod Principle

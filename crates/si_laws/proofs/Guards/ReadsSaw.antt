@@ -16,7 +16,7 @@ use Rattle.str_model.specs.Turns
 use Rattle.str_model.specs.Views.{Own, View}
 use Rattle.str_scene.specs.Scenes.{Here, first_or, hosts_key, part_of, replicas}
 use Rattle.str_base.specs.Members.{In}
-use Rattle.str_model.proofs.Kinds.{final_kind}
+use Rattle.str_model.proofs.KindTests.{final_kind}
 
 -- each version of the key but those above the snapshot is not Pre and not after p
 pub record Sees (vs : List Version) (k : KeyId) (rs : ℕ) (p : Version) : Type 0 where

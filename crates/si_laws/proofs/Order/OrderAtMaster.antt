@@ -33,7 +33,7 @@ use Rattle.str_base.proofs.SameNames.{cases_tx, is-same_tx, same_tx-is}
 use Rattle.str_base.proofs.Lists.{get_set, get_set_other, got_replicate, got_set}
 use Rattle.str_base.proofs.Members.{in_at}
 use Rattle.str_base.specs.Members.{In}
-use Rattle.str_model.proofs.Kinds.{local_kind}
+use Rattle.str_model.proofs.KindTests.{local_kind}
 
 -- what holds of every state: of messages, around Local versions, and at masters
 pub record Governed (scene : Scene) (s : Stage) : Type 0 where

@@ -36,7 +36,7 @@ use Rattle.str_scene.specs.Scenes.{Scene, is_master, part_of}
 use Rattle.str_base.proofs.Lists.{get_set_other, got_set}
 use Rattle.str_base.proofs.Members.{in_append}
 use Rattle.str_base.specs.Members.{In}
-use Rattle.str_model.proofs.Kinds.{final_kind}
+use Rattle.str_model.proofs.KindTests.{final_kind}
 
 module _ (scene : Scene) (s : Stage) (i : ℕ) (v : View) (input : Input) (w : Where) (d e : Doing) (is : slice_get s.nodes i ≡ Some v) (seen : IsSeen s input) (act : Act (at_place scene i) input w d e)
     (h : Linked scene (during s i d)) (st : Stand (at_place scene i) d.view) (m : Masters scene (during s i d)) where

@@ -37,7 +37,7 @@ use Rattle.str_base.proofs.SameNames.{same_key-is}
 use Rattle.si_laws.proofs.Stages.ParticipantSeats.{of_nth}
 use Rattle.str_base.specs.Members.{In}
 use Rattle.std.proofs.lemmas.Bool.{or_cases}
-use Rattle.str_model.proofs.Kinds.{pre_kind}
+use Rattle.str_model.proofs.KindTests.{pre_kind}
 
 -- ---- the look at the dependencies
 

@@ -37,7 +37,7 @@ use Rattle.str_base.proofs.Lists.{get_set, got_set}
 use Rattle.str_base.proofs.Members.{at_in, in_at, in_left}
 use Rattle.si_laws.proofs.Stages.ParticipantSeats.{of_nth}
 use Rattle.str_base.specs.Members.{In}
-use Rattle.str_model.proofs.Kinds.{local_kind}
+use Rattle.str_model.proofs.KindTests.{local_kind}
 
 -- the own transaction of this place has written the key
 abbrev pub WroteAt : ℕ → KeyId → View → Type 0

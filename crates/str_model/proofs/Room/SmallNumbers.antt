@@ -20,7 +20,7 @@ use Rattle.str_model.proofs.OwnFacts.FewOwn.{is_open, open_few}
 use Rattle.str_model.proofs.Changes.PairWords.{any_has}
 use Rattle.str_base.proofs.Tests.{and_true_left, and_true_right}
 use Rattle.str_base.specs.Members.{In}
-use Rattle.str_model.proofs.Kinds.{local_kind}
+use Rattle.str_model.proofs.KindTests.{local_kind}
 
 -- ---- evictions
 

@@ -34,7 +34,7 @@ use Rattle.str_base.proofs.SameNames.{same_part-is}
 use Rattle.str_base.proofs.Tests.{and_true_left, and_true_right}
 use Rattle.str_base.proofs.Lists.{found_passes}
 use Rattle.str_base.specs.Members.{In}
-use Rattle.str_model.proofs.Kinds.{local_kind}
+use Rattle.str_model.proofs.KindTests.{local_kind}
 
 -- ---- whom a read and a certification are told of
 
