@@ -175,7 +175,7 @@ module _ (scene : Scene) (ok : IsScene scene) (s : Stage) (i : ℕ) (v : View) (
           before z = open_not scene s i v input w d e is seen act h j gc.0 x u own op name (h.reported.commits m u (part_of scene k) gc ms z body)
 
           now : ReadLetter (at_place scene i) input d e m → (c : KeyMark) × In c ms × (c.key ≡ k) × (rs ≤ c.mark.0)
-          now (rl_request n g y o b) = absurd (cc (b, body))
+          now (rl_request n g y o to b) = absurd (cc (b, body))
           now (rl_reply t g r c by f sv sn b q) = absurd (cc (b, body))
           now (rl_other b) = absurd (cc (ap is_other body, b))
           now (rl_commit n lc' f y q o g inp recv b) =

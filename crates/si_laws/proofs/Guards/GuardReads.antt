@@ -119,7 +119,7 @@ module _ (scene : Scene) (ok : IsScene scene) (s : Stage) (i : ℕ) (v : View) (
       old z = let r = g.replies m z tx k a by fc body in (r.0, has_rs_stays scene s i v input w d e is seen act tx r.0 r.1, up r.0 k a by r.2)
 
       fresh_ : ReadLetter (at_place scene i) input d e m → (rs : ℕ) × HasRs scene (during s i e) tx rs × FinalGuard scene (during s i e) rs k a by
-      fresh_ (rl_request n l x own b) = absurd (cc (b, body))
+      fresh_ (rl_request n l x own to b) = absurd (cc (b, body))
       fresh_ (rl_commit n lc f x p own o r t b) = absurd (cc (b, body))
       fresh_ (rl_other b) = absurd (cc (ap is_other body, b))
       fresh_ (rl_reply t l rs c u f sv sn b q) =

@@ -49,7 +49,7 @@ module _ (scene : Scene) (s : Stage) (i : ℕ) (v : View) (input : Input) (w : W
   ]
     where
       fresh_ : ReadLetter (at_place scene i) input d e m → (q : KeyMark) × In q ms × (q.key ≡ k) × (rs ≤ q.mark.0)
-      fresh_ (rl_request n l x own b) = absurd (cc (b, body))
+      fresh_ (rl_request n l x own to b) = absurd (cc (b, body))
       fresh_ (rl_reply t l r y by fc' sv sn b q) = absurd (cc (b, body))
       fresh_ (rl_other b) = absurd (cc (ap is_other body, b))
       fresh_ (rl_commit n lc' f' y q o o' inp recv b) =

@@ -159,7 +159,7 @@ module _ (scene : Scene) (s : Stage) (i : ℕ) (v : View) (input : Input) (w : W
   ]
     where
       fresh_ : ReadLetter (at_place scene i) input d e m → CommitFrom m tx p ms
-      fresh_ (rl_request n l x own b) = absurd (cc (b, q))
+      fresh_ (rl_request n l x own to b) = absurd (cc (b, q))
       fresh_ (rl_reply t l r c o gc g f b y) = absurd (cc (b, q))
       fresh_ (rl_commit n lc gc x a own f g r b) =
           let same : Commit (name_of (at_place scene i) n) a.part (stamp gc) (Acts.marks_in (at_place scene i) d.view a.part x.writes) ≡ Commit tx p fc ms = sym b ∙ q in

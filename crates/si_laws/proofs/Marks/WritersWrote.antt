@@ -178,7 +178,7 @@ module _ (scene : Scene) (s : Stage) (i : ℕ) (v : View) (input : Input) (w : W
   ]
     where
       fresh_ : ReadLetter (at_place scene i) input d e m → WroteKey scene (during s i e) u k
-      fresh_ (rl_request n l x own b) = absurd (cc (b, q))
+      fresh_ (rl_request n l x own to b) = absurd (cc (b, q))
       fresh_ (rl_reply z l r c o gc g f b y) =
           let same : ReadReply z l c o _ ≡ ReadReply tx k a by fc = sym b ∙ q in
           let key : l ≡ k = cc same in

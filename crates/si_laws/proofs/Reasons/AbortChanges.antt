@@ -100,10 +100,10 @@ module _ (here : Here) (input : Input) (p : ℕ) where
   finish_next_open None v x o = o
   finish_next_open (Some op) v x o = finish_open op v x o
 
-  at_own_is : (f : Own → Doing → Doing) (d : Doing) (x : Own) → Owns d.view p x → is_decided x.phase ≡ false → Scripts.at_own p f d ≡ f x d
+  pub at_own_is : (f : Own → Doing → Doing) (d : Doing) (x : Own) → Owns d.view p x → is_decided x.phase ≡ false → Scripts.at_own p f d ≡ f x d
   at_own_is f d x own op = ap (λ o. Scripts.of_own f o d) own ∙ ap (λ b. Scripts.unless_decided b (f x) d) op
 
-  at_own_decided : (f : Own → Doing → Doing) (d : Doing) (x : Own) → Owns d.view p x → is_decided x.phase ≡ true → Scripts.at_own p f d ≡ d
+  pub at_own_decided : (f : Own → Doing → Doing) (d : Doing) (x : Own) → Owns d.view p x → is_decided x.phase ≡ true → Scripts.at_own p f d ≡ d
   at_own_decided f d x own op = ap (λ o. Scripts.of_own f o d) own ∙ ap (λ b. Scripts.unless_decided b (f x) d) op
 
   -- a read leaves it undecided

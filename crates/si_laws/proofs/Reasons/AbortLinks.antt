@@ -133,28 +133,6 @@ module _ (here : Here) (input : Input) (p : ℕ) where
 
     -- ---- a message
 
-    pub by_if : (b : Bool) (o : Option Doing) (r : Doing) → (if b then o else None) ≡ Some r → (b ≡ true) × (o ≡ Some r)
-    by_if true o r e = (refl, e)
-    by_if false o r e = absurd (cc e)
-
-    pub read_req_case : (tx : TxId) (k : KeyId) (rs : ℕ) (r : Doing) → Arrivals.read_req here tx k rs d ≡ Some r → r.view.own ≡ d.view.own
-    unfolding Arrivals.read_req marked replied waits
-    read_req_case tx k rs r e =
-        let q = by_if (hosts_key here k && (Rattle.std.specs.Prelude.not (same_node tx.node here.node) && Rattle.std.specs.Prelude.not (list_any (Arrivals.waits_read tx k) d.view.waiters)))
-        (Some (Arrivals.serve_done here tx k rs (serve_turn d.view.versions k rs) (marked k rs d))) r e in
-        by_turn (serve_turn d.view.versions k rs) q.1
-      where
-        by_turn : (t : ServeTurn) → Some (Arrivals.serve_done here tx k rs t (marked k rs d)) ≡ Some r → r.view.own ≡ d.view.own
-        by_turn (Give v by fc) s = let is : replied here tx k v by fc (marked k rs d) ≡ r = cc s in ap (λ (z : Doing). z.view.own) (sym is)
-        by_turn (ServeWait by) s = let is : waits (Rattle.str_model.specs.declared.messages.Waiter.TheVariants.Read tx k (stamp rs)) (marked k rs d) ≡ r = cc s in ap (λ (z : Doing). z.view.own) (sym is)
-
-    pub master_case : (a : Arrived) (t : MasterTurn) (r : Doing) → Arrivals.master_done here a t d ≡ Some r → r.view.own ≡ d.view.own
-    unfolding accepted refused waits
-    master_case a (Accept ts) r e = let is : accepted here a ts d ≡ r = cc e in ap (λ (z : Doing). z.view.own) (sym is)
-    master_case a (Refuse u k) r e = let is : refused here a u k d ≡ r = cc e in ap (λ (z : Doing). z.view.own) (sym is)
-    master_case a (Park u) r e = let is : waits (Rattle.str_model.specs.declared.messages.Waiter.TheVariants.Held a) d ≡ r = cc e in ap (λ (z : Doing). z.view.own) (sym is)
-    master_case a Ignore r e = absurd (cc e)
-
     -- a reply or an answer sets a place without an abort
     pub set_case : (i : ℕ) (z u : Own) (r : Doing) → slice_get d.view.own i ≡ Some z → is_decided u.phase ≡ false → put i u d ≡ r → Case d x lc cause y r
     set_case i z u r is f q o a =

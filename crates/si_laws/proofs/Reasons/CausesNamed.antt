@@ -38,7 +38,7 @@ record NamedIn (s : Stage) (a : Answer) (cause : Cause) : Type 0 where
 AllNamed : Stage → Type 0
 AllNamed s = (a : Answer) (cause : Cause) → In a s.answers → a.outcome ≡ Aborts cause → NamedIn s a cause
 
-outcome_cause : (p : Phase) (gets : List Got) (cause : Cause) → is_decided p ≡ true → outcome_of p gets ≡ Aborts cause → (lc : Option ℕ) × (p ≡ Aborted lc cause)
+pub outcome_cause : (p : Phase) (gets : List Got) (cause : Cause) → is_decided p ≡ true → outcome_of p gets ≡ Aborts cause → (lc : Option ℕ) × (p ≡ Aborted lc cause)
 outcome_cause (Committed lc fc) gets cause d e = absurd (cc e)
 outcome_cause (Aborted lc c) gets cause d e = let same : c ≡ cause = cc e in (lc, ap (Aborted lc) same)
 outcome_cause _ gets cause d e = absurd (cc d)

@@ -70,7 +70,7 @@ module _ (here : Here) (input : Input) (w : Where) where
   own_change d e (act_begin place rs d' r h) = o_begins place rs refl
   own_change d e (act_mark k t d' rd) = o_rests refl
   own_change d e (act_put i x y d' own g) = o_puts i x y own.0 (puts_on here input d' i x y g) refl
-  own_change d e (act_request i k m x d' own g) = o_puts i x (in_phase (Remote k) x) own.0 (puts_on here input d' i x (in_phase (Remote k) x) g) refl
+  own_change d e (act_request i k m x d' own g) = o_puts i x (in_phase (Remote k) x) own.0 (puts_on here input d' i x (in_phase (Remote k) x) (record { goes = g.goes; change = g.change })) refl
   own_change d e (act_certify i lc snap x d' own f n c) =
       let good : CertGood d'.view x.snap (Certified lc snap) = subst (CertGood d'.view x.snap) c (cert_turn-good here d'.view x.snap x.writes) in
       o_certifies i lc snap x own.0 f n good.0.rs refl refl

@@ -48,7 +48,7 @@ module _ (here : Here) (input : Input) (P : Own → Type 0) where
   unfolding begun marked aborted committed closed certified asked acked requested accepted taken refused waits replied commit_came abort_came
   each_own-act w d e k (act_begin place rs d' r g) h = λ j z q. elim (got_push d'.view.own j (fresh place rs) z q) [ inl p ↦ subst P (sym p.1) (k.begins place rs) | inr p ↦ h j z p ]
   each_own-act w d e k (act_put i x y d' own g) h = set_own d'.view.own i x y own.0 (k.goes i x y own.0 g) h
-  each_own-act w d e k (act_request i l m x d' own g) h = set_own d'.view.own i x (in_phase (Remote l) x) own.0 (k.goes i x (in_phase (Remote l) x) own.0 g) h
+  each_own-act w d e k (act_request i l m x d' own g) h = set_own d'.view.own i x (in_phase (Remote l) x) own.0 (k.goes i x (in_phase (Remote l) x) own.0 (record { goes = g.goes; change = g.change })) h
   each_own-act w d e k (act_certify i lc snap x d' own f n c) h = set_own d'.view.own i x (as_certified here lc snap x) own.0 (k.certifies i lc snap x own.0 own.2 n c) h
   each_own-act w d e k (act_ask i lc p x d' own f l g) h =
       set_own d'.view.own i x (record x { parts = with_asked p x.parts; phase = Global lc }) own.0 (k.asks i lc p x own.0 f l g) h

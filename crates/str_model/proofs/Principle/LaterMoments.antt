@@ -33,7 +33,7 @@ took scene es j h n q e = by_turn (subst (λ z. Turns scene (run scene r.early) 
     r = nth_of scene (opening scene) es j h q
 
     by_turn : Turns scene (run scene r.early) r.event h (happens scene (run scene r.early) r.event) → Took scene es j h n
-    by_turn (nobody a b) = absurd (cc (a, e))
+    by_turn (nobody a b c) = absurd (cc (a, e))
     by_turn (somebody t) = record { from = r; takes = t; node = (let same : Some n ≡ Some (record { 0 = t.place + 1 }) = sym e ∙ t.node in cc same) }
 
 opened : (here : Here) (input : Input) (v : View) → slice_get (from_rule here input (starts v) (rule here input (starts v))) 0 ≡ slice_get (moments_of here input v) 0

@@ -167,7 +167,7 @@ module _ (here : Here) (input : Input) (w : Where) where
           read_time (far_reading from tx rs q z) = let r = came_below from (ReadReq tx m rs) z in omega (arith, r, q, le)
       view_act d e (act_put i x y d' own g) k h = put_below d' i y h (own_higher b c y le (goes_below d' i x y h (own_at b d'.view h i x own.0) g))
       view_act d e (act_request i m n x d' own g) k h =
-          put_below d' i (in_phase (Remote m) x) h (own_higher b c (in_phase (Remote m) x) le (goes_below d' i x (in_phase (Remote m) x) h (own_at b d'.view h i x own.0) g))
+          put_below d' i (in_phase (Remote m) x) h (own_higher b c (in_phase (Remote m) x) le (goes_below d' i x (in_phase (Remote m) x) h (own_at b d'.view h i x own.0) (record { goes = g.goes; change = g.change })))
       view_act d e (act_certify i lc snap x d' own f n q) k h =
           let k' : b + 1 ≤ c = k in
           let u = view_higher b c d'.view le h in
