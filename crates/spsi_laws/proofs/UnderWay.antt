@@ -11,3 +11,4 @@ pub mod RequestsKept
 pub mod ReadsWaiting
 pub mod GivenAt
 pub mod Acknowledged
+pub mod Judged
