@@ -12,3 +12,4 @@ pub mod ReadsWaiting
 pub mod GivenAt
 pub mod Acknowledged
 pub mod Judged
+pub mod SeatsOnce
