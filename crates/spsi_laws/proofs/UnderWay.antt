@@ -13,3 +13,4 @@ pub mod GivenAt
 pub mod Acknowledged
 pub mod Judged
 pub mod SeatsOnce
+pub mod UnderWayHolds

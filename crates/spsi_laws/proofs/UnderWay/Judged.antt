@@ -1,5 +1,5 @@
 -- What was given was judged: a Prepare is parked, stands or is done, a Replicate stands or is done, an Ack is kept, a Refuse aborts, a request waits or is answered, and a reply is taken.
-use Rattle.std.proofs.Common.{Bool, List, None, Option, Some, [], add-one, ap, arith, eq-eqb, eqb-true, false, filter, if◌then◌else◌, inl, inr, is_some, length, lt-ltb, map, max, nat_lt, not, refl, slice_get, slice_set, sub-one, subst, subst₂, suc, sym, true, zero, ℕ, ◌&&◌, ◌++◌, ◌+◌, ◌-◌, ◌<◌, ◌^◌, ◌||◌, ◌∙◌, ◌∷◌, ◌≡◌, ◌≢◌, ◌≤◌, ◌⊎◌}
+use Rattle.std.proofs.Common.{Bool, List, None, Option, Some, [], add-one, ap, arith, eq-eqb, eqb-true, false, filter, if◌then◌else◌, inl, inr, is_some, length, lt-ltb, map, max, nat_lt, not, option_map, refl, slice_get, slice_set, sub-one, subst, subst₂, suc, sym, true, zero, ℕ, ◌&&◌, ◌++◌, ◌+◌, ◌-◌, ◌<◌, ◌^◌, ◌||◌, ◌∙◌, ◌∷◌, ◌≡◌, ◌≢◌, ◌≤◌, ◌⊎◌}
 use Rattle.std.specs.List.{list_any}
 use Rattle.partition_map.specs.declared.rows.Asked.{Asked}
 use Rattle.si_laws.proofs.Presence.DecisionsValid.{and_both}
@@ -295,6 +295,34 @@ module _ (here : Here) (v : View) (i : ℕ) (x : Own) (own : Owns v i x) where
         subst (λ (o : Option Own). RuleLeaves (OneHas (λ z. Past z k) i) v (Returns.reply_own (i + 1 - 1) k a by fc o (starts v))) (sym named_is)
         (subst (λ (j : ℕ). RuleLeaves (OneHas (λ z. Past z k) i) v (Returns.reply_phase j x k a by fc x.phase (starts v))) (sym place_is) (reply_phase_leaves a by fc x.phase refl))
 
+-- ---- a request
+
+module _ (here : Here) (v : View) (tx : TxId) (k : KeyId) where
+  -- the read waits, or its reply is sent
+  abbrev ReadLeaves : Option Doing → Type 0
+  ReadLeaves None = (rs : Ts) × In (Read tx k rs) v.waiters
+  ReadLeaves (Some r) = ((rs : Ts) × In (Read tx k rs) r.view.waiters) ⊎ Sends r.sent (λ m. Replies tx k m.body)
+
+  served : (rs : ℕ) (t : ServeTurn) → ReadLeaves (Some (Arrivals.serve_done here tx k rs t (marked k rs (starts v))))
+  unfolding marked replied waits
+  served rs (Give a by fc) = inr (letter here tx.node (ReadReply tx k a by (stamp fc)), inl refl, (refl, refl))
+  served rs (ServeWait by) = inl (stamp rs, in_right v.waiters (Read tx k (stamp rs) ∷ []) (Read tx k (stamp rs)) (inl refl))
+
+  is_waiting : (w : Waiter) → Arrivals.waits_read tx k w ≡ true → In w v.waiters → (rs : Ts) × In (Read tx k rs) v.waiters
+  is_waiting (Read t l rs) e h =
+      let a : t ≡ tx = same_tx-is t tx (and_left (same_tx t tx) (same_key l k) e) in
+      let num : l.0 ≡ k.0 = eqb-true l.0 k.0 (and_right (same_tx t tx) (same_key l k) e) in
+      let b : l ≡ k = (λ j. record { 0 = num j }) in
+      (rs, subst₂ (λ (y : TxId) (z : KeyId). In (Read y z rs) v.waiters) a b h)
+  is_waiting (Held a) e h = absurd (cc e)
+
+  request_leaves : (rs : ℕ) → hosts_key here k ≡ true → same_node tx.node here.node ≡ false → ReadLeaves (Arrivals.read_req here tx k rs (starts v))
+  unfolding Arrivals.read_req
+  request_leaves rs hs f =
+      if_elim ReadLeaves (hosts_key here k && (not (same_node tx.node here.node) && not (list_any (Arrivals.waits_read tx k) v.waiters)))
+      (Some (Arrivals.serve_done here tx k rs (serve_turn v.versions k rs) (marked k rs (starts v)))) None (λ t. served rs (serve_turn v.versions k rs))
+      (λ t. let w = any_has (Arrivals.waits_read tx k) v.waiters (last_of_three (hosts_key here k) (same_node tx.node here.node) (list_any (Arrivals.waits_read tx k) v.waiters) hs f t) in is_waiting w.0 w.2 w.1)
+
 -- ---- over every run
 
 module _ (scene : Scene) (ok : IsScene scene) (es : List Event) (j n : ℕ) (m : Message) (g : Given scene es j m n) (to : m.receiver ≡ record { 0 = n + 1 }) where
@@ -443,3 +471,26 @@ module _ (scene : Scene) (ok : IsScene scene) (es : List Event) (j n : ℕ) (m :
       let b = (followed scene ok g.early).requested req.0 n i g.view k req.1 g.there req.2 in
       given_holds scene n (OneHas (λ x. Past x k) i) (λ input w d f act z. one-act (at_place scene n) input (λ x. Past x k) w d f (keeps_past (at_place scene n) input d k) act i z) es j m g
       (by_rule (at_place scene n) m g.view (OneHas (λ x. Past x k) i) valid_here (ReadReply (name_of (at_place scene n) i) k a by fc) e (reply_leaves (at_place scene n) g.view i b.0 b.1 k b.2 a by fc.0)) u is
+
+  after_request : (tx : TxId) (k : KeyId) (o : Option Doing) → ReadLeaves (at_place scene n) g.view tx k o
+      → WaitsOrAnswered n tx k (stage_of (Runs.stepped (DeliverEvent (j + 1)) n (give (j + 1) (run scene g.early)) (option_map (Steps.after_rule (at_place scene n)) o)))
+  after_request tx k None h = record { view = g.view; there = g.there; fact = inl h }
+  after_request tx k (Some r) h = record {
+    view = (Steps.after_rule (at_place scene n) r).view;
+    there = get_set (run scene g.early).nodes n g.view (Steps.after_rule (at_place scene n) r).view g.there;
+    fact = elim (after_reads (at_place scene n) (Deliver m) r tx k h) [
+      | inl z ↦ inl z
+      | inr z ↦ inr (z.0, in_right (run scene g.early).sent (Steps.after_rule (at_place scene n) r).sent z.0 z.1, z.2)
+    ];
+  }
+
+  pub request_judged : (tx : TxId) (k : KeyId) (rs : Ts) → m.body ≡ ReadReq tx k rs → hosts_key (at_place scene n) k ≡ true → tx.node.0 ≢ n + 1 → WaitsOrAnswered n tx k (stage_of (run scene es))
+  unfolding step
+  request_judged tx k rs e hs other =
+      let is : rule (at_place scene n) (Deliver m) (starts g.view) ≡ Arrivals.read_req (at_place scene n) tx k rs.0 (starts g.view) =
+      rule_is (at_place scene n) m g.view (λ z. Unit {0}) valid_here ∙ ap (λ (z : Body). Steps.body_rule (at_place scene n) m.sender z (starts g.view)) e in
+      let leaves : ReadLeaves (at_place scene n) g.view tx k (rule (at_place scene n) (Deliver m) (starts g.view)) =
+      subst (ReadLeaves (at_place scene n) g.view tx k) (sym is) (request_leaves (at_place scene n) g.view tx k rs.0 hs (other_node tx.node (record { 0 = n + 1 }) other)) in
+      let first = after_request tx k (rule (at_place scene n) (Deliver m) (starts g.view)) leaves in
+      subst (λ (w : World). WaitsOrAnswered n tx k (stage_of w)) (sym g.final_)
+      (reads_wait scene n tx k (Runs.stepped (DeliverEvent (j + 1)) n (give (j + 1) (run scene g.early)) (option_map (Steps.after_rule (at_place scene n)) (rule (at_place scene n) (Deliver m) (starts g.view)))) g.late first)
