@@ -17,7 +17,7 @@ pub fn dependencies_stand()
     ensures { DependenciesStand }
 {}
 
-/// A dependency has a smaller number.
+/// A dependency has a smaller number, also where the transaction is decided.
 pub fn dependencies_earlier()
     ensures { DependenciesEarlier }
 {}
@@ -56,7 +56,8 @@ pub fn speculative_isolation_holds()
 {}
 
 /// What is promised of a run, of every one: its answers are a run of the snapshot isolation machine, after each event speculative snapshot isolation
-/// holds, nothing commits before what it depends on or has read from, and each abort has the cause that it names.
+/// holds, nothing commits before what it depends on or has read from, each abort has the cause that it names, and each answer was given where its
+/// transaction was decided so.
 pub fn headline_holds()
     ensures { HeadlineHolds }
 {}

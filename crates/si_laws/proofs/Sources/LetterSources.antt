@@ -16,7 +16,7 @@ use Rattle.str_model.specs.declared.messages.Body.TheVariants.{Abort, Ack, Commi
 use Rattle.str_model.specs.declared.messages.Input.{Input}
 use Rattle.str_model.specs.declared.messages.Message.{Message}
 use Rattle.str_model.specs.declared.names.KeyMark.{KeyMark}
-use Rattle.str_model.specs.Acts.{abort_came, aborted, accepted, acked, asked, begun, certified, closed, commit_came, committed, decided_versions, in_phase, is_hosted_of, local_version, marked, pre_version, refused, replied, requested, taken, waits}
+use Rattle.str_model.specs.Acts.{abort_came, aborted, accepted, acked, asked, begun, certified, closed, commit_came, committed, decided_as, decided_versions, is_hosted_of, local_version, marked, pre_version, refused, replied, requested, taken, waits}
 use Rattle.str_model.specs.Acts
 use Rattle.str_model.specs.Owned.{Owns}
 use Rattle.str_model.specs.Proposals.{Refuse, master_turn, proposed}
@@ -25,9 +25,10 @@ use Rattle.str_model.specs.Views.{Committed, Doing, Own, is_decided, lc_of, lett
 use Rattle.str_scene.specs.Scenes.{Here, first_or, in_part, leads, others, replicas}
 use Rattle.str_model.proofs.Principle.SingleChanges.{Act, Comes, IsHere, Serves, Where, act_abort, act_abort_came, act_accept, act_ack, act_ask, act_begin, act_certify, act_close, act_commit, act_commit_came, act_mark, act_put, act_refuse, act_reply, act_request, act_take, act_unwait, act_wait}
 use Rattle.str_model.proofs.Changes.SnapshotsGain.{if_elim}
-use Rattle.str_model.proofs.Lists.ListReads.{get_set}
-use Rattle.str_model.proofs.Lists.Members.{In, in_append, in_filter, in_insert_all, in_map, in_without}
 use Rattle.str_model.proofs.Changes.PairWords.{hosted_name, pair-is}
+use Rattle.str_base.proofs.Lists.{get_set}
+use Rattle.str_base.proofs.Members.{in_append, in_filter, in_insert_all, in_map, in_without}
+use Rattle.str_base.specs.Members.{In}
 
 -- where a new message comes from
 pub data LetterFrom (here : Here) (input : Input) (d e : Doing) (b : Body) : Type 0 where
@@ -80,7 +81,7 @@ module _ (here : Here) (input : Input) (w : Where) where
         | inl j ↦ inl j
         | inr j ↦ (let r = in_map (λ (a : Asked). letter here a.node (Commit (name_of here n) a.part (stamp fc) (Acts.marks_in here d'.view a.part x.writes))) x.parts m j in
             inr (one_letter d' e m r.0.node _ (lf_commit n fc r.0.part (Acts.marks_in here d'.view r.0.part x.writes) refl
-            (ap own_fate (get_set d'.view.own n x (in_phase (Committed (Some lc) (Some fc)) x) own.0))) (inl r.2)))
+            (ap own_fate (get_set d'.view.own n x (decided_as (Committed (Some lc) (Some fc)) x) own.0))) (inl r.2)))
       ]
   letter-act d e (act_accept a ts d' g t) m h =
       elim (in_append d'.sent (letter here a.tx.node (Ack a.tx a.part (stamp ts)) ∷ Acts.copies here a (replicas here.scene a.part)) m h) [
@@ -123,7 +124,7 @@ final-act here input w d e (act_commit i lc fc x d' own l n le f g) q m k =
       | inl j ↦ (let r = in_map (settled fc) (filter (is_hosted_of here (name_of here i)) d'.view.versions) q j in
           let u = in_filter (is_hosted_of here (name_of here i)) d'.view.versions r.0 r.1 in
           ff_commit i (ap (λ (z : Version). z.tx) (sym r.2) ∙ hosted_name here (name_of here i) r.0 u.1)
-          (ap own_fate (get_set d'.view.own i x (in_phase (Committed (Some lc) (Some fc)) x) own.0) ∙ ap (λ (z : Version). CommittedAt z.ts.0) r.2))
+          (ap own_fate (get_set d'.view.own i x (decided_as (Committed (Some lc) (Some fc)) x) own.0) ∙ ap (λ (z : Version). CommittedAt z.ts.0) r.2))
       | inr j ↦ ff_old (in_without (of_tx (name_of here i)) d'.view.versions q j)
     ]
 final-act here input w d e (act_commit_came from t p fc ms d' c g) q m k =

@@ -15,19 +15,20 @@ use Rattle.str_scene.specs.Scenes.{Here, participants}
 use Rattle.str_model.specs.declared.messages.Body.TheVariants.{ReadReply}
 use Rattle.str_model.specs.declared.messages.Input.{Input}
 use Rattle.str_model.specs.declared.names.ReadDone.{ReadDone}
-use Rattle.str_model.specs.Acts.{abort_came, aborted, accepted, acked, asked, begun, certified, closed, commit_came, committed, fresh, in_phase, marked, refused, replied, requested, taken, waits, with_asked}
+use Rattle.str_model.specs.Acts.{abort_came, aborted, accepted, acked, asked, begun, certified, closed, commit_came, committed, decided_as, fresh, in_phase, marked, refused, replied, requested, taken, waits, with_asked}
 use Rattle.str_model.specs.Owned.{Owns}
 use Rattle.str_model.specs.Returns.{own_named}
 use Rattle.str_model.specs.Scripts.{finish, finish_next, noted, own_op}
 use Rattle.str_model.specs.Views.{Aborted, Active, Closing, Committed, Doing, Global, Local, Own, Remote, Reply, is_decided, lc_of}
 use Rattle.str_model.proofs.Principle.SingleChanges.{Act, Change, Comes, GoesOn, ReadsTo, Where, act_abort, act_abort_came, act_accept, act_ack, act_ask, act_begin, act_certify, act_close, act_commit, act_commit_came, act_mark, act_put, act_refuse, act_reply, act_request, act_take, act_unwait, act_wait, ch_away, ch_blind, ch_close, ch_gate, ch_known, ch_read, ch_reply, ch_resolve, ch_take, ch_wait, to_final, to_local}
 use Rattle.str_model.proofs.Changes.SnapshotsGain.{Names, if_elim}
-use Rattle.str_model.proofs.Lists.ListReads.{got_push, got_set}
-use Rattle.str_model.proofs.Lists.Members.{In, in_append}
 use Rattle.si_laws.proofs.Dependencies.AroundKept.{cert_rs}
 use Rattle.str_model.proofs.ViewFacts.MarksRise.{finish-looks, finish_next-looks}
 use Rattle.si_laws.proofs.Changes.ReadTurns.{local-is, plain-is, reply-is}
 use Rattle.si_laws.proofs.Sources.GivenVersions.{finish_reply}
+use Rattle.str_base.proofs.Lists.{got_push, got_set}
+use Rattle.str_base.proofs.Members.{in_append}
+use Rattle.str_base.specs.Members.{In}
 
 -- where a read comes from
 pub data ReadBack (d : Doing) (i : ℕ) (y : Own) (r : ReadDone) : Type 0 where
@@ -143,9 +144,9 @@ module _ (here : Here) (input : Input) where
         (λ j. rb_old x o.0 j (cert_rs here d'.view x.snap snap x.writes lc c))
     reads-act d e (act_ask n lc p x d' o f l g) i y r own h = set_back d' n i x (record x { parts = with_asked p x.parts; phase = Global lc }) y r o.0 own h (λ j. rb_old x o.0 j refl)
     reads-act d e (act_ack n lc from tx p ts parts x d' o c q g) i y r own h = set_back d' n i x (record x { parts = parts }) y r o.0 own h (λ j. rb_old x o.0 j refl)
-    reads-act d e (act_abort n cause x d' o f g) i y r own h = set_back d' n i x (in_phase (Aborted (lc_of x.phase) cause) x) y r o.0 own h (λ j. rb_old x o.0 j refl)
-    reads-act d e (act_commit n lc fc x d' o l none le f g) i y r own h = set_back d' n i x (in_phase (Committed (Some lc) (Some fc)) x) y r o.0 own h (λ j. rb_old x o.0 j refl)
-    reads-act d e (act_close n x d' o p none) i y r own h = set_back d' n i x (in_phase (Committed None None) x) y r o.0 own h (λ j. rb_old x o.0 j refl)
+    reads-act d e (act_abort n cause x d' o f g) i y r own h = set_back d' n i x (decided_as (Aborted (lc_of x.phase) cause) x) y r o.0 own h (λ j. rb_old x o.0 j refl)
+    reads-act d e (act_commit n lc fc x d' o l none le f g) i y r own h = set_back d' n i x (decided_as (Committed (Some lc) (Some fc)) x) y r o.0 own h (λ j. rb_old x o.0 j refl)
+    reads-act d e (act_close n x d' o p none) i y r own h = set_back d' n i x (decided_as (Committed None None) x) y r o.0 own h (λ j. rb_old x o.0 j refl)
     reads-act d e (act_mark k t d' rd) i y r own h = rb_old y own h refl
     reads-act d e (act_accept a ts d' g m) i y r own h = rb_old y own h refl
     reads-act d e (act_refuse a u k d' g m) i y r own h = rb_old y own h refl
@@ -166,9 +167,9 @@ module _ (here : Here) (input : Input) where
         set_reply d' n i x (record x { snap = snap; parts = participants here.scene here.node x.writes; phase = Local lc }) y k a by fc o.0 own h (λ q. absurd (cc q))
     reply-act d e (act_ask n lc p x d' o f l g) i y k a by fc own h = set_reply d' n i x (record x { parts = with_asked p x.parts; phase = Global lc }) y k a by fc o.0 own h (λ q. absurd (cc q))
     reply-act d e (act_ack n lc from tx p ts parts x d' o c q g) i y k a by fc own h = set_reply d' n i x (record x { parts = parts }) y k a by fc o.0 own h (λ s. pb_old x o.0 refl s)
-    reply-act d e (act_abort n cause x d' o f g) i y k a by fc own h = set_reply d' n i x (in_phase (Aborted (lc_of x.phase) cause) x) y k a by fc o.0 own h (λ q. absurd (cc q))
-    reply-act d e (act_commit n lc gc x d' o l none le f g) i y k a by fc own h = set_reply d' n i x (in_phase (Committed (Some lc) (Some gc)) x) y k a by fc o.0 own h (λ q. absurd (cc q))
-    reply-act d e (act_close n x d' o p none) i y k a by fc own h = set_reply d' n i x (in_phase (Committed None None) x) y k a by fc o.0 own h (λ q. absurd (cc q))
+    reply-act d e (act_abort n cause x d' o f g) i y k a by fc own h = set_reply d' n i x (decided_as (Aborted (lc_of x.phase) cause) x) y k a by fc o.0 own h (λ q. absurd (cc q))
+    reply-act d e (act_commit n lc gc x d' o l none le f g) i y k a by fc own h = set_reply d' n i x (decided_as (Committed (Some lc) (Some gc)) x) y k a by fc o.0 own h (λ q. absurd (cc q))
+    reply-act d e (act_close n x d' o p none) i y k a by fc own h = set_reply d' n i x (decided_as (Committed None None) x) y k a by fc o.0 own h (λ q. absurd (cc q))
     reply-act d e (act_mark l t d' rd) i y k a by fc own h = pb_old y own refl h
     reply-act d e (act_accept b ts d' g m) i y k a by fc own h = pb_old y own refl h
     reply-act d e (act_refuse b u l d' g m) i y k a by fc own h = pb_old y own refl h

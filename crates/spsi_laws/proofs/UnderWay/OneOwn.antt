@@ -5,7 +5,6 @@ use Rattle.partition_map.specs.declared.rows.Asked.{Asked}
 use Rattle.si_laws.proofs.Stages.LinkedStates.{one_of}
 use Rattle.str_base.specs.declared.names.NodeId.{NodeId}
 use Rattle.str_base.specs.declared.names.PartId.{PartId}
-use Rattle.str_model.proofs.Lists.ListReads.{get_push, get_set, get_set_other, same_or_not}
 use Rattle.str_model.proofs.OwnFacts.EachOwn.{as_certified}
 use Rattle.str_model.proofs.Principle.SingleChanges.{Act, AsksCommit, Goes, Where, act_abort, act_abort_came, act_accept, act_ack, act_ask, act_begin, act_certify, act_close, act_commit, act_commit_came, act_mark, act_put, act_refuse, act_reply, act_request, act_take, act_unwait, act_wait}
 use Rattle.str_model.specs.Acts
@@ -15,6 +14,8 @@ use Rattle.str_model.specs.Returns.{with_ack}
 use Rattle.str_model.specs.Views.{Aborted, Committed, Doing, Global, Own, Remote, View, is_decided, lc_of}
 use Rattle.str_model.specs.declared.messages.Input.{Input}
 use Rattle.str_scene.specs.Scenes.{Here}
+use Rattle.str_base.proofs.Lists.{get_push, get_set, get_set_other}
+use Rattle.std.proofs.lemmas.Bool.{cases_eq}
 
 -- what each change of a transaction keeps; whatever is decided has it
 pub record KeepsOne (here : Here) (input : Input) (d : Doing) (P : Own → Type 0) : Type 0 where
@@ -30,7 +31,7 @@ OneHas P i v = (x : Own) × Owns v i x × P x
 
 module _ (here : Here) (input : Input) (P : Own → Type 0) where
   set_one : (own : List Own) (j : ℕ) (x y : Own) → slice_get own j ≡ Some x → (P x → P y) → (i : ℕ) → ((z : Own) × (slice_get own i ≡ Some z) × P z) → (z : Own) × (slice_get (slice_set own j y) i ≡ Some z) × P z
-  set_one own j x y o f i h = elim (same_or_not i j) [
+  set_one own j x y o f i h = elim (cases_eq i j) [
     | inl e ↦ (y, subst (λ (k : ℕ). slice_get (slice_set own j y) k ≡ Some y) (sym e) (get_set own j x y o), f (subst P (one_of h.0 x (slice_get own i) h.1 (ap (λ (k : ℕ). slice_get own k) e ∙ o)) h.2))
     | inr n ↦ (h.0, get_set_other own j i y n ∙ h.1, h.2)
   ]

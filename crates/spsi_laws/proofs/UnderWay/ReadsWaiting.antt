@@ -7,8 +7,6 @@ use Rattle.str_base.specs.declared.names.NodeId.{NodeId}
 use Rattle.str_base.specs.declared.names.PartId.{PartId}
 use Rattle.str_base.specs.declared.names.Ts.{Ts}
 use Rattle.str_base.specs.declared.names.TxId.{TxId}
-use Rattle.str_model.proofs.Lists.ListReads.{get_set, get_set_other, got_replicate, got_set, same_or_not}
-use Rattle.str_model.proofs.Lists.Members.{In, in_append, in_left, in_right}
 use Rattle.str_model.proofs.Principle.Everywhere.{IsSeen, Sent, Stage, at_place, during, stage_of}
 use Rattle.str_model.proofs.Principle.StepPaths.{waiter_turn-waited}
 use Rattle.str_model.proofs.Principle.SingleChanges.{InWait}
@@ -35,6 +33,10 @@ use Rattle.str_model.specs.declared.messages.Waiter.TheVariants.{Held, Read}
 use Rattle.str_scene.specs.Scenes.{Here, Scene, Session, hosts_key, nth, others, replicas}
 use Rattle.str_scene.specs.declared.names.Event.{Event}
 use Rattle.str_scene.specs.declared.names.Event.TheVariants.{Client as ClientEvent, Deliver as DeliverEvent}
+use Rattle.str_base.proofs.Lists.{get_set, get_set_other, got_replicate, got_set}
+use Rattle.std.proofs.lemmas.Bool.{cases_eq}
+use Rattle.str_base.proofs.Members.{in_append, in_left, in_right}
+use Rattle.str_base.specs.Members.{In}
 
 abbrev pub Replies : TxId → KeyId → Body → Type 0
 Replies tx k (ReadReply t l v by fc) = (t ≡ tx) × (l ≡ k)
@@ -212,7 +214,7 @@ pub record WaitsOrAnswered (n : ℕ) (tx : TxId) (k : KeyId) (s : Stage) : Type 
 
 reads_kept : (scene : Scene) (n : ℕ) (tx : TxId) (k : KeyId) (s : Stage) (i : ℕ) (v : View) (input : Input) (e : Doing) → slice_get s.nodes i ≡ Some v → IsSeen s input → step (at_place scene i) input v ≡ Some e
     → WaitsOrAnswered n tx k s → WaitsOrAnswered n tx k (during s i e)
-reads_kept scene n tx k s i v input e is seen q h = by_place (same_or_not n i)
+reads_kept scene n tx k s i v input e is seen q h = by_place (cases_eq n i)
   where
     sent_ : Sends s.sent (λ m. Replies tx k m.body) → Sends (s.sent ++ e.sent) (λ m. Replies tx k m.body)
     sent_ r = (r.0, in_left s.sent e.sent r.0 r.1, r.2)

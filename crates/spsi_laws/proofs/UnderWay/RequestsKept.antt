@@ -18,8 +18,6 @@ use Rattle.str_base.specs.declared.names.Value.TheVariants.{Absent}
 use Rattle.str_base.specs.declared.names.Version.{Version}
 use Rattle.str_base.specs.declared.names.Write.{Write}
 use Rattle.str_model.proofs.Changes.SnapshotsGain.{if_elim}
-use Rattle.str_model.proofs.Lists.ListReads.{get_set, got_push, got_set}
-use Rattle.str_model.proofs.Lists.Members.{In, in_append, in_left, in_right}
 use Rattle.str_model.specs.Acts
 use Rattle.str_model.specs.Acts.{aborted, accepted, acked, asked, begun, certified, closed, commit_came, committed, fresh, in_phase, marked, refused, replied, requested, taken, waits, with_asked, with_waiters}
 use Rattle.str_model.specs.Arrivals
@@ -49,6 +47,9 @@ use Rattle.str_scene.specs.Scenes.{Here, Session, first_or, hosts_key, nth, part
 use Rattle.str_scene.specs.declared.names.Op.{Op}
 use Rattle.str_scene.specs.declared.names.Op.TheVariants.{Abort as Stop, Add, Del, Get, Need, Put, Puts}
 use Rattle.str_scene.specs.declared.names.TxPlace.{TxPlace}
+use Rattle.str_base.proofs.Lists.{get_set, got_push, got_set}
+use Rattle.str_base.proofs.Members.{in_append, in_left, in_right}
+use Rattle.str_base.specs.Members.{In}
 
 -- the master of a key
 abbrev pub master_of : Here → KeyId → NodeId
@@ -166,8 +167,12 @@ module _ (here : Here) (old : List Message) where
   requests i k n x d o q hs =
       set_own d (requested here i k n x d) i x (in_phase (Remote k) x) o refl refl (λ m h. in_left d.sent _ m h)
       (λ l p. let same : k ≡ l = cc p in
-      inr (record { 0 = x.snap.rs }, subst (λ (z : KeyId). hosts_key here z ≡ false) same hs, in_right old (d.sent ++ letter here n (ReadReq (name_of here i) k (record { 0 = x.snap.rs })) ∷ []) _
-      (in_right d.sent (letter here n (ReadReq (name_of here i) k (record { 0 = x.snap.rs })) ∷ []) _ (inl (λ j. letter here ((q ∙ ap (master_of here) same) j) (ReadReq (name_of here i) (same j) (record { 0 = x.snap.rs })))))))
+      inr (
+        record { 0 = x.snap.rs },
+        subst (λ (z : KeyId). hosts_key here z ≡ false) same hs,
+        in_right old (d.sent ++ letter here n (ReadReq (name_of here i) k (record { 0 = x.snap.rs })) ∷ []) _
+            (in_right d.sent (letter here n (ReadReq (name_of here i) k (record { 0 = x.snap.rs })) ∷ []) _ (inl (λ j. letter here ((q ∙ ap (master_of here) same) j) (ReadReq (name_of here i) (same j) (record { 0 = x.snap.rs }))))),
+      ))
 
   -- ---- an own transaction as it stands
 

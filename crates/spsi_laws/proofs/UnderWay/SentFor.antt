@@ -9,10 +9,7 @@ use Rattle.str_base.specs.declared.names.PartId.{PartId}
 use Rattle.str_base.specs.declared.names.TxId.{TxId}
 use Rattle.str_base.specs.declared.names.Version.{Version}
 use Rattle.str_model.proofs.Changes.OwnGoesOn.{puts_on}
-use Rattle.str_model.proofs.Changes.PairWords.{same_part-is}
 use Rattle.str_model.proofs.Changes.VersionChanges.{Placed}
-use Rattle.str_model.proofs.Lists.ListReads.{got_push, got_set}
-use Rattle.str_model.proofs.Lists.Members.{In, in_append, in_filter, in_insert_all, in_left, in_map, in_right, in_without, map_in}
 use Rattle.str_model.proofs.OwnFacts.AskedParts.{unasked_one}
 use Rattle.str_model.proofs.OwnFacts.AtHome.{a_new, a_old, acked_parts}
 use Rattle.str_model.proofs.Principle.SingleChanges.{Act, IsHere, Where, act_abort, act_abort_came, act_accept, act_ack, act_ask, act_begin, act_certify, act_close, act_commit, act_commit_came, act_mark, act_put, act_refuse, act_reply, act_request, act_take, act_unwait, act_wait}
@@ -27,6 +24,10 @@ use Rattle.str_model.specs.declared.messages.Input.{Input}
 use Rattle.str_model.specs.declared.messages.Input.TheVariants.{Deliver}
 use Rattle.str_model.specs.declared.messages.Message.{Message}
 use Rattle.str_scene.specs.Scenes.{Here, is_master, others, participants, replicas}
+use Rattle.str_base.proofs.SameNames.{same_part-is}
+use Rattle.str_base.proofs.Lists.{got_push, got_set}
+use Rattle.str_base.proofs.Members.{in_append, in_filter, in_insert_all, in_left, in_map, in_right, in_without, map_in}
+use Rattle.str_base.specs.Members.{In}
 
 -- ---- partitions that are asked
 

@@ -1,11 +1,10 @@
 -- Every message of a run is valid at its receiver.
 use Rattle.std.proofs.Common.{Bool, List, None, Option, Some, ap, arith, eq-eqb, eqb-true, flat_map, inl, inr, le-leb, length, lt-ltb, nat_le, nat_lt, refl, slice_get, slice_set, subst, subst₂, sym, true, ℕ, ◌&&◌, ◌++◌, ◌+◌, ◌-◌, ◌<◌, ◌∙◌, ◌∷◌, ◌≡◌}
 use Rattle.std.specs.List.{list_any}
-use Rattle.std.proofs.lemmas.List.{length-replicate}
+use Rattle.std.proofs.lemmas.List.{length-replicate, length-set}
 use Rattle.std.proofs.lemmas.Option.{slice_get_within}
 use Rattle.partition_map.specs.Maps.{Exists}
-use Rattle.si_laws.proofs.Presence.DecisionsValid.{Bounded, and_both, bounded_from, decisions_are_valid}
-use Rattle.si_laws.proofs.Sessions.SessionHolds.{length_set}
+use Rattle.si_laws.proofs.Presence.DecisionsValid.{Bounded, bounded_from, decisions_are_valid}
 use Rattle.si_laws.proofs.Stages.AllLinksKept.{linked}
 use Rattle.si_laws.proofs.Stages.LinkedStates.{IsDecidedAs, IsSeat, Linked, Told}
 use Rattle.si_laws.proofs.Stages.ParticipantSeats.{flat_map_in, of_nth, own_seat}
@@ -22,8 +21,6 @@ use Rattle.str_base.specs.declared.names.TxId.{TxId}
 use Rattle.str_base.specs.declared.names.Ts.{Ts}
 use Rattle.str_base.specs.declared.names.Write.{Write}
 use Rattle.str_model.proofs.Changes.PairWords.{any_has}
-use Rattle.str_model.proofs.Lists.ListReads.{get_set, get_set_other, got_replicate, got_set}
-use Rattle.str_model.proofs.Lists.Members.{In, at_in, in_append, in_at, in_left, in_right}
 use Rattle.str_model.proofs.Principle.Everywhere.{IsSeen, Stage, at_place, during, everywhere, stage_of}
 use Rattle.str_model.proofs.Principle.SingleChanges.{Act, Where}
 use Rattle.str_model.proofs.ViewFacts.MomentKept.{moment-act, moment_opening}
@@ -39,6 +36,10 @@ use Rattle.str_model.specs.declared.messages.Message.{Message}
 use Rattle.str_scene.specs.SceneLimits.{IsScene}
 use Rattle.str_scene.specs.Scenes.{Here, Scene, hosts, nth, or_none, replicas}
 use Rattle.str_scene.specs.declared.names.Event.{Event}
+use Rattle.std.proofs.lemmas.Bool.{and_from}
+use Rattle.str_base.proofs.Lists.{get_set, get_set_other, got_replicate, got_set}
+use Rattle.str_base.proofs.Members.{at_in, in_append, in_at, in_left, in_right}
+use Rattle.str_base.specs.Members.{In}
 
 -- a message that was sent: its sender exists, and so does what it names
 pub record IsPosted (scene : Scene) (m : Message) : Type 0 where
@@ -55,13 +56,13 @@ pub record Posted (scene : Scene) (s : Stage) : Type 0 where
   pub each : (m : Message) → In m s.sent → IsPosted scene m
 
 pub place_exists : (scene : Scene) (n : ℕ) → n < scene.nodes → has_node (at_place scene n) (record { 0 = n + 1 }) ≡ true
-place_exists scene n less = and_both (nat_lt 0 (n + 1)) (nat_le (n + 1) scene.nodes) (lt-ltb 0 (n + 1) (omega arith)) (le-leb (n + 1) scene.nodes (omega (arith, less)))
+place_exists scene n less = and_from (nat_lt 0 (n + 1)) (nat_le (n + 1) scene.nodes) (lt-ltb 0 (n + 1) (omega arith)) (le-leb (n + 1) scene.nodes (omega (arith, less)))
 
 pub posted_keeps : (scene : Scene) → IsScene scene → (s : Stage) (i : ℕ) (v : View) (input : Input) (w : Where) (d e : Doing) → slice_get s.nodes i ≡ Some v → IsSeen s input → Posted scene s
     → Act (at_place scene i) input w d e → Posted scene (during s i d) → Posted scene (during s i e)
 posted_keeps scene ok s i v input w d e is seen hs act h =
     let there : slice_get (slice_set s.nodes i d.view) i ≡ Some d.view = get_set s.nodes i v d.view is in
-    let same : length (slice_set s.nodes i e.view) ≡ length (slice_set s.nodes i d.view) = length_set s.nodes i e.view ∙ sym (length_set s.nodes i d.view) in
+    let same : length (slice_set s.nodes i e.view) ≡ length (slice_set s.nodes i d.view) = length-set s.nodes i e.view ∙ sym (length-set s.nodes i d.view) in
     let less : i < scene.nodes = (let k = slice_get_within (slice_set s.nodes i d.view) i d.view there in let c = h.count in omega (arith, k, c)) in
     let exists = place_exists scene i less in
     let before = h.facts i d.view there in
@@ -124,7 +125,7 @@ host_exists scene ok r p h = by_row (nth scene.parts p.0) refl h
         (omega (arith, x.0, same), omega (arith, x.1, same))
 
 writes_named : (here : Here) (tx : TxId) (p : PartId) (rs lc : Ts) (ws : List Write) → NamesWrites here tx p ws → below_limit rs ≡ true → below_limit lc ≡ true → has_named_writes here tx p rs lc ws ≡ true
-writes_named here tx p rs lc ws n r l = and_both _ _ n.0 (and_both _ _ n.1 (and_both _ _ r (and_both _ _ l (and_both _ _ n.2 n.3))))
+writes_named here tx p rs lc ws n r l = and_from _ _ n.0 (and_from _ _ n.1 (and_from _ _ r (and_from _ _ l (and_from _ _ n.2 n.3))))
 
 module _ (scene : Scene) (ok : IsScene scene) (es : List Event) where
   -- a time of a message is below the limit
@@ -154,7 +155,7 @@ module _ (scene : Scene) (ok : IsScene scene) (es : List Event) where
     sender_there = subst (λ (z : NodeId). has_node (record { scene = scene; node = m.receiver }) z ≡ true) (sym k.sender) (place_exists scene k.n k.below)
 
     from_names : has_named (record { scene = scene; node = m.receiver }) m.body ≡ true → is_valid (record { scene = scene; node = m.receiver }) m ≡ true
-    from_names e = and_both (same_node m.receiver m.receiver) _ (eq-eqb m.receiver.0 m.receiver.0 refl) (and_both (has_node (record { scene = scene; node = m.receiver }) m.sender) _ sender_there e)
+    from_names e = and_from (same_node m.receiver m.receiver) _ (eq-eqb m.receiver.0 m.receiver.0 refl) (and_from (has_node (record { scene = scene; node = m.receiver }) m.sender) _ sender_there e)
 
     decided : (t : TxId) (p : PartId) → Exists m.receiver.0 scene.nodes → Decides t p m.body → is_valid (record { scene = scene; node = m.receiver }) m ≡ true
     decided t p ex dec =
@@ -162,15 +163,15 @@ module _ (scene : Scene) (ok : IsScene scene) (es : List Event) where
         subst (λ (z : NodeId). is_valid (record { scene = scene; node = z }) m ≡ true) (sym r.1) (decisions_are_valid (bounded_from times_bounded) scene ok es m t p r.0 h dec r.1).0
 
     by_body : (b : Body) → m.body ≡ b → Names (record { scene = scene; node = m.receiver }) b → ((t : Ts) → In t.0 (body_times b) → below_limit t ≡ true) → is_valid (record { scene = scene; node = m.receiver }) m ≡ true
-    by_body (ReadReq tx l rs) e n t = from_names (subst (λ (z : Body). has_named (record { scene = scene; node = m.receiver }) z ≡ true) (sym e) (and_both _ _ n.0 (and_both _ _ n.1 (t rs (inl refl)))))
+    by_body (ReadReq tx l rs) e n t = from_names (subst (λ (z : Body). has_named (record { scene = scene; node = m.receiver }) z ≡ true) (sym e) (and_from _ _ n.0 (and_from _ _ n.1 (t rs (inl refl)))))
     by_body (ReadReply tx l v by fc) e n t =
-        from_names (subst (λ (z : Body). has_named (record { scene = scene; node = m.receiver }) z ≡ true) (sym e) (and_both _ _ n.0 (and_both _ _ n.1 (and_both _ _ n.2 (and_both _ _ n.3 (t fc (inl refl)))))))
+        from_names (subst (λ (z : Body). has_named (record { scene = scene; node = m.receiver }) z ≡ true) (sym e) (and_from _ _ n.0 (and_from _ _ n.1 (and_from _ _ n.2 (and_from _ _ n.3 (t fc (inl refl)))))))
     by_body (Prepare tx p rs lc ws) e n t =
         from_names (subst (λ (z : Body). has_named (record { scene = scene; node = m.receiver }) z ≡ true) (sym e) (writes_named (record { scene = scene; node = m.receiver }) tx p rs lc ws n (t rs (inl refl)) (t lc (inr (inl refl)))))
     by_body (Replicate tx p rs lc ws) e n t =
         from_names (subst (λ (z : Body). has_named (record { scene = scene; node = m.receiver }) z ≡ true) (sym e) (writes_named (record { scene = scene; node = m.receiver }) tx p rs lc ws n (t rs (inl refl)) (t lc (inr (inl refl)))))
-    by_body (Refusal tx p by l) e n t = from_names (subst (λ (z : Body). has_named (record { scene = scene; node = m.receiver }) z ≡ true) (sym e) (and_both _ _ n.0 (and_both _ _ n.1 (and_both _ _ n.2 n.3))))
-    by_body (Ack tx p ts) e n t = from_names (subst (λ (z : Body). has_named (record { scene = scene; node = m.receiver }) z ≡ true) (sym e) (and_both _ _ n.0 (and_both _ _ n.1 (t ts (inl refl)))))
+    by_body (Refusal tx p by l) e n t = from_names (subst (λ (z : Body). has_named (record { scene = scene; node = m.receiver }) z ≡ true) (sym e) (and_from _ _ n.0 (and_from _ _ n.1 (and_from _ _ n.2 n.3))))
+    by_body (Ack tx p ts) e n t = from_names (subst (λ (z : Body). has_named (record { scene = scene; node = m.receiver }) z ≡ true) (sym e) (and_from _ _ n.0 (and_from _ _ n.1 (t ts (inl refl)))))
     by_body (Commit tx p fc ms) e n t =
         let told = subst (λ (z : Body). Told scene (stage_of (run scene es)) m.sender m.receiver z) e ((linked scene es).told m h) in
         decided tx p (decision_goes m tx p told.0 told.1 told.3) (subst (Decides tx p) (sym e) (refl, refl))

@@ -1,9 +1,7 @@
 -- How many of a list pass a test.
 pub use Rattle.str_model.specs.NodeFacts.{one_if, one_if, one_if, how_many, how_many, how_many}
 use Rattle.str_model.proofs.Changes.PairWords.{Has}
-use Rattle.str_model.proofs.Changes.SnapshotsGain.{if_elim, or_false_right}
-use Rattle.str_model.proofs.Lists.Members.{In}
-use Rattle.str_model.proofs.Principle.RulePaths.{or_false_left}
+use Rattle.str_model.proofs.Changes.SnapshotsGain.{if_elim}
 use Rattle.std.proofs.Common.{Bool, List, [], ap, arith, false, if◌then◌else◌, inl, inr, refl, true, ◌++◌, ◌+◌, ◌∙◌, ◌∷◌, ◌≡◌, ◌≤◌}
 use Rattle.std.specs.List.{list_any}
 use Rattle.str_base.specs.declared.names.PartId.{PartId}
@@ -11,6 +9,8 @@ use Rattle.str_base.specs.declared.names.TxId.{TxId}
 use Rattle.str_model.specs.Proposals.{holds_pair}
 use Rattle.str_model.specs.Steps.{drop_held}
 use Rattle.str_model.specs.declared.messages.Waiter.{Waiter}
+use Rattle.str_base.proofs.Tests.{or_false_left, or_false_right}
+use Rattle.str_base.specs.Members.{In}
 
 pub many_append : {A : Type 0} (test : A → Bool) (xs ys : List A) → how_many test (xs ++ ys) ≡ how_many test xs + how_many test ys
 many_append test [] ys = omega arith
