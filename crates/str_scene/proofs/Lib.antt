@@ -1,4 +1,4 @@
-mod Checked
+pub mod Checked
 pub mod Counts
 pub mod Each
 mod Drafting

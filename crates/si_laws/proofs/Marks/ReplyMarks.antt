@@ -253,8 +253,8 @@ marked_by_reply scene es i m t x k sent is b = by_body m.body refl is
 
     by_body : (body : Body) → m.body ≡ body → IsReplyTo body t k → (is_master scene m.sender (part_of scene k) ≡ true) × ((v : View) × (nth (run scene es).nodes m.sender.0 ≡ Some v) × (x.snap.rs ≤ mark_of v.marks k))
     by_body (ReadReply u l a by fc) q (e, f) = (
-        subst (λ z. is_master scene m.sender (part_of scene z) ≡ true) f (reply_master scene es m (in_at (run scene es).sent i m sent) u l a by fc q),
-        by_left (subst₂ (λ (y : TxId) (z : KeyId). Left scene (stage_of (run scene es)) m.sender y z) e f ((far_reads scene es).replies m (in_at (run scene es).sent i m sent) u l a by fc q)),
+      subst (λ z. is_master scene m.sender (part_of scene z) ≡ true) f (reply_master scene es m (in_at (run scene es).sent i m sent) u l a by fc q),
+      by_left (subst₂ (λ (y : TxId) (z : KeyId). Left scene (stage_of (run scene es)) m.sender y z) e f ((far_reads scene es).replies m (in_at (run scene es).sent i m sent) u l a by fc q)),
     )
     by_body (ReadReq u l rs) q z = absurd z
     by_body (Prepare u p rs lc ws) q z = absurd z
