@@ -1,22 +1,14 @@
 -- What a transaction has read it has read at each later moment too.
-use Rattle.std.proofs.Common.{List, Some, [], ap, inl, inr, refl, slice_get, slice_set, subst, sym, ℕ, ◌++◌, ◌∙◌, ◌∷◌, ◌≡◌, ◌⊎◌}
+use Rattle.std.proofs.Common.{List, Some, [], ap, inl, inr, slice_get, slice_set, subst, sym, ℕ, ◌∙◌, ◌∷◌, ◌≡◌}
 use Rattle.str_base.proofs.Lists.{get_push}
-use Rattle.str_base.proofs.Members.{at_in, in_at, in_left}
+use Rattle.str_base.proofs.Members.{in_left}
 use Rattle.str_base.specs.Members.{In}
-use Rattle.str_base.specs.declared.names.NodeId.{NodeId}
-use Rattle.str_base.specs.declared.names.TxId.{TxId}
-use Rattle.str_base.specs.declared.names.Value.{Value}
-use Rattle.str_scene.specs.declared.names.Event.{Event}
-use Rattle.str_scene.specs.SceneLimits.{IsScene}
-use Rattle.str_scene.specs.Scenes.{Here, Scene}
-use Rattle.str_scene.specs.declared.names.Op.{Op}
+use Rattle.str_scene.specs.Scenes.{Here}
 use Rattle.str_model.specs.declared.messages.Input.{Input}
 use Rattle.str_model.specs.declared.names.ReadDone.{ReadDone}
 use Rattle.str_model.specs.Acts.{abort_came, aborted, accepted, acked, asked, begun, certified, closed, commit_came, committed, fresh, in_phase, marked, refused, replied, requested, taken, waits}
-use Rattle.str_model.specs.Owned.{Owns}
 use Rattle.str_model.specs.Scripts.{noted, own_op}
-use Rattle.str_model.specs.Traces.{MomentAt, trace}
-use Rattle.str_model.specs.Views.{Doing, Own, Remote, View}
+use Rattle.str_model.specs.Views.{Doing, Own, Remote}
 use Rattle.str_model.proofs.OwnFacts.PlacesInOrder.{get_set_cases}
 use Rattle.str_model.proofs.Principle.SingleChanges.{Act, Change, Where, act_abort, act_abort_came, act_accept, act_ack, act_ask, act_begin, act_certify, act_close, act_commit, act_commit_came, act_mark, act_put, act_refuse, act_reply, act_request, act_take, act_unwait, act_wait, ch_away, ch_blind, ch_close, ch_gate, ch_known, ch_read, ch_reply, ch_resolve, ch_take, ch_wait}
 use Rattle.str_model.proofs.ViewFacts.MarksRise.{finish-looks, finish_next-looks}
