@@ -211,7 +211,7 @@ module _ (scene : Scene) (ok : IsScene scene) (es : List Event) (f : UnderWay sc
           let k = at_in x.parts a.0 a.1 in
           elim (f.answer n i k.0 lc v x a.0 g o l op k.1 a.2 a.3) [
             | u_message z ↦ none_left z.0 z.3
-            | u_parked m c u b ms gm mem tx part ↦ parked_for n i lc v x a.0.part m u b g o l op q gm (Rattle.str_model.proofs.Lists.Members.in_at u.waiters c (Held b) mem) tx part
+            | u_parked m c u b ms gm mem tx part ↦ parked_for n i lc v x a.0.part m u b g o l op q gm (in_at u.waiters c (Held b) mem) tx part
           ]
 
   -- nobody is certified and undecided
@@ -312,7 +312,7 @@ module _ (scene : Scene) (ok : IsScene scene) (es : List Event) (f : UnderWay sc
         by_phase (Remote k) e d =
             elim (f.reading n i v x k g o e) [
               | ru_message z ↦ none_left z.0 z.3
-              | ru_waits m c u rs ms gm mem ↦ (let r : (q : Version) × In q u.versions × (q.kind ≡ Final → ⊥) = waits_run scene ok es m u gm (Read (name_of (at_place scene n) i) k rs) (Rattle.str_model.proofs.Lists.Members.in_at u.waiters c (Read (name_of (at_place scene n) i) k rs) mem) in all_final m u r.0 gm r.1 r.2)
+              | ru_waits m c u rs ms gm mem ↦ (let r : (q : Version) × In q u.versions × (q.kind ≡ Final → ⊥) = waits_run scene ok es m u gm (Read (name_of (at_place scene n) i) k rs) (in_at u.waiters c (Read (name_of (at_place scene n) i) k rs) mem) in all_final m u r.0 gm r.1 r.2)
             ]
         by_phase (Reply k a by fc) e d = blocked d ((rests_run scene ok es n v g i x o).stuck (subst IsStuck (sym e) tt))
         by_phase CertWait e d = blocked d ((rests_run scene ok es n v g i x o).stuck (subst IsStuck (sym e) tt))
