@@ -11,7 +11,7 @@ use Rattle.str_base.specs.declared.names.NodeId.{NodeId}
 use Rattle.str_scene.proofs.Checked.{entry_checked, no_fault, row_checked, up_to}
 use Rattle.str_scene.proofs.Weaker.{IsLonger, event_weaker, key_weaker, row_weaker, session_weaker}
 use Rattle.str_scene.specs.DraftLimits.{HasReading, IsDraft}
-use Rattle.str_scene.specs.Drafts.{drained, is_none_yet, may_have_entry, may_have_nodes, may_have_part, may_have_session, with_entry, with_nodes, with_row, with_session}
+use Rattle.str_scene.specs.Drafts.{with_drain, is_none_yet, may_have_entry, may_have_nodes, may_have_part, may_have_session, with_entry, with_nodes, with_row, with_session}
 use Rattle.str_scene.specs.Refusals.{entry_fault, is_entry, is_row, is_up_to, nodes_fault, part_fault, session_fault, sessions_at}
 use Rattle.str_scene.specs.SceneLimits.{IsEvent, IsRow, IsSession}
 use Rattle.str_scene.specs.Scenes.{KeyTable, Scene, Session}
@@ -93,7 +93,7 @@ draft-row row d h few e =
     }
 
 -- with the drain
-pub draft-drain : (d : Scene) → IsDraft d → IsDraft (drained d)
+pub draft-drain : (d : Scene) → IsDraft d → IsDraft (with_drain d)
 draft-drain d h = record {
   version = h.version;
   nodes = h.nodes;
@@ -108,11 +108,11 @@ draft-drain d h = record {
     few_texts = h.table.few_texts;
   };
   few_sessions = h.few_sessions;
-  sessions = λ i s g. session_weaker d (drained d) refl (omega arith) (same_long d.keys) s (h.sessions i s g);
+  sessions = λ i s g. session_weaker d (with_drain d) refl (omega arith) (same_long d.keys) s (h.sessions i s g);
   at_one_node = h.at_one_node;
   few_transactions = h.few_transactions;
   few_events = h.few_events;
-  events = λ i x g. event_weaker d (drained d) (omega arith) x (h.events i x g);
+  events = λ i x g. event_weaker d (with_drain d) (omega arith) x (h.events i x g);
 }
 
 -- with one more entry

@@ -2,7 +2,7 @@
 ghost use Rattle.std.specs.Prelude.{◌≡◌, ◌⊎◌, ◌≤◌, ℕ, None, Some, length, slice_get, IfNone, OnOk, IfOk, IfErr, OnErr};
 ghost use Rattle.str_base.specs.declared.limits.TheConstants.{OPERATIONS, REPLICAS};
 ghost use Rattle.str_scene.specs.DraftLimits.{HasNumber, HasReading, IsDraft};
-ghost use Rattle.str_scene.specs.Drafts.{add_tx, drained, empty_draft, is_before_schedule, may_have_tx, with_entry, with_key, with_nodes, with_row, with_session, with_text, with_tx};
+ghost use Rattle.str_scene.specs.Drafts.{add_tx, with_drain, empty_draft, is_before_schedule, may_have_tx, with_entry, with_key, with_nodes, with_row, with_session, with_text, with_tx};
 ghost use Rattle.str_scene.specs.Keys.{number_of, string_number};
 ghost use Rattle.str_scene.specs.Refusals.{IsRefused, drain_fault, entry_fault, finish_fault, key_fault, keys_in_order, nodes_fault, part_fault, session_fault, text_fault, texts_in_order, transaction_count, tx_fault};
 ghost use Rattle.str_scene.specs.declared.names.Op.{Op as AnyOp};
@@ -151,7 +151,7 @@ impl SceneBuild {
 
     /// Gives the drain, after a partition, once and last. After a refusal the build is as it was.
     pub fn drain(&mut self) -> Result<(), SceneFault>
-        ensures added { OnOk result (self.new ≡ drained self.old) }
+        ensures added { OnOk result (self.new ≡ with_drain self.old) }
         ensures allowed { OnOk result (drain_fault self.old ≡ None) }
         ensures refused { IfErr result (λ f. drain_fault self.old ≡ Some f) }
         ensures err { OnErr result (self.new ≡ self.old) }
