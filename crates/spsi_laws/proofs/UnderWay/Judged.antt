@@ -144,10 +144,13 @@ module _ (here : Here) (v : View) (a : Arrived) (some : SomeWrites v) (wr : (w :
       if_elim (λ t. RuleLeaves (HasJudged a.tx a.part) v (Arrivals.master_done here a t (starts v)))
       (is_master here.scene here.node a.part && (not (same_node a.tx.node here.node) && not (is_known v a.tx a.part || is_parked v a.tx a.part))) (master_turn v a) Ignore
       (λ t. by_turn (master_turn v a) refl)
-      (λ t. (some, elim (one_of_two (is_known v a.tx a.part) (is_parked v a.tx a.part) (last_of_three (is_master here.scene here.node a.part) (same_node a.tx.node here.node) (is_known v a.tx a.part || is_parked v a.tx a.part) ms f t)) [
-        | inl q ↦ (elim (known_cases v a.tx a.part q) [ inl z ↦ inl z | inr z ↦ inr (inl z) ])
-        | inr q ↦ inr (inr (any_has (holds_pair a.tx a.part) v.waiters q))
-      ]))
+      (λ t. (
+        some,
+        elim (one_of_two (is_known v a.tx a.part) (is_parked v a.tx a.part) (last_of_three (is_master here.scene here.node a.part) (same_node a.tx.node here.node) (is_known v a.tx a.part || is_parked v a.tx a.part) ms f t)) [
+          | inl q ↦ (elim (known_cases v a.tx a.part q) [ inl z ↦ inl z | inr z ↦ inr (inl z) ])
+          | inr q ↦ inr (inr (any_has (holds_pair a.tx a.part) v.waiters q))
+        ],
+      ))
     where
       by_turn : (t : MasterTurn) → master_turn v a ≡ t → RuleLeaves (HasJudged a.tx a.part) v (Arrivals.master_done here a t (starts v))
       by_turn (Accept ts) e = accept_one ts
@@ -253,8 +256,11 @@ module _ (here : Here) (v : View) (i : ℕ) (x : Own) (own : Owns v i x) where
     refuse_phase_leaves : is_master here.scene from p ≡ true → (by : TxId) (k : KeyId) (c : Phase) → x.phase ≡ c → RuleLeaves (OneHas (λ z. is_decided z.phase ≡ true) i) v (Returns.refuse_phase here i x from p by k c (starts v))
     refuse_phase_leaves ms by k (Global m) e =
         if_elim (RuleLeaves (OneHas (λ z. is_decided z.phase ≡ true) i) v) (Returns.has_asked x.parts p && is_master here.scene from p) (Some (aborted here i _ x (starts v))) None (λ t. abort_leaves _)
-        (λ t. absurd (cc (t, and_from (Returns.has_asked x.parts p) (is_master here.scene from p)
-        (any_in (λ (z : Asked). same_part z.part p && z.asked) x.parts b inb (and_from (same_part b.part p) b.asked (eq-eqb b.part.0 p.0 (ap (λ (z : PartId). z.0) part)) asked_)) ms)))
+        (λ t. absurd (cc (
+          t,
+          and_from (Returns.has_asked x.parts p) (is_master here.scene from p)
+              (any_in (λ (z : Asked). same_part z.part p && z.asked) x.parts b inb (and_from (same_part b.part p) b.asked (eq-eqb b.part.0 p.0 (ap (λ (z : PartId). z.0) part)) asked_)) ms,
+        )))
     refuse_phase_leaves ms by k (Local m) e = absurd (local m e)
     refuse_phase_leaves ms by k (Committed a f) e = (x, own, ap is_decided e)
     refuse_phase_leaves ms by k (Aborted a f) e = (x, own, ap is_decided e)

@@ -167,8 +167,12 @@ module _ (here : Here) (old : List Message) where
   requests i k n x d o q hs =
       set_own d (requested here i k n x d) i x (in_phase (Remote k) x) o refl refl (λ m h. in_left d.sent _ m h)
       (λ l p. let same : k ≡ l = cc p in
-      inr (record { 0 = x.snap.rs }, subst (λ (z : KeyId). hosts_key here z ≡ false) same hs, in_right old (d.sent ++ letter here n (ReadReq (name_of here i) k (record { 0 = x.snap.rs })) ∷ []) _
-      (in_right d.sent (letter here n (ReadReq (name_of here i) k (record { 0 = x.snap.rs })) ∷ []) _ (inl (λ j. letter here ((q ∙ ap (master_of here) same) j) (ReadReq (name_of here i) (same j) (record { 0 = x.snap.rs })))))))
+      inr (
+        record { 0 = x.snap.rs },
+        subst (λ (z : KeyId). hosts_key here z ≡ false) same hs,
+        in_right old (d.sent ++ letter here n (ReadReq (name_of here i) k (record { 0 = x.snap.rs })) ∷ []) _
+            (in_right d.sent (letter here n (ReadReq (name_of here i) k (record { 0 = x.snap.rs })) ∷ []) _ (inl (λ j. letter here ((q ∙ ap (master_of here) same) j) (ReadReq (name_of here i) (same j) (record { 0 = x.snap.rs }))))),
+      ))
 
   -- ---- an own transaction as it stands
 
