@@ -2,7 +2,6 @@
 use Rattle.std.proofs.Common.{Bool, List, None, Option, Some, [], add-one, ap, arith, eq-eqb, eqb-true, false, filter, if◌then◌else◌, inl, inr, is_some, length, lt-ltb, map, max, nat_lt, not, option_map, refl, slice_get, slice_set, sub-one, subst, subst₂, suc, sym, true, zero, ℕ, ◌&&◌, ◌++◌, ◌+◌, ◌-◌, ◌<◌, ◌^◌, ◌||◌, ◌∙◌, ◌∷◌, ◌≡◌, ◌≢◌, ◌≤◌, ◌⊎◌}
 use Rattle.std.specs.List.{list_any}
 use Rattle.partition_map.specs.declared.rows.Asked.{Asked}
-use Rattle.si_laws.proofs.Presence.DecisionsValid.{and_both}
 use Rattle.si_laws.proofs.Stages.AllLinksKept.{linked}
 use Rattle.si_laws.proofs.Stages.LinkedStates.{Acknowledged, IsCertified, Told, one_of, one_place}
 use Rattle.si_laws.proofs.Stages.PairsForward.{second-act, some_writes, third-act}
@@ -29,11 +28,9 @@ use Rattle.str_base.specs.declared.names.TxId.{TxId}
 use Rattle.str_base.specs.declared.names.Value.{Value}
 use Rattle.str_base.specs.declared.names.Version.{Version}
 use Rattle.str_base.specs.declared.names.Write.{Write}
-use Rattle.str_model.proofs.Changes.PairWords.{Has, SomeWrites, any_has, has_at, not_both, same_pair, same_part-is, same_tx-is, self_pair, some_step, valid_some}
-use Rattle.str_model.proofs.Changes.SnapshotsGain.{and_left, and_right, if_elim}
+use Rattle.str_model.proofs.Changes.PairWords.{Has, SomeWrites, any_has, same_pair, self_pair, some_step, valid_some}
+use Rattle.str_model.proofs.Changes.SnapshotsGain.{if_elim}
 use Rattle.str_model.proofs.Changes.VersionChanges.{wait_step}
-use Rattle.str_model.proofs.Lists.ListReads.{get_set}
-use Rattle.str_model.proofs.Lists.Members.{In, in_all_new, in_append, in_at, in_filter, in_left, in_right, in_without, map_in}
 use Rattle.str_model.proofs.Principle.Everywhere.{at_place, stage_of}
 use Rattle.str_model.proofs.Principle.SingleChanges.{Act, Where}
 use Rattle.str_model.proofs.ViewFacts.TimesBelow.{BodyBelow, mark_below, newest_below, passed_below}
@@ -66,6 +63,12 @@ use Rattle.str_scene.specs.SceneLimits.{IsScene}
 use Rattle.str_scene.specs.Scenes.{Here, Scene, hosts, hosts_key, in_part, is_master, nth, part_of}
 use Rattle.str_scene.specs.declared.names.Event.{Event}
 use Rattle.str_scene.specs.declared.names.Event.TheVariants.{Deliver as DeliverEvent}
+use Rattle.std.proofs.lemmas.Bool.{and_from, false_from_ne_true}
+use Rattle.str_base.proofs.Members.{any_in, in_all_new, in_append, in_at, in_filter, in_left, in_right, in_without, map_in}
+use Rattle.str_base.proofs.SameNames.{same_part-is, same_tx-is}
+use Rattle.str_base.proofs.Tests.{and_true_left, and_true_right}
+use Rattle.str_base.proofs.Lists.{get_set}
+use Rattle.str_base.specs.Members.{In}
 
 -- a Prepare of the pair was judged: the pair is done, or stands, or the Prepare is parked
 abbrev pub HasJudged : TxId → PartId → View → Type 0
@@ -95,7 +98,7 @@ one_of_two true b e = inl refl
 one_of_two false b e = inr e
 
 other_node : (n m : NodeId) → n.0 ≢ m.0 → same_node n m ≡ false
-other_node n m f = not_both (same_node n m) (λ q. f (eqb-true n.0 m.0 q))
+other_node n m f = false_from_ne_true (same_node n m) (λ q. f (eqb-true n.0 m.0 q))
 
 -- ---- what the rule of a valid message is
 
@@ -141,10 +144,13 @@ module _ (here : Here) (v : View) (a : Arrived) (some : SomeWrites v) (wr : (w :
       if_elim (λ t. RuleLeaves (HasJudged a.tx a.part) v (Arrivals.master_done here a t (starts v)))
       (is_master here.scene here.node a.part && (not (same_node a.tx.node here.node) && not (is_known v a.tx a.part || is_parked v a.tx a.part))) (master_turn v a) Ignore
       (λ t. by_turn (master_turn v a) refl)
-      (λ t. (some, elim (one_of_two (is_known v a.tx a.part) (is_parked v a.tx a.part) (last_of_three (is_master here.scene here.node a.part) (same_node a.tx.node here.node) (is_known v a.tx a.part || is_parked v a.tx a.part) ms f t)) [
-        | inl q ↦ (elim (known_cases v a.tx a.part q) [ inl z ↦ inl z | inr z ↦ inr (inl z) ])
-        | inr q ↦ inr (inr (any_has (holds_pair a.tx a.part) v.waiters q))
-      ]))
+      (λ t. (
+        some,
+        elim (one_of_two (is_known v a.tx a.part) (is_parked v a.tx a.part) (last_of_three (is_master here.scene here.node a.part) (same_node a.tx.node here.node) (is_known v a.tx a.part || is_parked v a.tx a.part) ms f t)) [
+          | inl q ↦ (elim (known_cases v a.tx a.part q) [ inl z ↦ inl z | inr z ↦ inr (inl z) ])
+          | inr q ↦ inr (inr (any_has (holds_pair a.tx a.part) v.waiters q))
+        ],
+      ))
     where
       by_turn : (t : MasterTurn) → master_turn v a ≡ t → RuleLeaves (HasJudged a.tx a.part) v (Arrivals.master_done here a t (starts v))
       by_turn (Accept ts) e = accept_one ts
@@ -250,8 +256,11 @@ module _ (here : Here) (v : View) (i : ℕ) (x : Own) (own : Owns v i x) where
     refuse_phase_leaves : is_master here.scene from p ≡ true → (by : TxId) (k : KeyId) (c : Phase) → x.phase ≡ c → RuleLeaves (OneHas (λ z. is_decided z.phase ≡ true) i) v (Returns.refuse_phase here i x from p by k c (starts v))
     refuse_phase_leaves ms by k (Global m) e =
         if_elim (RuleLeaves (OneHas (λ z. is_decided z.phase ≡ true) i) v) (Returns.has_asked x.parts p && is_master here.scene from p) (Some (aborted here i _ x (starts v))) None (λ t. abort_leaves _)
-        (λ t. absurd (cc (t, and_both (Returns.has_asked x.parts p) (is_master here.scene from p)
-        (has_at (λ (z : Asked). same_part z.part p && z.asked) x.parts b inb (and_both (same_part b.part p) b.asked (eq-eqb b.part.0 p.0 (ap (λ (z : PartId). z.0) part)) asked_)) ms)))
+        (λ t. absurd (cc (
+          t,
+          and_from (Returns.has_asked x.parts p) (is_master here.scene from p)
+              (any_in (λ (z : Asked). same_part z.part p && z.asked) x.parts b inb (and_from (same_part b.part p) b.asked (eq-eqb b.part.0 p.0 (ap (λ (z : PartId). z.0) part)) asked_)) ms,
+        )))
     refuse_phase_leaves ms by k (Local m) e = absurd (local m e)
     refuse_phase_leaves ms by k (Committed a f) e = (x, own, ap is_decided e)
     refuse_phase_leaves ms by k (Aborted a f) e = (x, own, ap is_decided e)
@@ -310,8 +319,8 @@ module _ (here : Here) (v : View) (tx : TxId) (k : KeyId) where
 
   is_waiting : (w : Waiter) → Arrivals.waits_read tx k w ≡ true → In w v.waiters → (rs : Ts) × In (Read tx k rs) v.waiters
   is_waiting (Read t l rs) e h =
-      let a : t ≡ tx = same_tx-is t tx (and_left (same_tx t tx) (same_key l k) e) in
-      let num : l.0 ≡ k.0 = eqb-true l.0 k.0 (and_right (same_tx t tx) (same_key l k) e) in
+      let a : t ≡ tx = same_tx-is t tx (and_true_left (same_tx t tx) (same_key l k) e) in
+      let num : l.0 ≡ k.0 = eqb-true l.0 k.0 (and_true_right (same_tx t tx) (same_key l k) e) in
       let b : l ≡ k = (λ j. record { 0 = num j }) in
       (rs, subst₂ (λ (y : TxId) (z : KeyId). In (Read y z rs) v.waiters) a b h)
   is_waiting (Held a) e h = absurd (cc e)

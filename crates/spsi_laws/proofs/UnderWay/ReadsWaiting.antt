@@ -192,12 +192,11 @@ RequestsSent scene s =
 requests_kept : (scene : Scene) (s : Stage) (i : ℕ) (v : View) (input : Input) (e : Doing) → slice_get s.nodes i ≡ Some v → IsSeen s input → step (at_place scene i) input v ≡ Some e → RequestsSent scene s
     → RequestsSent scene (during s i e)
 requests_kept scene s i v input e is seen q h n j u x k g o p = elim (got_set s.nodes i n e.view u g) [
-  | inl r ↦ (let a = (step_keeps (at_place scene i) s.sent input v e q).remote (λ c y l own ph. let b = h i c v y l is own ph in (b.0, b.1, in_left s.sent [] _ b.2)) j x k (subst (λ (z : View). Owns z j x) r.1 o) p in
-      (
-        a.0,
-        subst (λ (z : ℕ). hosts_key (at_place scene z) k ≡ false) (sym r.0) a.1,
-        subst (λ (z : ℕ). In (letter (at_place scene z) (master_of (at_place scene z) k) (ReadReq (name_of (at_place scene z) j) k a.0)) (s.sent ++ e.sent)) (sym r.0) a.2,
-      ))
+  | inl r ↦ (let a = (step_keeps (at_place scene i) s.sent input v e q).remote (λ c y l own ph. let b = h i c v y l is own ph in (b.0, b.1, in_left s.sent [] _ b.2)) j x k (subst (λ (z : View). Owns z j x) r.1 o) p in (
+    a.0,
+    subst (λ (z : ℕ). hosts_key (at_place scene z) k ≡ false) (sym r.0) a.1,
+    subst (λ (z : ℕ). In (letter (at_place scene z) (master_of (at_place scene z) k) (ReadReq (name_of (at_place scene z) j) k a.0)) (s.sent ++ e.sent)) (sym r.0) a.2,
+  ))
   | inr r ↦ (let a = h n j u x k r.1 o p in (a.0, a.1, in_left s.sent e.sent _ a.2))
 ]
 

@@ -10,12 +10,13 @@ use Rattle.str_base.specs.declared.names.NodeId.{NodeId}
 use Rattle.str_base.specs.declared.names.PartId.{PartId}
 use Rattle.str_base.specs.declared.names.Version.{Version}
 use Rattle.str_base.specs.declared.names.Write.{Write}
-use Rattle.str_model.proofs.Lists.Members.{In, in_flat_map, in_map, map_in}
 use Rattle.str_model.specs.NodeFacts.{OwnGood, seats}
 use Rattle.str_model.specs.Views.{Own, lc_of}
 use Rattle.str_scene.specs.SceneLimits.{IsScene}
 use Rattle.str_scene.specs.Scenes.{Here, Scene, all_parts, in_part, nth, or_none, others, participants, replicas, unasked, written_parts}
 use Rattle.std.proofs.Common.{not}
+use Rattle.str_base.proofs.Members.{in_flat_map, in_map, map_in}
+use Rattle.str_base.specs.Members.{In}
 
 seats_append : (xs ys : List Asked) → seats (xs ++ ys) ≡ seats xs ++ seats ys
 seats_append [] ys = refl

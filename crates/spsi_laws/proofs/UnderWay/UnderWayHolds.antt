@@ -5,7 +5,6 @@ use Rattle.partition_map.specs.Maps.{Exists}
 use Rattle.partition_map.specs.declared.rows.Asked.{Asked}
 use Rattle.si_laws.proofs.Presence.DecisionsDelivered.{delivered}
 use Rattle.si_laws.proofs.Presence.DecisionsValid.{bounded_from, decisions_are_valid}
-use Rattle.si_laws.proofs.Sessions.SessionHolds.{get_within}
 use Rattle.si_laws.proofs.Stages.AllLinksKept.{linked}
 use Rattle.si_laws.proofs.Stages.LinkedStates.{IsDecidedAs, Told, one_of, one_place}
 use Rattle.si_laws.proofs.Stages.ParticipantSeats.{own_seat, to_nth}
@@ -29,11 +28,7 @@ use Rattle.str_base.specs.declared.names.Ts.{Ts}
 use Rattle.str_base.specs.declared.names.TxId.{TxId}
 use Rattle.str_base.specs.declared.names.Version.{Version}
 use Rattle.str_base.specs.declared.names.Write.{Write}
-use Rattle.str_model.proofs.Changes.PairWords.{Has, not_both, pair-is, same_part-is, same_tx-is}
-use Rattle.str_model.proofs.Changes.SnapshotsGain.{and_left, and_right}
-use Rattle.str_model.proofs.Changes.VersionsMet.{filter_in}
-use Rattle.str_model.proofs.Lists.ListReads.{same_or_not}
-use Rattle.str_model.proofs.Lists.Members.{In, at_in, in_at}
+use Rattle.str_model.proofs.Changes.PairWords.{Has, pair-is}
 use Rattle.str_model.proofs.Principle.Everywhere.{at_place, stage_of}
 use Rattle.str_model.proofs.ViewFacts.VersionsKept.{master_hosts}
 use Rattle.str_model.specs.Owned.{IsView, Owns}
@@ -49,6 +44,12 @@ use Rattle.str_model.specs.declared.messages.Waiter.TheVariants.{Held, Read}
 use Rattle.str_scene.specs.SceneLimits.{IsScene}
 use Rattle.str_scene.specs.Scenes.{Here, Scene, first_or, hosts, hosts_key, is_master, leads, named_part, nth, or_none, others, part_of, replicas}
 use Rattle.str_scene.specs.declared.names.Event.{Event}
+use Rattle.std.proofs.lemmas.Bool.{cases_eq, false_from_ne_true}
+use Rattle.str_base.proofs.SameNames.{same_part-is, same_tx-is}
+use Rattle.str_base.proofs.Tests.{and_true_left, and_true_right}
+use Rattle.str_base.proofs.Members.{at_in, filter_in, in_at}
+use Rattle.str_base.proofs.Lists.{slice_get_there}
+use Rattle.str_base.specs.Members.{In}
 
 -- the first of a partition's row is its master
 row_first : (scene : Scene) → IsScene scene → (p : PartId) → Exists p.0 (length scene.parts) → (d : NodeId) → is_master scene (first_or d (replicas scene p)) p ≡ true
@@ -62,7 +63,7 @@ row_first scene ok p e d = by_place p.0 refl
     by_place zero q = absurd (let l = e.0 in omega (arith, l, q))
     by_place (suc c) q =
         let l = e.1 in
-        let row = get_within scene.parts c (omega (arith, l, q)) in
+        let row = slice_get_there scene.parts c (omega (arith, l, q)) in
         let is : nth scene.parts p.0 ≡ Some row.0 = ap (λ (z : ℕ). nth scene.parts z) q ∙ row.1 in
         subst (λ o. leads (first_or d (or_none o)) (or_none o) ≡ true) (sym is) (by_row row.0 (ok.rows c row.0 row.1).some)
 
@@ -72,7 +73,7 @@ module _ (scene : Scene) (ok : IsScene scene) (es : List Event) where
   flag j m e =
       let len = (delivered scene (λ xs. decisions_are_valid (bounded_from times_bounded) scene ok xs) es).len in
       let less = slice_get_within (run scene es).sent j m e in
-      let g = get_within (run scene es).given j (omega (arith, less, len)) in by_flag g.0 g.1
+      let g = slice_get_there (run scene es).given j (omega (arith, less, len)) in by_flag g.0 g.1
     where
       by_flag : (b : Bool) → slice_get (run scene es).given j ≡ Some b → (slice_get (run scene es).given j ≡ Some false) ⊎ (slice_get (run scene es).given j ≡ Some true)
       by_flag false q = inl q
@@ -83,7 +84,7 @@ module _ (scene : Scene) (ok : IsScene scene) (es : List Event) where
 
   -- the view of a node
   view_of : (n : ℕ) → n < scene.nodes → (u : View) × IsView scene es n u
-  view_of n less = let len = (posted scene ok es).count in get_within (run scene es).nodes n (omega (arith, less, len))
+  view_of n less = let len = (posted scene ok es).count in slice_get_there (run scene es).nodes n (omega (arith, less, len))
 
   place_of : (r : NodeId) → Exists r.0 scene.nodes → (n : ℕ) × (r ≡ record { 0 = n + 1 }) × (n < scene.nodes)
   place_of r e = let p = to_place scene ok es r e in let z = ap (λ (y : NodeId). y.0) p.1 in let l = e.1 in (p.0, p.1, omega (arith, z, l))
@@ -186,8 +187,8 @@ module _ (scene : Scene) (ok : IsScene scene) (es : List Event) where
       -- the pair is done at some node
       done_goal : (r : ℕ) (u : View) → IsView scene es r u → Has (is_pair (name_of (at_place scene n) i) a.part) u.done → Goal
       done_goal r u is h =
-          let t : h.0.0 ≡ name_of (at_place scene n) i = same_tx-is h.0.0 (name_of (at_place scene n) i) (and_left (same_tx h.0.0 (name_of (at_place scene n) i)) (same_part h.0.1 a.part) h.2) in
-          let p : h.0.1 ≡ a.part = same_part-is h.0.1 a.part (and_right (same_tx h.0.0 (name_of (at_place scene n) i)) (same_part h.0.1 a.part) h.2) in
+          let t : h.0.0 ≡ name_of (at_place scene n) i = same_tx-is h.0.0 (name_of (at_place scene n) i) (and_true_left (same_tx h.0.0 (name_of (at_place scene n) i)) (same_part h.0.1 a.part) h.2) in
+          let p : h.0.1 ≡ a.part = same_part-is h.0.1 a.part (and_true_right (same_tx h.0.0 (name_of (at_place scene n) i)) (same_part h.0.1 a.part) h.2) in
           let m : In (name_of (at_place scene n) i, a.part) u.done = subst₂ (λ (y : TxId) (z : PartId). In (y, z) u.done) t p h.1 in
           elim ((followed scene ok es).done_ r u (name_of (at_place scene n) i) a.part is m) [ inl z ↦ absurd (told_not z) | inr z ↦ refused z ]
 
@@ -229,21 +230,21 @@ module _ (scene : Scene) (ok : IsScene scene) (es : List Event) where
           by_waiter (Read t k rs) m e = absurd (cc e)
           by_waiter (Held b) m e =
               let at = at_in u.waiters (Held b) m in
-              u_parked r at.0 u b ms is at.1 (same_tx-is b.tx (name_of (at_place scene n) i) (and_left (same_tx b.tx (name_of (at_place scene n) i)) (same_part b.part a.part) e))
-              (same_part-is b.part a.part (and_right (same_tx b.tx (name_of (at_place scene n) i)) (same_part b.part a.part) e))
+              u_parked r at.0 u b ms is at.1 (same_tx-is b.tx (name_of (at_place scene n) i) (and_true_left (same_tx b.tx (name_of (at_place scene n) i)) (same_part b.part a.part) e))
+              (same_part-is b.part a.part (and_true_right (same_tx b.tx (name_of (at_place scene n) i)) (same_part b.part a.part) e))
 
       -- the pair stands at the master
       stands_goal : (r : ℕ) (u : View) → IsView scene es r u → is_master scene (record { 0 = r + 1 }) a.part ≡ true → n + 1 ≢ r + 1 → Has (of_pair (name_of (at_place scene n) i) a.part) u.versions → Goal
       stands_goal r u is ms other z =
           let k = pair-is (name_of (at_place scene n) i) a.part z.0 z.2 in
           let st = (followed scene ok es).stands r u z.0 is z.1 (λ y. other (ap (λ (s : TxId). s.node.0) (sym k.0) ∙ ap (λ (s : NodeId). s.0) y)) in
-          elim (same_or_not a.node.0 (r + 1)) [
+          elim (cases_eq a.node.0 (r + 1)) [
             | inl q ↦ acked (record { 0 = r + 1 }) (λ j. record { 0 = q j }) (st.ack.0, st.ack.1, (st.ack.2.0, subst₂ (λ (y : TxId) (s : PartId). Acks y s st.ack.0.body) k.0 k.1 st.ack.2.1))
             | inr q ↦ (let seat = own_seat (at_place scene n) v.versions i x (((posted scene ok es).facts n v there).homes i x own) a ina in
                 let apart : In a.node (others (record { 0 = r + 1 }) (replicas scene a.part)) =
-                filter_in (λ (y : NodeId). not (same_node y (record { 0 = r + 1 }))) (replicas scene a.part) a.node seat.replica (ap not (not_both (same_node a.node (record { 0 = r + 1 })) (λ y. q (eqb-true a.node.0 (r + 1) y)))) in
+                filter_in (λ (y : NodeId). not (same_node y (record { 0 = r + 1 }))) (replicas scene a.part) a.node seat.replica (ap not (false_from_ne_true (same_node a.node (record { 0 = r + 1 })) (λ y. q (eqb-true a.node.0 (r + 1) y)))) in
                 let far : In a.node (others (record { 0 = n + 1 }) (others (record { 0 = r + 1 }) (replicas scene a.part))) =
-                filter_in (λ (y : NodeId). not (same_node y (record { 0 = n + 1 }))) (others (record { 0 = r + 1 }) (replicas scene a.part)) a.node apart (ap not (not_both (same_node a.node (record { 0 = n + 1 })) (λ y. seat.other (eqb-true a.node.0 (n + 1) y)))) in
+                filter_in (λ (y : NodeId). not (same_node y (record { 0 = n + 1 }))) (others (record { 0 = r + 1 }) (replicas scene a.part)) a.node apart (ap not (false_from_ne_true (same_node a.node (record { 0 = n + 1 })) (λ y. seat.other (eqb-true a.node.0 (n + 1) y)))) in
                 let c = st.copies (subst (λ (s : PartId). is_master scene (record { 0 = r + 1 }) s ≡ true) (sym k.1) ms) a.node
                 (subst₂ (λ (y : TxId) (s : PartId). In a.node (others y.node (others (record { 0 = r + 1 }) (replicas scene s)))) (sym k.0) (sym k.1) far) in
                 replicated (c.0, c.1, (c.2.0, subst₂ (λ (y : TxId) (s : PartId). Replicates y s c.0.body) k.0 k.1 c.2.1)))
@@ -322,7 +323,7 @@ module _ (scene : Scene) (ok : IsScene scene) (es : List Event) where
           let m : Message = letter (at_place scene n) (master_of (at_place scene n) k) (ReadReq (name_of (at_place scene n) i) k rq.0) in
           let at = at_in (run scene es).sent m rq.2 in
           let key : k.0 < length scene.keys.names = ltb-true k.0 (length scene.keys.names) ((posted scene ok es).each m rq.2).names.1 in
-          let name = get_within scene.keys.names k.0 key in
+          let name = slice_get_there scene.keys.names k.0 key in
           let part : part_of scene k ≡ name.0.1 = ap (λ o. named_part o) name.1 in
           let ex : Exists (part_of scene k).0 (length scene.parts) = subst (λ (p : PartId). Exists p.0 (length scene.parts)) (sym part) (ok.table.keys k.0 name.0 name.1).part in
           let ms : is_master scene (master_of (at_place scene n) k) (part_of scene k) ≡ true = row_first scene ok (part_of scene k) ex (record { 0 = n + 1 }) in
