@@ -17,5 +17,6 @@ pub mod AnswersGiven
 mod EvictedScene
 pub mod CommitsAfter
 pub mod DependenciesFirst
+pub mod ReadsKept
 pub mod WritersFirst
 pub mod KeysWritten

@@ -1,5 +1,5 @@
 -- Each abort has a true cause: a dependency that was lost or came too late, a wish, a conflict found at home or by a Replicate.
-use Rattle.std.proofs.Common.{Bool, List, None, Option, Some, [], add-sub_cancel, ap, arith, false, find, if◌then◌else◌, inl, inr, max, nat_lt, refl, slice_get, subst, suc, sym, true, ltb-true, ℕ, ◌+◌, ◌-◌, ◌<◌, ◌∙◌, ◌∷◌, ◌≡◌, ◌||◌, ◌⊎◌}
+use Rattle.std.proofs.Common.{Bool, List, None, Option, Some, [], add-sub_cancel, ap, arith, false, find, if◌then◌else◌, inl, inr, max, nat_lt, refl, slice_get, subst, suc, sym, true, ltb-true, ℕ, ◌+◌, ◌-◌, ◌<◌, ◌∙◌, ◌∷◌, ◌≡◌, ◌⊎◌}
 use Rattle.dependency_set.specs.Snapshots.{Snap}
 use Rattle.dependency_set.specs.declared.names.Dep.{Dep}
 use Rattle.str_base.specs.declared.names.Cause.{Cause}

@@ -13,7 +13,7 @@ use Rattle.str_model.specs.declared.messages.Body.TheVariants.{Abort, Ack, Commi
 use Rattle.str_model.specs.declared.messages.Input.{Input}
 use Rattle.str_model.specs.declared.messages.Input.TheVariants.{Deliver}
 use Rattle.str_model.specs.Moments.{moments_of}
-use Rattle.str_model.specs.Runs.{World, run}
+use Rattle.str_model.specs.Runs.{World}
 use Rattle.str_model.specs.Traces.{Happening, MomentAt, trace}
 use Rattle.str_model.specs.Views.{CertWait, Doing, Global, Own, Phase}
 use Rattle.str_model.proofs.Worked.Words.{add, c, d, everything, key, node, put, session, words}

@@ -141,7 +141,7 @@ module _ (scene : Scene) (ok : IsScene scene) (es : List Event) where
       let k = own_seat (at_place scene dec.n) dec.view.versions dec.i x g seat.0 seat.1 in
       host_exists scene ok m.receiver p (subst₂ (λ (q : PartId) (r : NodeId). hosts scene r q ≡ true) seat.2 seat.3 k.hosted)
 
-  to_place : (r : NodeId) → Exists r.0 scene.nodes → (n : ℕ) × (r ≡ record { 0 = n + 1 })
+  pub to_place : (r : NodeId) → Exists r.0 scene.nodes → (n : ℕ) × (r ≡ record { 0 = n + 1 })
   to_place r e = (r.0 - 1, λ j. record { 0 = is j })
     where
       is : r.0 ≡ r.0 - 1 + 1
