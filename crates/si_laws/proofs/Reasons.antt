@@ -14,7 +14,9 @@ pub mod RefuseSent
 pub mod MessagesSent
 pub mod RefuseReasons
 pub mod AnswersGiven
+mod EvictedScene
 pub mod CommitsAfter
 pub mod DependenciesFirst
+pub mod ReadsKept
 pub mod WritersFirst
 pub mod KeysWritten

@@ -23,7 +23,6 @@ use Rattle.str_model.specs.declared.messages.Body.{Body}
 use Rattle.str_model.specs.declared.messages.Body.TheVariants.{Abort, Ack, Commit, Prepare, ReadReply, ReadReq, Refuse as Refusal, Replicate}
 use Rattle.str_model.specs.declared.messages.Input.{Input}
 use Rattle.str_model.specs.declared.messages.Input.TheVariants.{Client, Deliver}
-use Rattle.str_model.specs.declared.messages.Message.{Message}
 use Rattle.str_model.specs.declared.names.Got.{Got}
 use Rattle.str_model.specs.Acts.{abort_came, aborted, acked, asked, begun, closed, commit_came, committed, decided_as, fresh, in_phase, taken, with_asked}
 use Rattle.str_model.specs.Arrivals

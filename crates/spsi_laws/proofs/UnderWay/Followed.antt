@@ -16,12 +16,8 @@ use Rattle.str_base.specs.declared.names.PartId.{PartId}
 use Rattle.str_base.specs.declared.names.Ts.{Ts}
 use Rattle.str_base.specs.declared.names.TxId.{TxId}
 use Rattle.str_base.specs.declared.names.Version.{Version}
-use Rattle.str_model.proofs.Changes.PairWords.{not_both}
 use Rattle.str_model.proofs.Changes.SnapshotsGain.{if_elim}
 use Rattle.str_model.proofs.Changes.VersionChanges.{Placed, WaitStep, by_master, by_slave, sent_step, w_fewer, w_more, wait_step}
-use Rattle.str_model.proofs.Changes.VersionsMet.{filter_in}
-use Rattle.str_model.proofs.Lists.ListReads.{get_set, get_set_other, got_replicate, got_set}
-use Rattle.str_model.proofs.Lists.Members.{In, in_append, in_at, in_left, in_right, map_in}
 use Rattle.str_model.proofs.Principle.Everywhere.{IsSeen, Sent, Stage, at_place, during, everywhere, stage_of}
 use Rattle.str_model.proofs.Principle.SingleChanges.{Act, Arrives, IsAsked, IsHere, Where, a_prepare, a_read, asked_before as read_before, asked_now as read_now, it_comes, it_waits}
 use Rattle.str_model.specs.Acts
@@ -39,6 +35,10 @@ use Rattle.str_model.specs.declared.messages.Waiter.TheVariants.{Held, Read}
 use Rattle.str_scene.specs.SceneLimits.{IsScene}
 use Rattle.str_scene.specs.Scenes.{Here, Scene, first_or, in_part, is_master, leads, others, replicas}
 use Rattle.str_scene.specs.declared.names.Event.{Event}
+use Rattle.std.proofs.lemmas.Bool.{false_from_ne_true}
+use Rattle.str_base.proofs.Members.{filter_in, in_append, in_at, in_left, in_right, map_in}
+use Rattle.str_base.proofs.Lists.{get_set, get_set_other, got_replicate, got_set}
+use Rattle.str_base.specs.Members.{In}
 
 -- such a message was sent
 abbrev pub Sends : List Message → (Message → Type 0) → Type 0
@@ -201,10 +201,10 @@ module _ (scene : Scene) (s : Stage) (i : ℕ) (v : View) (input : Input) (w : W
           (map (λ (r : NodeId). letter (at_place scene i) r (Replicate (name_of (at_place scene i) j) a.part (stamp y.snap.rs) (stamp lc) ws)) (others me rs))
           (letter (at_place scene i) (first_or me rs) (Prepare (name_of (at_place scene i) j) a.part (stamp y.snap.rs) (stamp lc) ws) ∷ [])
           (λ t g. inr (
-          letter (at_place scene i) a.node (Replicate (name_of (at_place scene i) j) a.part (stamp y.snap.rs) (stamp lc) ws),
-          newer _ (g _ (map_in (λ (r : NodeId). letter (at_place scene i) r (Replicate (name_of (at_place scene i) j) a.part (stamp y.snap.rs) (stamp lc) ws)) (others me rs) a.node
-              (filter_in (λ (r : NodeId). not (same_node r me)) rs a.node inrow (ap not (not_both (same_node a.node me) (λ q. other (eqb-true a.node.0 me.0 q))))))),
-          (refl, (refl, refl)),
+            letter (at_place scene i) a.node (Replicate (name_of (at_place scene i) j) a.part (stamp y.snap.rs) (stamp lc) ws),
+            newer _ (g _ (map_in (λ (r : NodeId). letter (at_place scene i) r (Replicate (name_of (at_place scene i) j) a.part (stamp y.snap.rs) (stamp lc) ws)) (others me rs) a.node
+                (filter_in (λ (r : NodeId). not (same_node r me)) rs a.node inrow (ap not (false_from_ne_true (same_node a.node me) (λ q. other (eqb-true a.node.0 me.0 q))))))),
+            (refl, (refl, refl)),
           ))
           (λ t g. inl (letter (at_place scene i) (first_or me rs) (Prepare (name_of (at_place scene i) j) a.part (stamp y.snap.rs) (stamp lc) ws), newer _ (g _ (inl refl)), (refl, refl)))) letters
 

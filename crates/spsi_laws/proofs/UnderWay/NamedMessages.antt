@@ -1,7 +1,6 @@
 -- What a new message names exists, and to whom it goes.
 use Rattle.std.proofs.Common.{Bool, List, None, Option, Some, [], ap, arith, eq-eqb, eqb-true, false, filter, find, flat_map, inl, inr, le-leb, length, lt-ltb, map, nat_le, nat_lt, not, refl, subst, sym, true, ℕ, ◌&&◌, ◌+◌, ◌<◌, ◌∙◌, ◌∷◌, ◌≡◌, ◌≢◌, ◌⊎◌}
 use Rattle.std.specs.List.{list_all, list_any}
-use Rattle.std.proofs.lemmas.Bool.{and_from}
 use Rattle.partition_map.specs.declared.rows.Asked.{Asked}
 use Rattle.si_laws.proofs.Presence.DecisionsValid.{all_in, filter_distinct}
 use Rattle.si_laws.proofs.Stages.ParticipantSeats.{own_seat, part_exists}
@@ -17,11 +16,9 @@ use Rattle.str_base.specs.declared.names.Value.{Value}
 use Rattle.str_base.specs.declared.names.Value.TheVariants.{Absent}
 use Rattle.str_base.specs.declared.names.Version.{Version}
 use Rattle.str_base.specs.declared.names.Write.{Write}
-use Rattle.str_model.proofs.Changes.PairWords.{any_has, has_at, not_both}
-use Rattle.str_model.proofs.Changes.SnapshotsGain.{and_left, and_right, if_elim, visible-is}
+use Rattle.str_model.proofs.Changes.PairWords.{any_has}
+use Rattle.str_model.proofs.Changes.SnapshotsGain.{if_elim, visible-is}
 use Rattle.str_model.proofs.Changes.VersionChanges.{Placed, by_master, by_slave}
-use Rattle.str_model.proofs.Changes.VersionsMet.{filter_in}
-use Rattle.str_model.proofs.Lists.Members.{In, in_filter, in_flat_map, in_map, in_right, map_in}
 use Rattle.str_model.proofs.OwnFacts.AskedParts.{gate_ask}
 use Rattle.str_model.proofs.Principle.SingleChanges.{Comes, IsAsked, IsHere, asked_before, asked_now, it_comes, it_waits}
 use Rattle.str_model.proofs.ViewFacts.MarksRise.{script_op}
@@ -49,6 +46,10 @@ use Rattle.str_scene.specs.SceneLimits.{IsOp, IsScene}
 use Rattle.str_scene.specs.Scenes.{Here, Scene, first_or, hosts, in_part, all_parts, is_master, leads, others, part_of, participants, replicas, unasked, written_parts}
 use Rattle.str_scene.specs.declared.names.Op.{Op}
 use Rattle.str_scene.specs.declared.names.Op.TheVariants.{Abort as Stop, Add, Del, Get, Need, Put, Puts}
+use Rattle.std.proofs.lemmas.Bool.{and_from, false_from_ne_true}
+use Rattle.str_base.proofs.Members.{any_in, filter_in, in_filter, in_flat_map, in_map, in_right, map_in}
+use Rattle.str_base.proofs.Tests.{and_true_left, and_true_right}
+use Rattle.str_base.specs.Members.{In}
 
 -- ---- what a message names, without its times
 
@@ -104,7 +105,7 @@ first_other n r (f ∷ rs) h e = λ q. cc (eq-eqb f.0 n.0 (sym q), e)
 
 other_follows : (n r : NodeId) (rs : List NodeId) → leads n rs ≡ true → r.0 ≢ n.0 → leads r rs ≡ false
 other_follows n r [] e f = absurd (cc e)
-other_follows n r (g ∷ rs) e f = not_both (same_node g r) (λ q. f (sym (eqb-true g.0 r.0 q) ∙ eqb-true g.0 n.0 e))
+other_follows n r (g ∷ rs) e f = false_from_ne_true (same_node g r) (λ q. f (sym (eqb-true g.0 r.0 q) ∙ eqb-true g.0 n.0 e))
 
 -- one of the others is in the row, and is another one
 pub other_one : (n r : NodeId) (rs : List NodeId) → In r (others n rs) → In r rs × (r.0 ≢ n.0)
@@ -113,7 +114,7 @@ other_one n r rs h =
     (f.0, λ q. cc (ap not (eq-eqb r.0 n.0 q), f.1))
 
 pub row_hosts : (scene : Scene) (r : NodeId) (p : PartId) → In r (replicas scene p) → hosts scene r p ≡ true
-row_hosts scene r p h = has_at (λ (z : NodeId). same_node z r) (replicas scene p) r h (eq-eqb r.0 r.0 refl)
+row_hosts scene r p h = any_in (λ (z : NodeId). same_node z r) (replicas scene p) r h (eq-eqb r.0 r.0 refl)
 
 part_there : (here : Here) (r : NodeId) (p : PartId) → hosts here.scene r p ≡ true → has_part here p ≡ true
 part_there here r p h =
@@ -160,11 +161,11 @@ refuse_is v a by k e = by_found (find (refuses a) (met a.writes v.versions)) ref
 -- what a Prepare and a Replicate name
 names_of : (here : Here) (tx : TxId) (p : PartId) (rs lc : Ts) (ws : List Write) → has_named_writes here tx p rs lc ws ≡ true → NamesWrites here tx p ws
 names_of here tx p rs lc ws e =
-    let a = and_right (has_node here tx.node) (has_part here p && (Strange.below_limit rs && (Strange.below_limit lc && (some_keys_in here p (map (λ w. w.key) ws) && has_values here ws)))) e in
-    let b = and_right (has_part here p) (Strange.below_limit rs && (Strange.below_limit lc && (some_keys_in here p (map (λ w. w.key) ws) && has_values here ws))) a in
-    let c = and_right (Strange.below_limit rs) (Strange.below_limit lc && (some_keys_in here p (map (λ w. w.key) ws) && has_values here ws)) b in
-    let d = and_right (Strange.below_limit lc) (some_keys_in here p (map (λ w. w.key) ws) && has_values here ws) c in
-    (and_left (has_node here tx.node) _ e, and_left (has_part here p) _ a, and_left (some_keys_in here p (map (λ (w : Write). w.key) ws)) (has_values here ws) d, and_right (some_keys_in here p (map (λ (w : Write). w.key) ws)) (has_values here ws) d)
+    let a = and_true_right (has_node here tx.node) (has_part here p && (Strange.below_limit rs && (Strange.below_limit lc && (some_keys_in here p (map (λ w. w.key) ws) && has_values here ws)))) e in
+    let b = and_true_right (has_part here p) (Strange.below_limit rs && (Strange.below_limit lc && (some_keys_in here p (map (λ w. w.key) ws) && has_values here ws))) a in
+    let c = and_true_right (Strange.below_limit rs) (Strange.below_limit lc && (some_keys_in here p (map (λ w. w.key) ws) && has_values here ws)) b in
+    let d = and_true_right (Strange.below_limit lc) (some_keys_in here p (map (λ w. w.key) ws) && has_values here ws) c in
+    (and_true_left (has_node here tx.node) _ e, and_true_left (has_part here p) _ a, and_true_left (some_keys_in here p (map (λ (w : Write). w.key) ws)) (has_values here ws) d, and_true_right (some_keys_in here p (map (λ (w : Write). w.key) ws)) (has_values here ws) d)
 
 -- a participant of an own transaction is of a partition that it wrote in
 pub written_seat : (here : Here) (vs : List Version) (i lc : ℕ) (x : Own) → OwnGood here vs i x → lc_of x.phase ≡ Some lc → (a : Asked) → In a x.parts → (w : Write) × In w x.writes × (in_part here.scene a.part w ≡ true)
@@ -200,8 +201,7 @@ module _ (here : Here) (ok : IsScene here.scene) (exists : has_node here here.no
       (all_in _ (map (λ (w : Write). w.key) (writes_in here p x)) (λ k m.
       let r = in_map (λ (w : Write). w.key) (writes_in here p x) k m in
       let f = in_filter (in_part here.scene p) x.writes r.0 r.1 in
-      subst (λ (z : KeyId). (has_key here z && same_part (part_of here.scene z) p) ≡ true) r.2 (and_from (has_key here r.0.key) (in_part here.scene p r.0) (write_key here ok x good r.0 f.0) f.1))) in
-      (
+      subst (λ (z : KeyId). (has_key here z && same_part (part_of here.scene z) p) ≡ true) r.2 (and_from (has_key here r.0.key) (in_part here.scene p r.0) (write_key here ok x good r.0 f.0) f.1))) in (
         exists,
         subst (λ (q : PartId). has_part here q ≡ true) a.2 (part_there here a.0.node a.0.part seat.hosted),
         some_keys here p (writes_in here p x) some keys,
@@ -211,7 +211,7 @@ module _ (here : Here) (ok : IsScene here.scene) (exists : has_node here here.no
   asked_names : (tx : TxId) (k : KeyId) (rs : ℕ) → IsAsked here input d tx k rs → (has_node here tx.node ≡ true) × (has_key here k ≡ true)
   asked_names tx k rs (asked_now from t q c) =
       let n : has_named here (ReadReq tx k t) ≡ true = subst (λ (z : Body). has_named here z ≡ true) c.3 (valid_named here c.0 c.4) in
-      (and_left (has_node here tx.node) (has_key here k && Strange.below_limit t) n, and_left (has_key here k) (Strange.below_limit t) (and_right (has_node here tx.node) (has_key here k && Strange.below_limit t) n))
+      (and_true_left (has_node here tx.node) (has_key here k && Strange.below_limit t) n, and_true_left (has_key here k) (Strange.below_limit t) (and_true_right (has_node here tx.node) (has_key here k && Strange.below_limit t) n))
   asked_names tx k rs (asked_before t q j) = let r = h.waiters (Read tx k t) j in (r.node, r.key)
 
   pub post_names : (m : Message) → Post here input d e m → Names here m.body

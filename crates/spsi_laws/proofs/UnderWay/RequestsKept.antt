@@ -18,10 +18,8 @@ use Rattle.str_base.specs.declared.names.Value.TheVariants.{Absent}
 use Rattle.str_base.specs.declared.names.Version.{Version}
 use Rattle.str_base.specs.declared.names.Write.{Write}
 use Rattle.str_model.proofs.Changes.SnapshotsGain.{if_elim}
-use Rattle.str_model.proofs.Lists.ListReads.{get_set, got_push, got_set}
-use Rattle.str_model.proofs.Lists.Members.{In, in_append, in_left, in_right}
 use Rattle.str_model.specs.Acts
-use Rattle.str_model.specs.Acts.{aborted, accepted, acked, asked, begun, certified, closed, commit_came, committed, fresh, in_phase, marked, refused, replied, requested, taken, waits, with_asked, with_waiters}
+use Rattle.str_model.specs.Acts.{aborted, accepted, acked, asked, begun, certified, closed, commit_came, committed, decided_as, fresh, in_phase, marked, refused, replied, requested, taken, waits, with_asked, with_waiters}
 use Rattle.str_model.specs.Arrivals
 use Rattle.str_model.specs.Clients
 use Rattle.str_model.specs.Gates.{Ask, CommitAt, GateTurn, Missing, Shut, gate_of}
@@ -49,21 +47,24 @@ use Rattle.str_scene.specs.Scenes.{Here, Session, first_or, hosts_key, nth, part
 use Rattle.str_scene.specs.declared.names.Op.{Op}
 use Rattle.str_scene.specs.declared.names.Op.TheVariants.{Abort as Stop, Add, Del, Get, Need, Put, Puts}
 use Rattle.str_scene.specs.declared.names.TxPlace.{TxPlace}
+use Rattle.str_base.proofs.Lists.{get_set, got_push, got_set}
+use Rattle.str_base.proofs.Members.{in_append, in_left, in_right}
+use Rattle.str_base.specs.Members.{In}
 
 -- the master of a key
 abbrev pub master_of : Here → KeyId → NodeId
 master_of here k = first_or here.node (replicas here.scene (part_of here.scene k))
 
--- the request of the i-th own transaction for the key is with the key's master
+-- the request of the i-th own transaction for the key is with the key's master, which is another node
 abbrev pub HasRequest : Here → List Message → Doing → ℕ → KeyId → Type 0
-HasRequest here old d i k = (rs : Ts) × In (letter here (master_of here k) (ReadReq (name_of here i) k rs)) (old ++ d.sent)
+HasRequest here old d i k = (rs : Ts) × (hosts_key here k ≡ false) × In (letter here (master_of here k) (ReadReq (name_of here i) k rs)) (old ++ d.sent)
 
 -- each own transaction that waits for another node
 abbrev pub AllRequested : Here → List Message → Doing → Type 0
 AllRequested here old d = (i : ℕ) (x : Own) (k : KeyId) → Owns d.view i x → x.phase ≡ Remote k → HasRequest here old d i k
 
 -- where a read goes elsewhere it goes to the master, and the key isn't hosted here
-pub away_is : (here : Here) (v : View) (snap : Snap) (k : KeyId) (n : NodeId) → read_turn here v snap k ≡ Away n → n ≡ master_of here k
+pub away_is : (here : Here) (v : View) (snap : Snap) (k : KeyId) (n : NodeId) → read_turn here v snap k ≡ Away n → (n ≡ master_of here k) × (hosts_key here k ≡ false)
 unfolding read_turn
 away_is here v snap k n e = by_pre (last_pre v.versions k snap.rs) e
   where
@@ -78,15 +79,15 @@ away_is here v snap k n e = by_pre (last_pre v.versions k snap.rs) e
     by_kind q Final e =
         let new : Snap = accept_final snap q.ts.0 in by_gate (holds new) (Plain q.value (Some q.tx) q.ts.0 new) (Turns.waits_for here _) (λ z. cc z) e
 
-    by_visible : (o : Option Version) → Turns.read_visible here v.own snap k o ≡ Away n → n ≡ master_of here k
+    by_visible : (o : Option Version) → Turns.read_visible here v.own snap k o ≡ Away n → (n ≡ master_of here k) × (hosts_key here k ≡ false)
     by_visible (Some q) e = absurd (by_kind q q.kind e)
-    by_visible None e = by_host (hosts_key here k) e
+    by_visible None e = by_host (hosts_key here k) refl e
       where
-        by_host : (b : Bool) → (if b then Turns.gated here snap (Plain Absent None 0 snap) else Away (master_of here k)) ≡ Away n → n ≡ master_of here k
-        by_host true e = absurd (by_gate (holds snap) (Plain Absent None 0 snap) (Turns.waits_for here _) (λ z. cc z) e)
-        by_host false e = let s : master_of here k ≡ n = cc e in sym s
+        by_host : (b : Bool) → hosts_key here k ≡ b → (if b then Turns.gated here snap (Plain Absent None 0 snap) else Away (master_of here k)) ≡ Away n → (n ≡ master_of here k) × (hosts_key here k ≡ false)
+        by_host true h e = absurd (by_gate (holds snap) (Plain Absent None 0 snap) (Turns.waits_for here _) (λ z. cc z) e)
+        by_host false h e = let s : master_of here k ≡ n = cc e in (sym s, h)
 
-    by_pre : (o : Option Version) → Turns.read_after here v snap k o ≡ Away n → n ≡ master_of here k
+    by_pre : (o : Option Version) → Turns.read_after here v snap k o ≡ Away n → (n ≡ master_of here k) × (hosts_key here k ≡ false)
     by_pre (Some q) e = absurd (cc e)
     by_pre None e = by_visible (visible v.versions k snap.rs) e
 
@@ -112,7 +113,7 @@ module _ (here : Here) (old : List Message) where
   same_own d e q f g = record {
     sent = f;
     reads = g;
-    remote = λ h i x k o p. (let r = h i x k (subst (λ (xs : List Own). slice_get xs i ≡ Some x) q o) p in (r.0, older d e (letter here (master_of here k) (ReadReq (name_of here i) k r.0)) f r.1));
+    remote = λ h i x k o p. (let r = h i x k (subst (λ (xs : List Own). slice_get xs i ≡ Some x) q o) p in (r.0, r.1, older d e (letter here (master_of here k) (ReadReq (name_of here i) k r.0)) f r.2));
   }
 
   -- one of them changes; where it goes elsewhere, it did so before, or its request is sent
@@ -124,10 +125,10 @@ module _ (here : Here) (old : List Message) where
     remote = λ h j z k oz p. elim (got_set d.view.own i j y z (subst (λ (xs : List Own). slice_get xs j ≡ Some z) q oz)) [
       | inl s ↦ subst (λ (n : ℕ). HasRequest here old e n k) (sym s.0)
           (elim (g k (ap (λ (u : Own). u.phase) (sym s.1) ∙ p)) [
-            | inl r ↦ (let a = h i x k o r in (a.0, older d e (letter here (master_of here k) (ReadReq (name_of here i) k a.0)) f a.1))
+            | inl r ↦ (let a = h i x k o r in (a.0, a.1, older d e (letter here (master_of here k) (ReadReq (name_of here i) k a.0)) f a.2))
             | inr r ↦ r
           ])
-      | inr s ↦ (let a = h j z k s.1 p in (a.0, older d e (letter here (master_of here k) (ReadReq (name_of here j) k a.0)) f a.1))
+      | inr s ↦ (let a = h j z k s.1 p in (a.0, a.1, older d e (letter here (master_of here k) (ReadReq (name_of here j) k a.0)) f a.2))
     ];
   }
 
@@ -141,15 +142,15 @@ module _ (here : Here) (old : List Message) where
 
   aborts : (i : ℕ) (cause : _) (x : Own) (d : Doing) → Owns d.view i x → KeepsRequests d (aborted here i cause x d)
   unfolding aborted
-  aborts i cause x d o = set_quiet d (aborted here i cause x d) i x (in_phase (Aborted (lc_of x.phase) cause) x) (Acts.abort_letters here i x.parts) o refl refl refl (λ k p. absurd (cc p))
+  aborts i cause x d o = set_quiet d (aborted here i cause x d) i x (decided_as (Aborted (lc_of x.phase) cause) x) (Acts.abort_letters here i x.parts) o refl refl refl (λ k p. absurd (cc p))
 
   commits : (i lc fc : ℕ) (x : Own) (d : Doing) → Owns d.view i x → KeepsRequests d (committed here i lc fc x d)
   unfolding committed
-  commits i lc fc x d o = set_quiet d (committed here i lc fc x d) i x (in_phase (Committed (Some lc) (Some fc)) x) (Acts.commit_letters here i x fc d.view) o refl refl refl (λ k p. absurd (cc p))
+  commits i lc fc x d o = set_quiet d (committed here i lc fc x d) i x (decided_as (Committed (Some lc) (Some fc)) x) (Acts.commit_letters here i x fc d.view) o refl refl refl (λ k p. absurd (cc p))
 
   closes : (i : ℕ) (x : Own) (d : Doing) → Owns d.view i x → KeepsRequests d (closed here i x d)
   unfolding closed
-  closes i x d o = set_own d (closed here i x d) i x (in_phase (Committed None None) x) o refl refl (λ m h. h) (λ k p. absurd (cc p))
+  closes i x d o = set_own d (closed here i x d) i x (decided_as (Committed None None) x) o refl refl (λ m h. h) (λ k p. absurd (cc p))
 
   asks : (i lc : ℕ) (p : PartId) (x : Own) (d : Doing) → Owns d.view i x → KeepsRequests d (asked here i lc p x d)
   unfolding asked
@@ -161,13 +162,17 @@ module _ (here : Here) (old : List Message) where
   certifies i lc snap x d o =
       set_own d (certified here i lc snap x d) i x (record x { snap = snap; parts = participants here.scene here.node x.writes; phase = Local lc }) o refl refl (λ m h. h) (λ k p. absurd (cc p))
 
-  requests : (i : ℕ) (k : KeyId) (n : NodeId) (x : Own) (d : Doing) → Owns d.view i x → n ≡ master_of here k → KeepsRequests d (requested here i k n x d)
+  requests : (i : ℕ) (k : KeyId) (n : NodeId) (x : Own) (d : Doing) → Owns d.view i x → n ≡ master_of here k → hosts_key here k ≡ false → KeepsRequests d (requested here i k n x d)
   unfolding requested
-  requests i k n x d o q =
+  requests i k n x d o q hs =
       set_own d (requested here i k n x d) i x (in_phase (Remote k) x) o refl refl (λ m h. in_left d.sent _ m h)
       (λ l p. let same : k ≡ l = cc p in
-      inr (record { 0 = x.snap.rs }, in_right old (d.sent ++ letter here n (ReadReq (name_of here i) k (record { 0 = x.snap.rs })) ∷ []) _
-      (in_right d.sent (letter here n (ReadReq (name_of here i) k (record { 0 = x.snap.rs })) ∷ []) _ (inl (λ j. letter here ((q ∙ ap (master_of here) same) j) (ReadReq (name_of here i) (same j) (record { 0 = x.snap.rs })))))))
+      inr (
+        record { 0 = x.snap.rs },
+        subst (λ (z : KeyId). hosts_key here z ≡ false) same hs,
+        in_right old (d.sent ++ letter here n (ReadReq (name_of here i) k (record { 0 = x.snap.rs })) ∷ []) _
+            (in_right d.sent (letter here n (ReadReq (name_of here i) k (record { 0 = x.snap.rs })) ∷ []) _ (inl (λ j. letter here ((q ∙ ap (master_of here) same) j) (ReadReq (name_of here i) (same j) (record { 0 = x.snap.rs }))))),
+      ))
 
   -- ---- an own transaction as it stands
 
@@ -205,11 +210,11 @@ module _ (here : Here) (old : List Message) where
   with_value_ i k a by snap x d o = put_quiet i x (finish_next (own_op here x) a (noted k a by snap x)) d o (λ l p. next_remote (own_op here x) a (noted k a by snap x) l p)
 
   -- the mark has just risen
-  read_done_ : (i : ℕ) (k : KeyId) (x : Own) (t : ReadTurn) (d : Doing) → Owns d.view i x → ((n : NodeId) → t ≡ Away n → n ≡ master_of here k) → KeepsRequests d (Scripts.read_done here i k x t d)
+  read_done_ : (i : ℕ) (k : KeyId) (x : Own) (t : ReadTurn) (d : Doing) → Owns d.view i x → ((n : NodeId) → t ≡ Away n → (n ≡ master_of here k) × (hosts_key here k ≡ false)) → KeepsRequests d (Scripts.read_done here i k x t d)
   read_done_ i k x (Plain a by fc snap) d o f = with_value_ i k a by snap x d o
   read_done_ i k x (Speculative a by snap) d o f = with_value_ i k a (Some by) snap x d o
   read_done_ i k x (Wait by) d o f = put_quiet i x (in_phase (ReadWait k) x) d o (λ l p. absurd (cc p))
-  read_done_ i k x (Away n) d o f = requests i k n x d o (f n refl)
+  read_done_ i k x (Away n) d o f = requests i k n x d o (f n refl).0 (f n refl).1
 
   marks : (k : KeyId) (t : ℕ) (d : Doing) → KeepsRequests d (marked k t d)
   unfolding marked

@@ -1,12 +1,10 @@
 -- Every message of a run is valid at its receiver.
 use Rattle.std.proofs.Common.{Bool, List, None, Option, Some, ap, arith, eq-eqb, eqb-true, flat_map, inl, inr, le-leb, length, lt-ltb, nat_le, nat_lt, refl, slice_get, slice_set, subst, subst₂, sym, true, ℕ, ◌&&◌, ◌++◌, ◌+◌, ◌-◌, ◌<◌, ◌∙◌, ◌∷◌, ◌≡◌}
 use Rattle.std.specs.List.{list_any}
-use Rattle.std.proofs.lemmas.List.{length-replicate}
+use Rattle.std.proofs.lemmas.List.{length-replicate, length-set}
 use Rattle.std.proofs.lemmas.Option.{slice_get_within}
-use Rattle.std.proofs.lemmas.Bool.{and_from}
 use Rattle.partition_map.specs.Maps.{Exists}
 use Rattle.si_laws.proofs.Presence.DecisionsValid.{Bounded, bounded_from, decisions_are_valid}
-use Rattle.si_laws.proofs.Sessions.SessionHolds.{length_set}
 use Rattle.si_laws.proofs.Stages.AllLinksKept.{linked}
 use Rattle.si_laws.proofs.Stages.LinkedStates.{IsDecidedAs, IsSeat, Linked, Told}
 use Rattle.si_laws.proofs.Stages.ParticipantSeats.{flat_map_in, of_nth, own_seat}
@@ -23,8 +21,6 @@ use Rattle.str_base.specs.declared.names.TxId.{TxId}
 use Rattle.str_base.specs.declared.names.Ts.{Ts}
 use Rattle.str_base.specs.declared.names.Write.{Write}
 use Rattle.str_model.proofs.Changes.PairWords.{any_has}
-use Rattle.str_model.proofs.Lists.ListReads.{get_set, get_set_other, got_replicate, got_set}
-use Rattle.str_model.proofs.Lists.Members.{In, at_in, in_append, in_at, in_left, in_right}
 use Rattle.str_model.proofs.Principle.Everywhere.{IsSeen, Stage, at_place, during, everywhere, stage_of}
 use Rattle.str_model.proofs.Principle.SingleChanges.{Act, Where}
 use Rattle.str_model.proofs.ViewFacts.MomentKept.{moment-act, moment_opening}
@@ -40,6 +36,10 @@ use Rattle.str_model.specs.declared.messages.Message.{Message}
 use Rattle.str_scene.specs.SceneLimits.{IsScene}
 use Rattle.str_scene.specs.Scenes.{Here, Scene, hosts, nth, or_none, replicas}
 use Rattle.str_scene.specs.declared.names.Event.{Event}
+use Rattle.std.proofs.lemmas.Bool.{and_from}
+use Rattle.str_base.proofs.Lists.{get_set, get_set_other, got_replicate, got_set}
+use Rattle.str_base.proofs.Members.{at_in, in_append, in_at, in_left, in_right}
+use Rattle.str_base.specs.Members.{In}
 
 -- a message that was sent: its sender exists, and so does what it names
 pub record IsPosted (scene : Scene) (m : Message) : Type 0 where
@@ -62,7 +62,7 @@ pub posted_keeps : (scene : Scene) → IsScene scene → (s : Stage) (i : ℕ) (
     → Act (at_place scene i) input w d e → Posted scene (during s i d) → Posted scene (during s i e)
 posted_keeps scene ok s i v input w d e is seen hs act h =
     let there : slice_get (slice_set s.nodes i d.view) i ≡ Some d.view = get_set s.nodes i v d.view is in
-    let same : length (slice_set s.nodes i e.view) ≡ length (slice_set s.nodes i d.view) = length_set s.nodes i e.view ∙ sym (length_set s.nodes i d.view) in
+    let same : length (slice_set s.nodes i e.view) ≡ length (slice_set s.nodes i d.view) = length-set s.nodes i e.view ∙ sym (length-set s.nodes i d.view) in
     let less : i < scene.nodes = (let k = slice_get_within (slice_set s.nodes i d.view) i d.view there in let c = h.count in omega (arith, k, c)) in
     let exists = place_exists scene i less in
     let before = h.facts i d.view there in
@@ -141,7 +141,7 @@ module _ (scene : Scene) (ok : IsScene scene) (es : List Event) where
       let k = own_seat (at_place scene dec.n) dec.view.versions dec.i x g seat.0 seat.1 in
       host_exists scene ok m.receiver p (subst₂ (λ (q : PartId) (r : NodeId). hosts scene r q ≡ true) seat.2 seat.3 k.hosted)
 
-  to_place : (r : NodeId) → Exists r.0 scene.nodes → (n : ℕ) × (r ≡ record { 0 = n + 1 })
+  pub to_place : (r : NodeId) → Exists r.0 scene.nodes → (n : ℕ) × (r ≡ record { 0 = n + 1 })
   to_place r e = (r.0 - 1, λ j. record { 0 = is j })
     where
       is : r.0 ≡ r.0 - 1 + 1
