@@ -1,5 +1,6 @@
 -- Between two moments that follow one another an answer is released only of a transaction that was undecided and is decided, and tells how it stood.
 use Rattle.std.proofs.Common.{Bool, List, None, Option, Some, [], ap, false, if◌then◌else◌, inl, inr, length, refl, slice_get, slice_set, subst, suc, sym, true, zero, ℕ, ◌&&◌, ◌+◌, ◌-◌, ◌<◌, ◌∙◌, ◌∷◌, ◌≡◌, ◌≢◌, ◌⊎◌}
+use Rattle.std.proofs.lemmas.Bool.{false_from_ne_true}
 use Rattle.std.proofs.lemmas.Option.{slice_get_within}
 use Rattle.partition_map.specs.declared.rows.Asked.{Asked}
 use Rattle.dependency_set.specs.declared.names.Dep.{Dep}
@@ -49,7 +50,7 @@ use Rattle.str_model.proofs.Principle.NextMoments.{Link, evict_linked_to, l_clos
 use Rattle.str_model.proofs.Principle.MomentPaths.{take_is}
 use Rattle.str_model.proofs.Principle.RulePaths.{named_owns}
 use Rattle.str_model.proofs.Principle.OwnPaths.{free_at, op_or_commit-path}
-use Rattle.str_model.proofs.Changes.AnswerChanges.{TellStep, in_release, not_true, t_begins, t_decides, t_goes, t_rests, tell_step, told}
+use Rattle.str_model.proofs.Changes.AnswerChanges.{TellStep, in_release, t_begins, t_decides, t_goes, t_rests, tell_step, told}
 use Rattle.str_model.proofs.Changes.OwnChanges.{own_step}
 use Rattle.str_model.proofs.Changes.PairWords.{decided-step}
 use Rattle.str_base.proofs.Lists.{get_push, get_set, slice_get_there}
@@ -156,7 +157,7 @@ module _ (here : Here) (input : Input) where
               is = q;
               before = λ z oz. let s = h.stays i z oz in
                   let same : s.0 ≡ x = same_own c.view i i s.0 x s.1 own refl in (
-                    not_true (is_decided z.phase) (λ t. cc (s.2.decided t, ap (λ (u : Own). is_decided u.phase) same, f)),
+                    false_from_ne_true (is_decided z.phase) (λ t. cc (s.2.decided t, ap (λ (u : Own). is_decided u.phase) same, f)),
                     record { place = ap (λ (u : Own). u.place) (sym same) ∙ s.2.place; rs = ap (λ (u : Own). u.snap.rs) (sym same) ∙ s.2.rs; decided = λ t. g },
                   );
             })
