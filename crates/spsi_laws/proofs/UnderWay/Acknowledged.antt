@@ -1,6 +1,5 @@
 -- A participant whose Ack has come stays answered.
 use Rattle.std.proofs.Common.{Bool, List, None, Option, Some, [], ap, eq-eqb, eqb-true, false, if◌then◌else◌, inl, inr, is_some, map, not, option_map, refl, subst, sym, true, ℕ, ◌&&◌, ◌||◌, ◌∙◌, ◌∷◌, ◌≡◌, ◌⊎◌}
-use Rattle.std.proofs.lemmas.Bool.{and_from}
 use Rattle.partition_map.specs.declared.rows.Asked.{Asked}
 use Rattle.spsi_laws.proofs.UnderWay.OneOwn.{KeepsOne}
 use Rattle.str_base.specs.Versions.{same_node, same_part, stamp}
