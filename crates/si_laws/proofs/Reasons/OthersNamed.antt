@@ -59,12 +59,8 @@ evicted_other here input v m d from a q c =
     let at : Steps.body_rule here c.0.sender (Replicate a.tx a.part a.rs a.lc a.writes) (starts v) ≡ Some r.0 = ap (λ b. Steps.body_rule here c.0.sender b (starts v)) (sym c.3) ∙ body in
     let t : takes here v a ≡ true = (take_is here a (starts v) r.0 at).1 in
     let k = not (same_node a.tx.node here.node) in
-    not_true (same_node a.tx.node here.node) (and_true_left k (not (is_known v a.tx a.part)) (and_true_right (not (is_master here.scene here.node a.part)) (k && not (is_known v a.tx a.part))
+    not-true (same_node a.tx.node here.node) (and_true_left k (not (is_known v a.tx a.part)) (and_true_right (not (is_master here.scene here.node a.part)) (k && not (is_known v a.tx a.part))
     (and_true_right (hosts here.scene here.node a.part) (not (is_master here.scene here.node a.part) && (k && not (is_known v a.tx a.part))) t)))
-  where
-    not_true : (b : Bool) → not b ≡ true → b ≡ false
-    not_true true e = absurd (cc e)
-    not_true false e = refl
 
 module _ (scene : Scene) (ok : IsScene scene) (es : List Event) where
   -- an own transaction without a local commit timestamp has no version at its node
