@@ -1,11 +1,11 @@
 -- What the tests of an item say of it.
-use Rattle.std.proofs.Common.{Bool, List, None, Option, Some, [], ap, arith, false, get_or, inl, inr, length, nat_le, nat_lt, refl, slice_get, suc, sym, true, zero, ℕ, ◌&&◌, ◌==◌, ◌||◌, ◌<◌, ◌≤◌, ◌∷◌, ◌≡◌, ◌∙◌, ◌⊎◌}
+use Rattle.std.proofs.Common.{Bool, List, None, Option, Some, [], ap, arith, false, get_or, inl, inr, length, nat_le, nat_lt, refl, slice_get, suc, true, zero, ℕ, ◌==◌, ◌||◌, ◌<◌, ◌≤◌, ◌∷◌, ◌≡◌, ◌⊎◌}
 use Rattle.str_base.proofs.SameNames.{is-same_node}
 use Rattle.str_base.proofs.Lists.{passes_at, fails_at}
 use Rattle.std.proofs.lemmas.Bool.{and_parts, or_cases, not-true, leb-true, ltb-true, eqb-true}
 use Rattle.std.specs.Prelude.{not}
 use Rattle.std.specs.List.{list_all, list_any}
-use Rattle.std.proofs.lemmas.Bool.Decides.{nat_tests, Decides-eqb}
+use Rattle.std.proofs.lemmas.Bool.Decides.{nat_tests}
 use Rattle.str_base.specs.Versions.{same_node}
 use Rattle.str_base.specs.declared.names.NodeId.{NodeId}
 use Rattle.str_scene.specs.DraftLimits.{HasNumber, HasReading}

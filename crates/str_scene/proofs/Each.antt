@@ -1,5 +1,5 @@
 -- A fact of each element of a list, head by head.
-use Rattle.std.proofs.Common.{List, Some, [], ap, length, refl, slice_get, subst, suc, zero, ℕ, ◌++◌, ◌∷◌, ◌≡◌, ◌⊎◌, inl, inr}
+use Rattle.std.proofs.Common.{List, Some, [], length, refl, slice_get, subst, suc, zero, ℕ, ◌++◌, ◌∷◌, ◌≡◌}
 use Rattle.str_scene.specs.Lists.{Each}
 
 -- after a push

@@ -35,7 +35,7 @@ add_tx_each d ops h (s ∷ []) e =
 add_tx_each d ops h (s ∷ t ∷ ss) e = (e.0, add_tx_each d ops h (t ∷ ss) e.1)
 
 -- no session more
-add_tx_length : (ops : List Op) (ss : List Session) → length (add_tx ops ss) ≡ length ss
+pub add_tx_length : (ops : List Op) (ss : List Session) → length (add_tx ops ss) ≡ length ss
 add_tx_length ops [] = refl
 add_tx_length ops (s ∷ []) = refl
 add_tx_length ops (s ∷ t ∷ ss) = ap suc (add_tx_length ops (t ∷ ss))

@@ -2,7 +2,7 @@ pub mod Checked
 pub mod Counts
 pub mod Each
 mod Drafting
-mod Filling
+pub mod Filling
 pub mod Pairs
 pub mod KeepingLemmas
 mod Put

@@ -1,5 +1,5 @@
 -- The partition map of a scene: what it says of partitions and nodes is what the scene says.
-use Rattle.std.proofs.Common.{Bool, List, None, Option, Some, [], ap, subst, arith, filter, flat_map, length, map, refl, slice_get, suc, zero, ℕ, ◌∙◌, ◌∷◌, ◌≡◌, ◌≤◌}
+use Rattle.std.proofs.Common.{List, None, Option, Some, [], ap, subst, arith, flat_map, length, map, refl, slice_get, suc, zero, ℕ, ◌∙◌, ◌∷◌, ◌≡◌, ◌≤◌}
 use Rattle.str_base.specs.declared.limits.TheConstants.{NODES}
 use Rattle.std.proofs.lemmas.List.Elements.{filter_agree}
 use Rattle.std.specs.Prelude.{option_map}
@@ -9,7 +9,7 @@ use Rattle.str_base.specs.declared.names.NodeId.{NodeId}
 use Rattle.str_base.specs.declared.names.PartId.{PartId}
 use Rattle.str_base.specs.declared.names.Write.{Write}
 use Rattle.partition_map.specs.Maps as maps
-use Rattle.partition_map.specs.Maps.{IsMap, is_written, numbered, others, part_or_none, row_at, unasked, written}
+use Rattle.partition_map.specs.Maps.{IsMap, is_written, numbered, others, part_or_none, row_at, unasked}
 use Rattle.str_scene.specs.SceneLimits.{Exists, IsRow, IsScene}
 use Rattle.str_scene.specs.Scenes.{Scene, hosts, map_of, named_part, part_of, participants, replicas}
 

@@ -1,10 +1,8 @@
 -- Where a key stands in a table.
-use Rattle.std.proofs.Common.{◌≡◌, ◌≤◌, ◌<◌, ◌++◌, ◌∷◌, ◌⊎◌, ◌&&◌, inl, inr, [], ℕ, List, Some, None, eqb, length, length-append, nat_le, refl, ap, arith, slice_get, suc, zero, Bool, true, false, cond}
+use Rattle.std.proofs.Common.{◌≡◌, ◌≤◌, ◌<◌, ◌++◌, ◌∷◌, ◌⊎◌, inl, inr, [], ℕ, List, Some, None, length, length-append, nat_le, refl, ap, arith, slice_get, suc, zero, Bool, true, false, cond}
 use Rattle.str_scene.specs.KeyLaws.{same_pair_self, same_pair_true}
 use Rattle.str_base.specs.declared.limits.TheConstants.{KEYS}
-use Rattle.std.proofs.lemmas.Bool.Decides.{Decides-eqb, nat_tests}
-use Rattle.std.proofs.lemmas.Slice.Eq.{bytes_eq-Decides}
-use Rattle.std.specs.Str.{bytes_eq}
+use Rattle.std.proofs.lemmas.Bool.Decides.{nat_tests}
 use Rattle.str_base.specs.declared.names.PartId.{PartId}
 use Rattle.str_scene.specs.Keys.{number_of, place_of, same_pair, with_pair}
 

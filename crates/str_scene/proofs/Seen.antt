@@ -1,5 +1,5 @@
 -- How many numbers have been seen, list by list.
-use Rattle.std.proofs.Common.{Bool, below_more, subst, true, slice_get, zero, List, None, Option, Some, [], ap, drop, drop-cons, get_or, refl, suc, arith, sym, ℕ, ◌+◌, ◌++◌, ◌∷◌, ◌≡◌, ◌∙◌, ◌<◌, ◌≤◌, length}
+use Rattle.std.proofs.Common.{Bool, below_more, subst, true, slice_get, List, None, Option, Some, [], ap, drop, get_or, refl, arith, sym, ℕ, ◌+◌, ◌++◌, ◌∷◌, ◌≡◌, ◌∙◌, ◌<◌, ◌≤◌, length}
 use Rattle.std.proofs.lemmas.List.{drop_more}
 use Rattle.std.proofs.lemmas.Option.{get_or_from_slice_get, slice_get_within}
 use Rattle.std.specs.Prelude.{flat_map, option_and_then}

@@ -2,7 +2,7 @@
 use Rattle.std.proofs.Common.{Bool, List, Some, [], ap, arith, cond, false, length, length-append, nat_le, nat_lt, refl, suc, sym, true, ℕ, ◌+◌, ◌++◌, ◌≤◌, ◌∷◌, ◌≡◌, ◌∙◌, ◌||◌}
 use Rattle.str_base.specs.declared.limits.TheConstants.{KEYS}
 use Rattle.std.specs.Prelude.{not}
-use Rattle.std.specs.List.{AllZip, list_any, position_or_len}
+use Rattle.std.specs.List.{list_any, position_or_len}
 use Rattle.std.specs.Str.{bytes_eq}
 use Rattle.std.proofs.lemmas.Bool.Decides.{nat_tests}
 use Rattle.indexmap.specs.IndexSet.{insert_key}

@@ -1,25 +1,13 @@
--- Bytes without a certain byte, and the one place at which a byte and_parts them.
-use Rattle.std.proofs.Common.{Bool, Bor, Err, FitsSigned, IfSome, IsNone, List, MatchOption, None, Ok, Option, Result, Some, [], add-one, ap, append_assoc, arith, codes, decimal, drop, drop-cons, eqb, false, get_or, length, length-append, length-drop, negsuc, not, pos, refl, subst, sym, take, true, w64, ℕ, ℤ, ◌&&◌, ◌*◌, ◌++◌, ◌+◌, ◌<◌, ◌==◌, ◌∙◌, ◌∷◌, ◌≡◌, ◌≤◌}
+-- Bytes without a certain byte, and the one place at which a byte parts them.
+use Rattle.std.proofs.Common.{List, [], false, not, refl, true, ℕ, ◌++◌, ◌+◌, ◌==◌, ◌∙◌, ◌∷◌, ◌≡◌}
 use Rattle.str_base.proofs.Tests.{not_other_self, other_by_test}
 use Rattle.std.proofs.lemmas.Bool.{and_from, and_parts}
-use Rattle.std.proofs.lemmas.Bool.Decides.{Decides-eqb, nat_tests}
-use Rattle.std.proofs.lemmas.List.Edits.{between_more}
-use Rattle.std.proofs.lemmas.List.Folds.{drop_split, list_all-append}
-use Rattle.std.proofs.lemmas.List.{append-nil, append_cancel_left, append_cancel_right, take-append-drop}
-use Rattle.std.proofs.lemmas.Option.{get_or_from_slice_get, slice_get_within}
-use Rattle.std.proofs.lemmas.Slice.Eq.{strip_prefix_is}
-use Rattle.std.specs.Cmp.Lexicographic.{pointwise}
-use Rattle.std.specs.Fmt.{signed_decimal}
-use Rattle.std.specs.List.{list_all, slice_get, slice_range}
-use Rattle.std.specs.Prelude.{⊤}
-use Rattle.std.specs.Result.{OkIff, result_ok}
-use Rattle.str_base.proofs.DecimalLemmas.{decimal-injective, decimal-without, signed_decimal-injective, signed_decimal-without}
-use Rattle.str_base.specs.declared.names.SessionId.{SessionId}
-use Rattle.str_scene.specs.SceneLimits.{IsNumber, in_name, is_letter, is_name}
-use Rattle.str_scene.specs.Spelling.{ended}
+use Rattle.std.proofs.lemmas.List.Folds.{list_all-append}
+use Rattle.std.specs.List.{list_all}
+use Rattle.str_scene.specs.SceneLimits.{in_name, is_letter, is_name}
 use Rattle.str_scene.specs.Lists.{is_without}
 
--- what is in neither part is not in and_from
+-- what is in neither part is not in both
 pub is_without-append : (c : ℕ) (xs ys : List ℕ) → is_without c xs ≡ true → is_without c ys ≡ true → is_without c (xs ++ ys) ≡ true
 is_without-append c xs ys e f = list_all-append (λ b. not (b == c)) xs ys ∙ and_from _ _ e f
 

@@ -1,5 +1,5 @@
 -- Laws of the equality of keys, by which a table finds them.
-use Rattle.std.specs.Prelude.{Bool, List, false, true, ℕ, ◌&&◌, ◌++◌, ◌≡◌}
+use Rattle.std.specs.Prelude.{List, true, ℕ, ◌++◌, ◌≡◌}
 use Rattle.std.proofs.lemmas.Bool.{and_parts}
 use Rattle.std.proofs.Common.{eqb, refl, sym}
 use Rattle.std.specs.Bool.{Decides}

@@ -359,7 +359,7 @@ fn all_may_follow(bytes: &[u8]) -> bool
 }
 
 /// The bytes are a name: a letter, then at most 15 letters, digits or underscores.
-pub(crate) fn spells_name(bytes: &[u8]) -> bool
+pub fn spells_name(bytes: &[u8]) -> bool
     ensures { result ≡ is_name bytes.now }
 {
     let Some((first, rest)) = bytes.split_first() else {
@@ -369,7 +369,7 @@ pub(crate) fn spells_name(bytes: &[u8]) -> bool
 }
 
 /// A name of these bytes.
-pub(crate) fn short_name(bytes: &[u8]) -> Name
+pub fn short_name(bytes: &[u8]) -> Name
     requires { length bytes.now ≤ NAME_BYTES }
     ensures { result ≡ bytes.now }
 {

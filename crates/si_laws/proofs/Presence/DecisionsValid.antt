@@ -56,7 +56,7 @@ bounded_from b scene ok events t h =
     below_ : (t p : ℕ) → t < 2 ^ 62 + p → p ≤ 1024 * 113 → t < ts_limit
     below_ t p l r = omega (arith, l, r)
 
-all_in : {A : Type 0} (test : A → Bool) (xs : List A) → ((x : A) → In x xs → test x ≡ true) → list_all test xs ≡ true
+pub all_in : {A : Type 0} (test : A → Bool) (xs : List A) → ((x : A) → In x xs → test x ≡ true) → list_all test xs ≡ true
 all_in test [] f = refl
 all_in test (x ∷ xs) f = and_from (test x) (list_all test xs) (f x (inl refl)) (all_in test xs (λ y h. f y (inr h)))
 
@@ -69,7 +69,7 @@ any_less k test (w ∷ ws) e =
     if_elim (λ (zs : List Write). list_any (same_key k) (map (λ (w : Write). w.key) zs) ≡ false) (test w) (w ∷ filter test ws) (filter test ws)
     (λ t. rw (or_false_left (same_key k w.key) _ e) rest_) (λ t. rest_)
 
-filter_distinct : (test : Write → Bool) (ws : List Write) → AreDistinct ws → AreDistinct (filter test ws)
+pub filter_distinct : (test : Write → Bool) (ws : List Write) → AreDistinct ws → AreDistinct (filter test ws)
 filter_distinct test [] d = refl
 filter_distinct test (w ∷ ws) d =
     let rest_ : AreDistinct (filter test ws) = filter_distinct test ws (and_true_right (not (list_any (same_key w.key) (map (λ (z : Write). z.key) ws))) _ d) in

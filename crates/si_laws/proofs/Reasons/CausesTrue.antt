@@ -37,6 +37,7 @@ use Rattle.str_base.proofs.SameNames.{same_key-is}
 use Rattle.si_laws.proofs.Stages.ParticipantSeats.{of_nth}
 use Rattle.str_base.specs.Members.{In}
 use Rattle.std.proofs.lemmas.Bool.{or_cases}
+use Rattle.str_model.proofs.KindTests.{pre_kind}
 
 -- ---- the look at the dependencies
 
@@ -99,11 +100,6 @@ conflict_is here v snap ws u k e = by_found (find (conflicts snap.rs) (met ws v.
     by_gate true n s t q = cc q
     by_gate false n s t q = cc q
 
-    kind_of : (kind : Kind) → is_pre kind ≡ true → kind ≡ Pre
-    kind_of Pre q = refl
-    kind_of LocalKind q = absurd (cc q)
-    kind_of Final q = absurd (cc q)
-
     by_found : (o : Option Version) → find (conflicts snap.rs) (met ws v.versions) ≡ o → Turns.cert_after here v snap ws o ≡ Conflict u k
         → (q : Version) × (In q v.versions) × (q.tx ≡ u) × (q.key ≡ k) × ((q.kind ≡ Pre) ⊎ (snap.rs < q.ts.0)) × ((w : Write) × (In w ws) × (w.key ≡ k))
     by_found None f q = absurd (by_gate _ _ _ _ q)
@@ -117,7 +113,7 @@ conflict_is here v snap ws u k e = by_found (find (conflicts snap.rs) (met ws v.
           c.0,
           tx,
           key,
-          elim (or_cases (is_pre x.kind) (nat_lt snap.rs x.ts.0) g.1) [ inl z ↦ inl (kind_of x.kind z) | inr z ↦ inr (ltb-true snap.rs x.ts.0 z) ],
+          elim (or_cases (is_pre x.kind) (nat_lt snap.rs x.ts.0) g.1) [ inl z ↦ inl (pre_kind x.kind z) | inr z ↦ inr (ltb-true snap.rs x.ts.0 z) ],
           (r.0, r.1, sym (same_key-is x.key r.0.key c.1) ∙ key),
         )
 

@@ -40,6 +40,7 @@ use Rattle.str_base.proofs.Lists.{get_set, got_set}
 use Rattle.str_base.proofs.Members.{at_in, in_at, in_left}
 use Rattle.si_laws.proofs.Stages.ParticipantSeats.{of_nth}
 use Rattle.str_base.specs.Members.{In}
+use Rattle.str_model.proofs.KindTests.{local_kind}
 
 -- the own transaction of this place has written the key
 abbrev pub WroteAt : ℕ → KeyId → View → Type 0
@@ -147,7 +148,7 @@ module _ (scene : Scene) (ok : IsScene scene) (es : List Event) where
           let qkey : q.0.key ≡ w.key = same_key-is q.0.key w.key (and_true_left (same_key q.0.key w.key) (of_tx (name_of here b.place) q.0 && is_local q.0.kind) q.2) in
           let rest = and_true_right (same_key q.0.key w.key) (of_tx (name_of here b.place) q.0 && is_local q.0.kind) q.2 in
           let qtx : q.0.tx ≡ name_of here b.place = same_tx-is q.0.tx (name_of here b.place) (and_true_left (of_tx (name_of here b.place) q.0) (is_local q.0.kind) rest) in
-          let local = kind_is q.0.kind (and_true_right (of_tx (name_of here b.place) q.0) (is_local q.0.kind) rest) in
+          let local = local_kind q.0.kind (and_true_right (of_tx (name_of here b.place) q.0) (is_local q.0.kind) rest) in
           let name : name_of here b.place ≡ t = named t b.place g.takes.place (ap (λ (z : NodeId). z.0) g.node) b.seq in
           let all = written_moment j a.moment t.node d a.before g in
           let there = get_set (run scene g.from.early).nodes g.takes.place g.takes.view d.view g.takes.is in
@@ -179,11 +180,6 @@ module _ (scene : Scene) (ok : IsScene scene) (es : List Event) where
             )),
           )
         where
-          kind_is : (z : Kind) → is_local z ≡ true → z ≡ LocalKind
-          kind_is Pre q = absurd (cc q)
-          kind_is Final q = absurd (cc q)
-          kind_is LocalKind q = refl
-
           own_wrote : (s : Stage) (i p : ℕ) (tx : TxId) (l : KeyId) (c : WroteIn (during s i d) tx l) (x : Own) → tx.node.0 ≡ i + 1 → tx.seq ≡ p + 1 → Owns d.view p x → slice_get (slice_set s.nodes i d.view) i ≡ Some d.view → WroteKey x.writes l
           own_wrote s i p tx l c x node seq own there =
               let n : c.node ≡ i = omega (arith, node, c.at_node) in

@@ -28,7 +28,7 @@ use Rattle.str_model.proofs.ViewFacts.ChangesBelow.{view_act}
 use Rattle.str_base.proofs.Lists.{sum_by-set_got}
 use Rattle.str_base.specs.Members.{In}
 
-ignore_is : (v : View) (a : Arrived) → master_turn v a ≡ Ignore → nat_lt (proposed v a) ts_limit ≡ false
+pub ignore_is : (v : View) (a : Arrived) → master_turn v a ≡ Ignore → nat_lt (proposed v a) ts_limit ≡ false
 unfolding master_turn
 ignore_is v a e = by_refuse (find (refuses a) (met a.writes v.versions)) e
   where
