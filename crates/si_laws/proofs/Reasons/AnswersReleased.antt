@@ -49,7 +49,7 @@ use Rattle.str_model.proofs.Principle.NextMoments.{Link, evict_linked_to, l_clos
 use Rattle.str_model.proofs.Principle.MomentPaths.{take_is}
 use Rattle.str_model.proofs.Principle.RulePaths.{named_owns}
 use Rattle.str_model.proofs.Principle.OwnPaths.{free_at, op_or_commit-path}
-use Rattle.str_model.proofs.Changes.AnswerChanges.{TellStep, in_release, not_true, t_begins, t_decides, t_goes, t_rests, tell_step, told}
+use Rattle.str_model.proofs.Changes.AnswerChanges.{TellStep, in_release, t_begins, t_decides, t_goes, t_rests, tell_step, told}
 use Rattle.str_model.proofs.Changes.OwnChanges.{own_step}
 use Rattle.str_model.proofs.Changes.PairWords.{decided-step}
 use Rattle.str_base.proofs.Lists.{get_push, get_set, slice_get_there}
@@ -62,6 +62,7 @@ use Rattle.si_laws.proofs.Reasons.AbortChanges.{at_own_is}
 use Rattle.si_laws.proofs.Reasons.QuietRules.{by_if, master_quiet, read_req_quiet}
 use Rattle.si_laws.proofs.Stages.LinkedStates.{one_of}
 use Rattle.si_laws.specs.GateLaw.{HasCommitted}
+use Rattle.std.proofs.lemmas.Bool.{false_from_ne_true}
 
 -- ---- what stays of an own transaction
 
@@ -156,7 +157,7 @@ module _ (here : Here) (input : Input) where
               is = q;
               before = λ z oz. let s = h.stays i z oz in
                   let same : s.0 ≡ x = same_own c.view i i s.0 x s.1 own refl in (
-                    not_true (is_decided z.phase) (λ t. cc (s.2.decided t, ap (λ (u : Own). is_decided u.phase) same, f)),
+                    false_from_ne_true (is_decided z.phase) (λ t. cc (s.2.decided t, ap (λ (u : Own). is_decided u.phase) same, f)),
                     record { place = ap (λ (u : Own). u.place) (sym same) ∙ s.2.place; rs = ap (λ (u : Own). u.snap.rs) (sym same) ∙ s.2.rs; decided = λ t. g },
                   );
             })
