@@ -6,6 +6,7 @@ pub mod AbortChanges
 pub mod AbortLinks
 pub mod AbortsAll
 pub mod CausesTrue
+pub mod OthersNamed
 pub mod ConflictReasons
 pub mod CausesNamed
 pub mod AnswersReleased

@@ -40,7 +40,8 @@ use Rattle.str_model.proofs.Principle.NextMoments.{Link, evict_linked_to, l_clos
 use Rattle.str_model.proofs.Principle.MomentPaths.{take_is}
 use Rattle.si_laws.proofs.Reasons.AbortChanges.{AbortedBy, ab_refused, aborted_cause, evict_by, half_by, turn_by}
 use Rattle.si_laws.proofs.Reasons.AbortLinks.{Case, client_case, kept_case, left_alone, same_case, set_case}
-use Rattle.si_laws.proofs.Reasons.QuietRules.{by_if, master_quiet, named_owns, read_req_quiet}
+use Rattle.si_laws.proofs.Reasons.QuietRules.{by_if, master_quiet, read_req_quiet}
+use Rattle.str_model.proofs.Principle.RulePaths.{named_owns}
 use Rattle.str_base.proofs.Lists.{get_set_other}
 use Rattle.std.proofs.lemmas.Bool.{and_parts, cases_eq}
 

@@ -96,7 +96,7 @@ came = refl
 -- one that was certified and aborts by a conflict at its own node was evicted by the one that is named
 certified_evicted : (scene : Scene) (w : World) (tr : List Happening) (j : ℕ) (t : TxId) (e : Doing) (x : Own) (u : TxId) (k : KeyId) (n : NodeId) (lc : ℕ) → x.phase ≡ Global lc → n ≡ t.node
     → TrueConflict scene w tr j t e x u k n → Evicted tr j e t u k
-certified_evicted scene w tr j t e x u k n lc p home c = elim c.1 [ inl a ↦ by_home a | inr r ↦ absurd (r.elsewhere home) ]
+certified_evicted scene w tr j t e x u k n lc p home c = elim c.2 [ inl a ↦ by_home a | inr r ↦ absurd (r.elsewhere home) ]
   where
     never : AsksToCommit scene tr j t x → ⊥
     never (at_end st q f g) = cc (p, q)

@@ -27,18 +27,6 @@ by_if true o r e = (refl, e)
 by_if false o r e = absurd (cc e)
 
 module _ (here : Here) where
-  -- the own transaction that a message names
-  pub named_owns : (tx : TxId) (d : Doing) (z : Own) → own_named here tx d ≡ Some z → slice_get d.view.own (tx.seq - 1) ≡ Some z
-  named_owns tx d z e = by_node (same_node tx.node here.node) e
-    where
-      got : (n : ℕ) → nth d.view.own n ≡ Some z → slice_get d.view.own (n - 1) ≡ Some z
-      got zero f = absurd (cc f)
-      got (suc n) f = rw sub-one f
-
-      by_node : (b : Bool) → (if b then nth d.view.own tx.seq else None) ≡ Some z → slice_get d.view.own (tx.seq - 1) ≡ Some z
-      by_node true f = got tx.seq f
-      by_node false f = absurd (cc f)
-
   -- a read request
   pub read_req_quiet : (tx : TxId) (k : KeyId) (rs : ℕ) (d r : Doing) → Arrivals.read_req here tx k rs d ≡ Some r → IsQuiet d r
   unfolding Arrivals.read_req marked replied waits

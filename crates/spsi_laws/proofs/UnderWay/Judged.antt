@@ -37,7 +37,7 @@ use Rattle.str_model.proofs.ViewFacts.TimesBelow.{BodyBelow, mark_below, newest_
 use Rattle.str_model.proofs.ViewFacts.ValidMessages.{valid_named}
 use Rattle.str_model.proofs.ViewFacts.VersionsKept.{master_hosts}
 use Rattle.str_model.specs.Acts
-use Rattle.str_model.specs.Acts.{aborted, accepted, acked, in_phase, marked, pre_version, refused, replied, taken, waits}
+use Rattle.str_model.specs.Acts.{aborted, accepted, acked, decided_as, in_phase, marked, pre_version, refused, replied, taken, waits}
 use Rattle.str_model.specs.Arrivals
 use Rattle.str_model.specs.NodeFacts.{MarksBelow, VersionsBelow}
 use Rattle.str_model.specs.Owned.{Asks, IsView, Owns}
@@ -251,7 +251,7 @@ module _ (here : Here) (v : View) (i : ℕ) (x : Own) (own : Owns v i x) where
 
     abort_leaves : (cause : _) → OneHas (λ z. is_decided z.phase ≡ true) i (aborted here i cause x (starts v)).view
     unfolding aborted
-    abort_leaves cause = (in_phase (Aborted (lc_of x.phase) cause) x, get_set v.own i x (in_phase (Aborted (lc_of x.phase) cause) x) own, refl)
+    abort_leaves cause = (decided_as (Aborted (lc_of x.phase) cause) x, get_set v.own i x (decided_as (Aborted (lc_of x.phase) cause) x) own, refl)
 
     refuse_phase_leaves : is_master here.scene from p ≡ true → (by : TxId) (k : KeyId) (c : Phase) → x.phase ≡ c → RuleLeaves (OneHas (λ z. is_decided z.phase ≡ true) i) v (Returns.refuse_phase here i x from p by k c (starts v))
     refuse_phase_leaves ms by k (Global m) e =

@@ -19,7 +19,7 @@ use Rattle.str_base.specs.declared.names.Version.{Version}
 use Rattle.str_base.specs.declared.names.Write.{Write}
 use Rattle.str_model.proofs.Changes.SnapshotsGain.{if_elim}
 use Rattle.str_model.specs.Acts
-use Rattle.str_model.specs.Acts.{aborted, accepted, acked, asked, begun, certified, closed, commit_came, committed, fresh, in_phase, marked, refused, replied, requested, taken, waits, with_asked, with_waiters}
+use Rattle.str_model.specs.Acts.{aborted, accepted, acked, asked, begun, certified, closed, commit_came, committed, decided_as, fresh, in_phase, marked, refused, replied, requested, taken, waits, with_asked, with_waiters}
 use Rattle.str_model.specs.Arrivals
 use Rattle.str_model.specs.Clients
 use Rattle.str_model.specs.Gates.{Ask, CommitAt, GateTurn, Missing, Shut, gate_of}
@@ -142,15 +142,15 @@ module _ (here : Here) (old : List Message) where
 
   aborts : (i : ℕ) (cause : _) (x : Own) (d : Doing) → Owns d.view i x → KeepsRequests d (aborted here i cause x d)
   unfolding aborted
-  aborts i cause x d o = set_quiet d (aborted here i cause x d) i x (in_phase (Aborted (lc_of x.phase) cause) x) (Acts.abort_letters here i x.parts) o refl refl refl (λ k p. absurd (cc p))
+  aborts i cause x d o = set_quiet d (aborted here i cause x d) i x (decided_as (Aborted (lc_of x.phase) cause) x) (Acts.abort_letters here i x.parts) o refl refl refl (λ k p. absurd (cc p))
 
   commits : (i lc fc : ℕ) (x : Own) (d : Doing) → Owns d.view i x → KeepsRequests d (committed here i lc fc x d)
   unfolding committed
-  commits i lc fc x d o = set_quiet d (committed here i lc fc x d) i x (in_phase (Committed (Some lc) (Some fc)) x) (Acts.commit_letters here i x fc d.view) o refl refl refl (λ k p. absurd (cc p))
+  commits i lc fc x d o = set_quiet d (committed here i lc fc x d) i x (decided_as (Committed (Some lc) (Some fc)) x) (Acts.commit_letters here i x fc d.view) o refl refl refl (λ k p. absurd (cc p))
 
   closes : (i : ℕ) (x : Own) (d : Doing) → Owns d.view i x → KeepsRequests d (closed here i x d)
   unfolding closed
-  closes i x d o = set_own d (closed here i x d) i x (in_phase (Committed None None) x) o refl refl (λ m h. h) (λ k p. absurd (cc p))
+  closes i x d o = set_own d (closed here i x d) i x (decided_as (Committed None None) x) o refl refl (λ m h. h) (λ k p. absurd (cc p))
 
   asks : (i lc : ℕ) (p : PartId) (x : Own) (d : Doing) → Owns d.view i x → KeepsRequests d (asked here i lc p x d)
   unfolding asked

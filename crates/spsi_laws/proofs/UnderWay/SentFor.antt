@@ -14,7 +14,7 @@ use Rattle.str_model.proofs.OwnFacts.AskedParts.{unasked_one}
 use Rattle.str_model.proofs.OwnFacts.AtHome.{a_new, a_old, acked_parts}
 use Rattle.str_model.proofs.Principle.SingleChanges.{Act, IsHere, Where, act_abort, act_abort_came, act_accept, act_ack, act_ask, act_begin, act_certify, act_close, act_commit, act_commit_came, act_mark, act_put, act_refuse, act_reply, act_request, act_take, act_unwait, act_wait}
 use Rattle.str_model.specs.Acts
-use Rattle.str_model.specs.Acts.{aborted, accepted, acked, asked, begun, certified, closed, commit_came, committed, fresh, in_phase, is_hosted_of, local_version, marked, pre_version, refused, replied, requested, taken, waits, with_asked}
+use Rattle.str_model.specs.Acts.{aborted, accepted, acked, asked, begun, certified, closed, commit_came, committed, decided_as, fresh, in_phase, is_hosted_of, local_version, marked, pre_version, refused, replied, requested, taken, waits, with_asked}
 use Rattle.str_model.specs.Owned.{Owns}
 use Rattle.str_model.specs.Proposals.{proposed}
 use Rattle.str_model.specs.Views.{Aborted, Committed, Doing, Global, Local, Own, Remote, is_decided, lc_of, letter, name_of}
@@ -87,9 +87,9 @@ module _ (here : Here) (input : Input) (w : Where) where
         | a_old h ↦ same_asked d' e k x' a ok h t
         | a_new b h sp sn z ↦ asked_before x' b ok h (ap (λ (u : Asked). u.part) (sym z)) (ap (λ (u : Asked). u.node) (sym z)) (ap (λ (u : Asked). u.asked) (sym z) ∙ t)
       ])
-  asked_act d e (act_abort i cause x' d' own f z) k y a oy m t = set_same d' e i k x' (in_phase (Aborted (lc_of x'.phase) cause) x') y a own.0 refl oy m t
-  asked_act d e (act_commit i c fc x' d' own l n le f g) k y a oy m t = set_same d' e i k x' (in_phase (Committed (Some c) (Some fc)) x') y a own.0 refl oy m t
-  asked_act d e (act_close i x' d' own q n) k y a oy m t = set_same d' e i k x' (in_phase (Committed None None) x') y a own.0 refl oy m t
+  asked_act d e (act_abort i cause x' d' own f z) k y a oy m t = set_same d' e i k x' (decided_as (Aborted (lc_of x'.phase) cause) x') y a own.0 refl oy m t
+  asked_act d e (act_commit i c fc x' d' own l n le f g) k y a oy m t = set_same d' e i k x' (decided_as (Committed (Some c) (Some fc)) x') y a own.0 refl oy m t
+  asked_act d e (act_close i x' d' own q n) k y a oy m t = set_same d' e i k x' (decided_as (Committed None None) x') y a own.0 refl oy m t
   asked_act d e (act_mark g z d' rd) k y a oy m t = same_asked d' e k y a oy m t
   asked_act d e (act_accept b ts d' h z) k y a oy m t = same_asked d' e k y a oy m t
   asked_act d e (act_refuse b u g d' h z) k y a oy m t = same_asked d' e k y a oy m t
