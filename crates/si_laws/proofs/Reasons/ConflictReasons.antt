@@ -4,8 +4,6 @@ use Rattle.std.specs.List.{list_any}
 use Rattle.str_base.specs.declared.names.Cause.{Cause}
 use Rattle.str_base.specs.declared.names.Cause.TheVariants.{Conflict as ByConflict}
 use Rattle.str_base.specs.declared.names.KeyId.{KeyId}
-use Rattle.str_base.specs.declared.names.Kind.{Kind}
-use Rattle.str_base.specs.declared.names.Kind.TheVariants.{Final, Local as LocalKind, Pre}
 use Rattle.str_base.specs.declared.names.NodeId.{NodeId}
 use Rattle.str_base.specs.declared.names.PartId.{PartId}
 use Rattle.str_base.specs.declared.names.TxId.{TxId}

@@ -1,5 +1,5 @@
 -- A conflict names another transaction than the one that aborts.
-use Rattle.std.proofs.Common.{Bool, List, None, Option, Some, add-sub_cancel, ap, arith, false, inl, inr, not, refl, slice_get, subst, suc, sym, true, ℕ, ◌&&◌, ◌+◌, ◌-◌, ◌<◌, ◌∙◌, ◌≡◌, ◌≢◌}
+use Rattle.std.proofs.Common.{List, None, Option, Some, add-sub_cancel, ap, arith, false, inl, inr, not, refl, slice_get, subst, suc, sym, true, ℕ, ◌&&◌, ◌+◌, ◌-◌, ◌<◌, ◌∙◌, ◌≡◌, ◌≢◌}
 use Rattle.std.proofs.lemmas.Bool.{not-true}
 use Rattle.str_base.proofs.Lists.{get_set, got_set}
 use Rattle.str_base.proofs.Tests.{and_true_left, and_true_right}

@@ -1,18 +1,17 @@
 -- Rules of messages that leave the own transactions and the answers alone.
-use Rattle.std.proofs.Common.{Bool, None, Option, Some, false, if◌then◌else◌, not, refl, slice_get, sub-one, subst, suc, true, zero, ℕ, ◌&&◌, ◌-◌, ◌≡◌}
+use Rattle.std.proofs.Common.{Bool, None, Option, Some, false, if◌then◌else◌, not, refl, subst, true, ℕ, ◌&&◌, ◌≡◌}
 use Rattle.std.specs.List.{list_any}
 use Rattle.str_base.specs.declared.names.KeyId.{KeyId}
 use Rattle.str_base.specs.declared.names.TxId.{TxId}
 use Rattle.str_base.specs.Versions.{same_node, stamp}
-use Rattle.str_scene.specs.Scenes.{Here, hosts_key, nth}
+use Rattle.str_scene.specs.Scenes.{Here, hosts_key}
 use Rattle.str_model.specs.declared.messages.Arrived.{Arrived}
 use Rattle.str_model.specs.declared.messages.Waiter.TheVariants.{Held, Read}
 use Rattle.str_model.specs.Acts.{accepted, marked, refused, replied, waits}
 use Rattle.str_model.specs.Arrivals
 use Rattle.str_model.specs.Proposals.{Accept, Ignore, MasterTurn, Park, Refuse}
-use Rattle.str_model.specs.Returns.{own_named}
 use Rattle.str_model.specs.Turns.{Give, ServeTurn, ServeWait, serve_turn}
-use Rattle.str_model.specs.Views.{Doing, Own}
+use Rattle.str_model.specs.Views.{Doing}
 
 -- the own transactions and the answers are as before
 pub record IsQuiet (d r : Doing) : Type 0 where
