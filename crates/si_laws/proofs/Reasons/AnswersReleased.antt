@@ -63,6 +63,7 @@ use Rattle.si_laws.proofs.Reasons.AbortChanges.{at_own_is}
 use Rattle.si_laws.proofs.Reasons.QuietRules.{by_if, master_quiet, read_req_quiet}
 use Rattle.si_laws.proofs.Stages.LinkedStates.{one_of}
 use Rattle.si_laws.specs.GateLaw.{HasCommitted}
+use Rattle.std.proofs.lemmas.Bool.{false_from_ne_true}
 
 -- ---- what stays of an own transaction
 
