@@ -3,6 +3,9 @@ pub mod Lists
 pub mod Ordered
 pub mod OfKey
 pub mod Keeping
+pub mod Members
 pub mod Flats
 pub mod Spots
 pub mod Walking
+pub mod Pending
+pub mod Changed

@@ -1,6 +1,7 @@
 -- A walk over the slots of a key, step by step.
 use Rattle.std.proofs.Common.{Bool, List, None, Option, Some, [], ap, arith, false, if◌then◌else◌, refl, subst, sym, true, ℕ, ◌++◌, ◌==◌, ◌||◌, ◌∙◌, ◌∷◌, ◌≡◌}
 use Rattle.std.proofs.lemmas.Bool.Decides.{nat_tests}
+use Rattle.std.proofs.lemmas.List.{append-nil}
 use Rattle.std.specs.List.{last_or}
 use Rattle.str_base.specs.declared.names.KeyId.{KeyId}
 use Rattle.str_base.specs.declared.names.Version.{Version}
@@ -8,7 +9,7 @@ use Rattle.link_arena.specs.Arenas.{ArenaView, at, key_list, next_of, prev_of}
 use Rattle.link_arena.specs.Rows.{IsPlace, Once, first_or, is_in}
 use Rattle.version_chain.specs.Flat.{IsChains, IsWalk, beyond, picked, up_to}
 use Rattle.version_chain.specs.Walks.{with_version}
-use Rattle.version_chain.proofs.Spots.{beyond_prev, deeper, differs, here, prev_place}
+use Rattle.version_chain.proofs.Spots.{beyond_last, beyond_prev, deeper, differs, here, prev_place}
 
 -- the slot that follows a place
 pub record IsNext (p : Option ℕ) (ss : List ℕ) (s : ℕ) : Type 0 where
@@ -86,6 +87,11 @@ parted (Some s) (u ∷ us) = by_test (s == u) (parted (Some s) us)
     by_test : (b : Bool) → up_to (Some s) us ++ beyond (Some s) us ≡ us → (if b then u ∷ [] else u ∷ up_to (Some s) us) ++ (if b then us else beyond (Some s) us) ≡ u ∷ us
     by_test true rec = refl
     by_test false rec = ap (λ (ws : List ℕ). u ∷ ws) rec
+
+pub up_to_last : (ss : List ℕ) → Once ss → up_to (last_or None ss) ss ≡ ss
+up_to_last ss o =
+    let e = beyond_last ss o in
+    sym (append-nil (up_to (last_or None ss) ss)) ∙ ap (λ (ws : List ℕ). up_to (last_or None ss) ss ++ ws) (sym e) ∙ parted (last_or None ss) ss
 
 -- a step over a slot, in versions
 module _ (a : ArenaView) (k : KeyId) (p : Option ℕ) (s : ℕ) (v : Version) (n : IsNext p (key_list a k) s) (e : at a s ≡ Some v) where
