@@ -1,5 +1,5 @@
 //! Arenas of versions.
-ghost use Rattle.std.specs.Prelude.{◌≡◌, ◌≤◌, ◌<◌, ◌+◌, ◌==◌, ℕ, [], IsSome, None, OnErr, OnOk, Some, if◌then◌else◌};
+ghost use Rattle.std.specs.Prelude.{◌≡◌, ◌≤◌, ◌<◌, ◌+◌, ◌==◌, ◌^◌, ℕ, [], IsSome, None, OnErr, OnOk, Some, length, if◌then◌else◌};
 ghost use Rattle.std.specs.List.{last_or};
 ghost use Rattle.str_base.specs.Versions.{of_tx};
 ghost use Rattle.link_arena.specs.Arenas.{AreLists, at, dated, key_list, next_of, number_of, prev_of, tx_list};
@@ -75,6 +75,14 @@ fn last_slot(ends: Option<Ends>) -> Option<Slot>
         Some(ends) => Some(Slot(ends.last)),
         None => None,
     }
+}
+
+/// How many transactions have a version.
+fn tx_count(txs: &Vec<Head<TxId>>) -> usize
+    ensures count { result ≡ length txs.now.items }
+    ensures limit { length txs.now.items < 2 ^ 63 }
+{
+    txs.as_slice().len()
 }
 
 impl Arena {
@@ -233,7 +241,9 @@ impl Arena {
     pub fn first_of_key(&self, key: KeyId) -> Option<Slot>
         ensures first { number_of result ≡ first_or None (key_list self.now key) }
         ensures lists { AreLists self.now }
+        ensures limit { length self.now.by_tx < 2 ^ 63 }
     {
+        let _ = tx_count(&self.txs);
         first_slot(find(&self.keys, key))
     }
 

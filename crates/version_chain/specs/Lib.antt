@@ -1,3 +1,4 @@
 pub mod ChainLists
 pub mod Walks
 pub mod Flat
+pub mod Undecided
