@@ -9,3 +9,5 @@ pub mod Spots
 pub mod Walking
 pub mod Pending
 pub mod Changed
+pub mod Deciding
+pub mod Few

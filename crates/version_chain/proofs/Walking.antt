@@ -1,5 +1,5 @@
 -- A walk over the slots of a key, step by step.
-use Rattle.std.proofs.Common.{Bool, List, None, Option, Some, [], ap, arith, false, if◌then◌else◌, refl, subst, sym, true, ℕ, ◌++◌, ◌==◌, ◌||◌, ◌∙◌, ◌∷◌, ◌≡◌}
+use Rattle.std.proofs.Common.{Bool, IfNone, List, None, Option, Some, [], ap, arith, false, if◌then◌else◌, refl, subst, sym, true, ℕ, ◌++◌, ◌==◌, ◌||◌, ◌∙◌, ◌∷◌, ◌≡◌}
 use Rattle.std.proofs.lemmas.Bool.Decides.{nat_tests}
 use Rattle.std.proofs.lemmas.List.{append-nil}
 use Rattle.std.specs.List.{last_or}
@@ -107,3 +107,8 @@ module _ (a : ArenaView) (k : KeyId) (p : Option ℕ) (s : ℕ) (v : Version) (n
 pub last_more : (o : Option Version) (vs : List Version) (v : Version) → last_or o (vs ++ v ∷ []) ≡ Some v
 last_more o [] v = refl
 last_more o (w ∷ ws) v = last_more (Some w) ws v
+
+-- the version that was passed over, where one follows
+pub passed_is : (r : Option Version) (v : Version) (vs ws : List Version) → v ∷ vs ≡ with_version r ws → IfNone r (v ∷ vs ≡ []) → r ≡ Some v
+passed_is None v vs ws e n = absurd (cc)
+passed_is (Some w) v vs ws e n = let q : w ≡ v = cc in ap Some q
