@@ -80,7 +80,7 @@ none_of w (u ∷ us) k e f =
     (λ t. rw f n.1) (λ t. rw n.0 (none_of w us k n.1 f))
 
 -- each key stands once after one more write
-set_once : (w : Write) (ws : List Write) → AreDistinct ws → AreDistinct (set_write w ws)
+pub set_once : (w : Write) (ws : List Write) → AreDistinct ws → AreDistinct (set_write w ws)
 set_once w [] d = refl
 set_once w (u ∷ us) d = by_test (same_key u.key w.key) refl (set_once w us (and_true_right (not (list_any (same_key u.key) (map (λ (z : Write). z.key) us))) _ d))
   where
