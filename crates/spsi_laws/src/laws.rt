@@ -107,7 +107,7 @@ pub fn repeats_raise()
     ensures { RepeatsRaise }
 {}
 
-/// Every message of a run is valid at its receiver: no node takes it for a strange one.
+/// Every message of a run goes to a node of the scene and is valid there: no node takes it for a strange one.
 pub fn messages_valid()
     ensures { MessagesValid }
 {}

@@ -35,7 +35,7 @@ use Rattle.str_model.proofs.Changes.AnswerChanges.{IsLastOf, last_index-none, la
 use Rattle.str_model.specs.Acts.{local_version}
 use Rattle.str_model.specs.Clients
 use Rattle.str_model.specs.Clients.{client_rule, last_index, of_session}
-use Rattle.str_model.specs.Drains.{AllGiven, AtRest, moves, session_moves, view_moves}
+use Rattle.str_model.specs.Drains.{AllGiven, moves, session_moves, view_moves}
 use Rattle.str_model.specs.Owned.{Owns}
 use Rattle.str_model.specs.Proposals.{holds_pair}
 use Rattle.str_model.specs.Runs.{World, run}

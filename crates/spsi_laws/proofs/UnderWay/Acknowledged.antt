@@ -1,5 +1,5 @@
 -- A participant whose Ack has come stays answered.
-use Rattle.std.proofs.Common.{Bool, List, None, Option, Some, [], ap, eq-eqb, eqb-true, false, if◌then◌else◌, inl, inr, is_some, map, not, option_map, refl, subst, sym, true, ℕ, ◌&&◌, ◌||◌, ◌∙◌, ◌∷◌, ◌≡◌, ◌⊎◌}
+use Rattle.std.proofs.Common.{Bool, List, None, Option, Some, [], ap, eq-eqb, eqb-true, false, inl, inr, is_some, not, option_map, refl, subst, sym, true, ℕ, ◌&&◌, ◌||◌, ◌∙◌, ◌∷◌, ◌≡◌, ◌⊎◌}
 use Rattle.partition_map.specs.declared.rows.Asked.{Asked}
 use Rattle.spsi_laws.proofs.UnderWay.OneOwn.{KeepsOne}
 use Rattle.str_base.specs.Versions.{same_node, same_part, stamp}
@@ -8,7 +8,6 @@ use Rattle.str_base.specs.declared.names.PartId.{PartId}
 use Rattle.str_model.proofs.Changes.OwnGoesOn.{puts_on}
 use Rattle.str_model.proofs.Changes.SnapshotsGain.{if_elim}
 use Rattle.str_model.proofs.Principle.SingleChanges.{AsksCommit, asks_again, asks_new}
-use Rattle.str_model.specs.Acts.{with_asked}
 use Rattle.str_model.specs.Returns.{with_ack}
 use Rattle.str_model.specs.Views.{Doing, Own, is_decided, lc_of}
 use Rattle.str_model.specs.declared.messages.Input.{Input}

@@ -1,5 +1,5 @@
 -- What was given was judged: a Prepare is parked, stands or is done, a Replicate stands or is done, an Ack is kept, a Refuse aborts, a request waits or is answered, and a reply is taken.
-use Rattle.std.proofs.Common.{Bool, List, None, Option, Some, [], add-one, ap, arith, eq-eqb, eqb-true, false, filter, if◌then◌else◌, inl, inr, is_some, length, lt-ltb, map, max, nat_lt, not, option_map, refl, slice_get, slice_set, sub-one, subst, subst₂, suc, sym, true, zero, ℕ, ◌&&◌, ◌++◌, ◌+◌, ◌-◌, ◌<◌, ◌^◌, ◌||◌, ◌∙◌, ◌∷◌, ◌≡◌, ◌≢◌, ◌≤◌, ◌⊎◌}
+use Rattle.std.proofs.Common.{Bool, List, None, Option, Some, [], ap, arith, eq-eqb, eqb-true, false, filter, if◌then◌else◌, inl, inr, is_some, length, lt-ltb, map, max, nat_lt, not, option_map, refl, slice_get, subst, subst₂, suc, sym, true, zero, ℕ, ◌&&◌, ◌+◌, ◌-◌, ◌<◌, ◌^◌, ◌||◌, ◌∙◌, ◌∷◌, ◌≡◌, ◌≢◌, ◌⊎◌}
 use Rattle.std.specs.List.{list_any}
 use Rattle.partition_map.specs.declared.rows.Asked.{Asked}
 use Rattle.si_laws.proofs.Stages.AllLinksKept.{linked}
@@ -10,9 +10,9 @@ use Rattle.si_laws.proofs.Times.ProposalsFew.{few_proposals}
 use Rattle.si_laws.proofs.Times.TimesBounded.{bounded_}
 use Rattle.si_laws.specs.Numbers.{proposals}
 use Rattle.spsi_laws.proofs.Rest.RestLimit.{ignore_is}
-use Rattle.spsi_laws.proofs.Rest.RestStages.{asks_certified, staged}
+use Rattle.spsi_laws.proofs.Rest.RestStages.{staged}
 use Rattle.spsi_laws.proofs.UnderWay.Acknowledged.{AnsweredBy, ack_new, ack_none, keeps_answered, keeps_decided}
-use Rattle.spsi_laws.proofs.UnderWay.Followed.{AskedBy, Follows, Requests, Sends, followed}
+use Rattle.spsi_laws.proofs.UnderWay.Followed.{AskedBy, Follows, Sends, followed}
 use Rattle.spsi_laws.proofs.UnderWay.GivenAt.{Given, RuleLeaves, given_holds}
 use Rattle.spsi_laws.proofs.UnderWay.NamedMessages.{Addressed}
 use Rattle.spsi_laws.proofs.UnderWay.OneOwn.{OneHas, one-act}
@@ -32,16 +32,13 @@ use Rattle.str_model.proofs.Changes.PairWords.{Has, SomeWrites, any_has, same_pa
 use Rattle.str_model.proofs.Changes.SnapshotsGain.{if_elim}
 use Rattle.str_model.proofs.Changes.VersionChanges.{wait_step}
 use Rattle.str_model.proofs.Principle.Everywhere.{at_place, stage_of}
-use Rattle.str_model.proofs.Principle.SingleChanges.{Act, Where}
 use Rattle.str_model.proofs.ViewFacts.TimesBelow.{BodyBelow, mark_below, newest_below, passed_below}
 use Rattle.str_model.proofs.ViewFacts.ValidMessages.{valid_named}
 use Rattle.str_model.proofs.ViewFacts.VersionsKept.{master_hosts}
-use Rattle.str_model.specs.Acts
 use Rattle.str_model.specs.Acts.{aborted, accepted, acked, decided_as, in_phase, marked, pre_version, refused, replied, taken, waits}
 use Rattle.str_model.specs.Arrivals
 use Rattle.str_model.specs.NodeFacts.{MarksBelow, VersionsBelow}
 use Rattle.str_model.specs.Owned.{Asks, IsView, Owns}
-use Rattle.str_model.specs.Proposals
 use Rattle.str_model.specs.Proposals.{Accept, Ignore, MasterTurn, Park, Refuse, holds_pair, is_known, is_pair, is_parked, master_turn, prepare_turn, proposed, takes, ts_limit}
 use Rattle.str_model.specs.Returns
 use Rattle.str_model.specs.Runs
@@ -49,7 +46,7 @@ use Rattle.str_model.specs.Runs.{World, give, run, run_from}
 use Rattle.str_model.specs.Scripts
 use Rattle.str_model.specs.Steps
 use Rattle.str_model.specs.Steps.{rule, step}
-use Rattle.str_model.specs.Strange.{has_named, has_named_writes, is_valid}
+use Rattle.str_model.specs.Strange.{has_named, is_valid}
 use Rattle.str_model.specs.Turns.{Give, ServeTurn, ServeWait, passed, serve_turn}
 use Rattle.str_model.specs.Views.{Aborted, Active, CertWait, Closing, Committed, Doing, Global, Local, Own, Phase, ReadWait, Remote, Reply, View, is_decided, lc_of, letter, name_of, put, starts}
 use Rattle.str_model.specs.declared.messages.Arrived.{Arrived}
@@ -64,7 +61,7 @@ use Rattle.str_scene.specs.Scenes.{Here, Scene, hosts, hosts_key, in_part, is_ma
 use Rattle.str_scene.specs.declared.names.Event.{Event}
 use Rattle.str_scene.specs.declared.names.Event.TheVariants.{Deliver as DeliverEvent}
 use Rattle.std.proofs.lemmas.Bool.{and_from, false_from_ne_true}
-use Rattle.str_base.proofs.Members.{any_in, in_all_new, in_append, in_at, in_filter, in_left, in_right, in_without, map_in}
+use Rattle.str_base.proofs.Members.{any_in, in_all_new, in_append, in_at, in_filter, in_right, in_without, map_in}
 use Rattle.str_base.proofs.SameNames.{same_part-is, same_tx-is}
 use Rattle.str_base.proofs.Tests.{and_true_left, and_true_right}
 use Rattle.str_base.proofs.Lists.{get_set}

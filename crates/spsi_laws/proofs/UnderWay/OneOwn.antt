@@ -1,5 +1,5 @@
 -- What one own transaction keeps at each change.
-use Rattle.std.proofs.Common.{List, None, Option, Some, ap, false, inl, inr, refl, slice_get, slice_set, subst, sym, true, ℕ, ◌++◌, ◌∙◌, ◌∷◌, ◌≡◌, ◌≢◌, ◌⊎◌}
+use Rattle.std.proofs.Common.{List, None, Some, ap, false, inl, inr, refl, slice_get, slice_set, subst, sym, true, ℕ, ◌∙◌, ◌≡◌}
 use Rattle.dependency_set.specs.Snapshots.{Snap}
 use Rattle.partition_map.specs.declared.rows.Asked.{Asked}
 use Rattle.si_laws.proofs.Stages.LinkedStates.{one_of}
@@ -8,7 +8,7 @@ use Rattle.str_base.specs.declared.names.PartId.{PartId}
 use Rattle.str_model.proofs.OwnFacts.EachOwn.{as_certified}
 use Rattle.str_model.proofs.Principle.SingleChanges.{Act, AsksCommit, Goes, Where, act_abort, act_abort_came, act_accept, act_ack, act_ask, act_begin, act_certify, act_close, act_commit, act_commit_came, act_mark, act_put, act_refuse, act_reply, act_request, act_take, act_unwait, act_wait}
 use Rattle.str_model.specs.Acts
-use Rattle.str_model.specs.Acts.{aborted, accepted, acked, asked, begun, certified, closed, commit_came, committed, decided_as, fresh, in_phase, marked, refused, replied, requested, taken, waits, with_asked}
+use Rattle.str_model.specs.Acts.{aborted, accepted, acked, asked, begun, certified, closed, commit_came, committed, fresh, decided_as, in_phase, marked, refused, replied, requested, taken, waits, with_asked}
 use Rattle.str_model.specs.Owned.{Owns}
 use Rattle.str_model.specs.Returns.{with_ack}
 use Rattle.str_model.specs.Views.{Aborted, Committed, Doing, Global, Own, Remote, View, is_decided, lc_of}

@@ -1,5 +1,5 @@
 -- No participant of a transaction stands twice.
-use Rattle.std.proofs.Common.{List, None, Option, Some, [], ap, filter, flat_map, inl, inr, length, map, refl, slice_get, subst, sym, ℕ, ◌++◌, ◌+◌, ◌∙◌, ◌∷◌, ◌≡◌, ◌⊎◌}
+use Rattle.std.proofs.Common.{List, None, Option, Some, [], ap, flat_map, inl, inr, length, map, refl, subst, sym, ℕ, ◌++◌, ◌∙◌, ◌∷◌, ◌≡◌}
 use Rattle.partition_map.specs.declared.rows.Asked.{Asked}
 use Rattle.si_laws.proofs.Stages.ParticipantSeats.{of_nth}
 use Rattle.si_laws.proofs.Times.NoRepeats.{Once, once_append, once_filter, once_map, once_places, once_range}

@@ -1,5 +1,5 @@
 -- What an undecided transaction waits for from other nodes is under way.
-use Rattle.std.proofs.Common.{Bool, List, None, Option, Some, [], ap, arith, eq-eqb, eqb-true, false, inl, inr, is_some, length, ltb-true, not, refl, slice_get, subst, subst₂, suc, sym, true, zero, ℕ, ◌+◌, ◌-◌, ◌<◌, ◌∙◌, ◌∷◌, ◌≡◌, ◌≢◌, ◌≤◌, ◌⊎◌}
+use Rattle.std.proofs.Common.{Bool, List, None, Some, ap, arith, eqb-true, false, inl, inr, is_some, not, refl, slice_get, subst, subst₂, sym, true, ℕ, ◌+◌, ◌<◌, ◌∙◌, ◌≡◌, ◌≢◌, ◌⊎◌}
 use Rattle.std.proofs.lemmas.Option.{slice_get_within}
 use Rattle.partition_map.specs.Maps.{Exists}
 use Rattle.partition_map.specs.declared.rows.Asked.{Asked}
@@ -7,27 +7,23 @@ use Rattle.si_laws.proofs.Presence.DecisionsDelivered.{delivered}
 use Rattle.si_laws.proofs.Presence.DecisionsValid.{bounded_from, decisions_are_valid}
 use Rattle.si_laws.proofs.Stages.AllLinksKept.{linked}
 use Rattle.si_laws.proofs.Stages.LinkedStates.{IsDecidedAs, Told, one_of, one_place}
-use Rattle.si_laws.proofs.Stages.ParticipantSeats.{own_seat, to_nth}
+use Rattle.si_laws.proofs.Stages.ParticipantSeats.{own_seat}
 use Rattle.si_laws.proofs.Times.ProposalsFew.{times_bounded}
 use Rattle.si_laws.specs.Laws.Presence.{Decides}
 use Rattle.spsi_laws.proofs.UnderWay.Followed.{Acks, AskSent, Prepares, Refuses, Replicates, Sends, followed}
-use Rattle.spsi_laws.proofs.UnderWay.GivenAt.{Given, given_at}
-use Rattle.spsi_laws.proofs.UnderWay.Judged.{HasJudged, HasTaken, ack_judged, prepare_judged, refuse_judged, replicate_judged, reply_judged, request_judged}
-use Rattle.spsi_laws.proofs.UnderWay.NamedMessages.{Addressed, row_hosts}
+use Rattle.spsi_laws.proofs.UnderWay.GivenAt.{given_at}
+use Rattle.spsi_laws.proofs.UnderWay.Judged.{ack_judged, prepare_judged, refuse_judged, replicate_judged, reply_judged, request_judged}
+use Rattle.spsi_laws.proofs.UnderWay.NamedMessages.{Addressed}
 use Rattle.spsi_laws.proofs.UnderWay.PastReads.{past_not}
 use Rattle.spsi_laws.proofs.UnderWay.ReadsWaiting.{Replies, requests_sent}
-use Rattle.spsi_laws.proofs.UnderWay.RequestsKept.{master_of}
 use Rattle.spsi_laws.proofs.UnderWay.SeatsOnce.{seat_one}
 use Rattle.spsi_laws.proofs.UnderWay.ValidMessages.{host_exists, posted, to_place}
-use Rattle.spsi_laws.specs.Laws.UnderWay.{AnswerUnderWay, IsOfPair, IsOfRead, ReadUnderWay, UnderWay, UnderWayHolds, ru_message, ru_waits, u_message, u_parked}
+use Rattle.spsi_laws.specs.Laws.UnderWay.{AnswerUnderWay, IsOfPair, IsOfRead, ReadUnderWay, UnderWayHolds, ru_message, ru_waits, u_message, u_parked}
 use Rattle.str_base.specs.Versions.{of_pair, same_node, same_part, same_tx}
 use Rattle.str_base.specs.declared.names.KeyId.{KeyId}
 use Rattle.str_base.specs.declared.names.NodeId.{NodeId}
 use Rattle.str_base.specs.declared.names.PartId.{PartId}
-use Rattle.str_base.specs.declared.names.Ts.{Ts}
 use Rattle.str_base.specs.declared.names.TxId.{TxId}
-use Rattle.str_base.specs.declared.names.Version.{Version}
-use Rattle.str_base.specs.declared.names.Write.{Write}
 use Rattle.str_model.proofs.Changes.PairWords.{Has, pair-is}
 use Rattle.str_model.proofs.Principle.Everywhere.{at_place, stage_of}
 use Rattle.str_model.proofs.ViewFacts.VersionsKept.{master_hosts}
@@ -35,14 +31,13 @@ use Rattle.str_model.specs.Owned.{IsView, Owns}
 use Rattle.str_model.specs.Proposals.{holds_pair, is_pair}
 use Rattle.str_model.specs.Runs.{run}
 use Rattle.str_model.specs.Views.{Own, Remote, View, is_decided, lc_of, letter, name_of}
-use Rattle.str_model.specs.declared.messages.Arrived.{Arrived}
 use Rattle.str_model.specs.declared.messages.Body.{Body}
 use Rattle.str_model.specs.declared.messages.Body.TheVariants.{Abort, Ack, Commit, Prepare, ReadReply, ReadReq, Refuse as Refusal, Replicate}
 use Rattle.str_model.specs.declared.messages.Message.{Message}
 use Rattle.str_model.specs.declared.messages.Waiter.{Waiter}
 use Rattle.str_model.specs.declared.messages.Waiter.TheVariants.{Held, Read}
 use Rattle.str_scene.specs.SceneLimits.{IsScene}
-use Rattle.str_scene.specs.Scenes.{Here, Scene, first_or, hosts, hosts_key, is_master, leads, named_part, nth, or_none, others, part_of, replicas}
+use Rattle.str_scene.specs.Scenes.{Scene, hosts, hosts_key, is_master, others, part_of, replicas}
 use Rattle.str_scene.specs.declared.names.Event.{Event}
 use Rattle.std.proofs.lemmas.Bool.{cases_eq, false_from_ne_true}
 use Rattle.str_base.proofs.SameNames.{same_part-is, same_tx-is}
@@ -50,22 +45,6 @@ use Rattle.str_base.proofs.Tests.{and_true_left, and_true_right}
 use Rattle.str_base.proofs.Members.{at_in, filter_in, in_at}
 use Rattle.str_base.proofs.Lists.{slice_get_there}
 use Rattle.str_base.specs.Members.{In}
-
--- the first of a partition's row is its master
-row_first : (scene : Scene) → IsScene scene → (p : PartId) → Exists p.0 (length scene.parts) → (d : NodeId) → is_master scene (first_or d (replicas scene p)) p ≡ true
-row_first scene ok p e d = by_place p.0 refl
-  where
-    by_row : (row : List NodeId) → 1 ≤ length row → leads (first_or d row) row ≡ true
-    by_row [] l = absurd (omega (arith, l))
-    by_row (f ∷ fs) l = eq-eqb f.0 f.0 refl
-
-    by_place : (k : ℕ) → p.0 ≡ k → leads (first_or d (or_none (nth scene.parts p.0))) (or_none (nth scene.parts p.0)) ≡ true
-    by_place zero q = absurd (let l = e.0 in omega (arith, l, q))
-    by_place (suc c) q =
-        let l = e.1 in
-        let row = slice_get_there scene.parts c (omega (arith, l, q)) in
-        let is : nth scene.parts p.0 ≡ Some row.0 = ap (λ (z : ℕ). nth scene.parts z) q ∙ row.1 in
-        subst (λ o. leads (first_or d (or_none o)) (or_none o) ≡ true) (sym is) (by_row row.0 (ok.rows c row.0 row.1).some)
 
 module _ (scene : Scene) (ok : IsScene scene) (es : List Event) where
   -- a message was given, or not
@@ -320,24 +299,20 @@ module _ (scene : Scene) (ok : IsScene scene) (es : List Event) where
       read_under_way : ReadUnderWay scene (run scene es) (name_of (at_place scene n) i) k
       read_under_way =
           let rq = requests_sent scene es n i v x k there own e in
-          let m : Message = letter (at_place scene n) (master_of (at_place scene n) k) (ReadReq (name_of (at_place scene n) i) k rq.0) in
+          let m : Message = letter (at_place scene n) rq.0 (ReadReq (name_of (at_place scene n) i) k rq.1) in
           let at = at_in (run scene es).sent m rq.2 in
-          let key : k.0 < length scene.keys.names = ltb-true k.0 (length scene.keys.names) ((posted scene ok es).each m rq.2).names.1 in
-          let name = slice_get_there scene.keys.names k.0 key in
-          let part : part_of scene k ≡ name.0.1 = ap (λ o. named_part o) name.1 in
-          let ex : Exists (part_of scene k).0 (length scene.parts) = subst (λ (p : PartId). Exists p.0 (length scene.parts)) (sym part) (ok.table.keys k.0 name.0 name.1).part in
-          let ms : is_master scene (master_of (at_place scene n) k) (part_of scene k) ≡ true = row_first scene ok (part_of scene k) ex (record { 0 = n + 1 }) in
-          let hs : hosts scene (master_of (at_place scene n) k) (part_of scene k) ≡ true = master_hosts (record { scene = scene; node = master_of (at_place scene n) k }) (part_of scene k) ms in
-          let pl = place_of (master_of (at_place scene n) k) (host_exists scene ok (master_of (at_place scene n) k) (part_of scene k) hs) in
+          let ad = addressed m rq.2 (ReadReq (name_of (at_place scene n) i) k rq.1) refl in
+          let hs : hosts scene rq.0 (part_of scene k) ≡ true = master_hosts (record { scene = scene; node = rq.0 }) (part_of scene k) ad.1 in
+          let pl = place_of rq.0 (host_exists scene ok rq.0 (part_of scene k) hs) in
           let hs' : hosts_key (at_place scene pl.0) k ≡ true = subst (λ (s : NodeId). hosts scene s (part_of scene k) ≡ true) pl.1 hs in
-          let ms' : is_master scene (record { 0 = pl.0 + 1 }) (part_of scene k) ≡ true = subst (λ (s : NodeId). is_master scene s (part_of scene k) ≡ true) pl.1 ms in
-          let other : n + 1 ≢ pl.0 + 1 = (λ q. cc (rq.1, subst (λ (s : ℕ). hosts scene (record { 0 = s }) (part_of scene k) ≡ true) (sym q) hs')) in
+          let ms : is_master scene (record { 0 = pl.0 + 1 }) (part_of scene k) ≡ true = subst (λ (s : NodeId). is_master scene s (part_of scene k) ≡ true) pl.1 ad.1 in
+          let other : n + 1 ≢ pl.0 + 1 = (λ q. cc (ad.2, subst (λ (s : ℕ). hosts scene (record { 0 = s }) (part_of scene k) ≡ true) (sym q) hs')) in
           elim (flag at.0 m at.1) [
             | inl f ↦ ru_message (at.0, m, at.1, f, (refl, refl))
             | inr f ↦ (let g = given_at scene ok es at.0 pl.0 m f at.1 pl.1 pl.2 in
-                let w = request_judged scene ok es at.0 pl.0 m g pl.1 (name_of (at_place scene n) i) k rq.0 refl hs' other in
+                let w = request_judged scene ok es at.0 pl.0 m g pl.1 (name_of (at_place scene n) i) k rq.1 refl hs' other in
                 elim w.fact [
-                  | inl z ↦ (let c = at_in w.view.waiters (Read (name_of (at_place scene n) i) k z.0) z.1 in ru_waits pl.0 c.0 w.view z.0 ms' w.there c.1)
+                  | inl z ↦ (let c = at_in w.view.waiters (Read (name_of (at_place scene n) i) k z.0) z.1 in ru_waits pl.0 c.0 w.view z.0 ms w.there c.1)
                   | inr z ↦ replied z
                 ])
           ]
