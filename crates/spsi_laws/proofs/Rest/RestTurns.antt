@@ -44,7 +44,7 @@ use Rattle.str_model.proofs.Changes.VersionChanges.{Placed, by_master, by_slave,
 use Rattle.str_model.proofs.Changes.PairWords.{any_has}
 use Rattle.str_model.proofs.OwnFacts.LocalOwners.{Depends}
 use Rattle.str_model.proofs.OwnFacts.EarlierDependencies.{depends-act, earlier}
-use Rattle.str_model.proofs.ListCounts.{how_many, one_if}
+use Rattle.str_model.proofs.ListCounts.{how_many}
 use Rattle.std.proofs.lemmas.List.FromFn.{length-range_with_len}
 use Rattle.str_base.proofs.Members.{any_in, find_none, in_filter, in_flat_map, in_map, in_right, map_in}
 use Rattle.str_base.proofs.Tests.{and_true_right, or_false_right}
@@ -52,7 +52,7 @@ use Rattle.str_base.proofs.Lists.{get_set, get_set_other}
 use Rattle.str_base.specs.Members.{In}
 use Rattle.str_model.proofs.ViewFacts.GatesEnd.{gate_open, many_less, many_within}
 use Rattle.str_model.proofs.KindTests.{pre_kind}
-use Rattle.std.proofs.lemmas.Bool.{and_from, false_from_ne_true, or_from}
+use Rattle.std.proofs.lemmas.Bool.{and_from, or_from}
 
 -- it waits at its own node
 abbrev pub IsStuck : Phase → Type 0

@@ -1,5 +1,5 @@
 -- What was sent for a partition that is asked, for versions that are placed, and for a pair that is done.
-use Rattle.std.proofs.Common.{Bool, None, Some, [], ap, false, filter, inl, inr, map, refl, slice_get, slice_set, subst, subst₂, sym, true, ℕ, ◌++◌, ◌||◌, ◌∙◌, ◌∷◌, ◌≡◌, ◌⊎◌}
+use Rattle.std.proofs.Common.{Bool, None, Some, [], ap, false, filter, inl, inr, map, refl, slice_get, slice_set, subst, subst₂, sym, true, ℕ, ◌++◌, ◌||◌, ◌∙◌, ◌∷◌, ◌≡◌}
 use Rattle.partition_map.specs.declared.rows.Asked.{Asked}
 use Rattle.si_laws.specs.Laws.Presence.{Decides}
 use Rattle.str_base.specs.Versions.{of_pair, of_tx, same_part, settled, stamp, without}
