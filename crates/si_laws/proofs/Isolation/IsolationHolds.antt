@@ -26,7 +26,7 @@ use Rattle.str_base.specs.Versions.{stamp}
 use Rattle.str_base.specs.declared.names.Cause.TheVariants.{Wish}
 use Rattle.str_base.specs.declared.names.Cause.{Cause}
 use Rattle.str_base.specs.declared.names.KeyId.{KeyId}
-use Rattle.str_base.specs.declared.names.Kind.TheVariants.{Final, Local as LocalKind}
+use Rattle.str_base.specs.declared.names.Kind.TheVariants.{Local as LocalKind}
 use Rattle.str_base.specs.declared.names.NodeId.{NodeId}
 use Rattle.str_base.specs.declared.names.PartId.{PartId}
 use Rattle.str_base.specs.declared.names.Ts.{Ts}

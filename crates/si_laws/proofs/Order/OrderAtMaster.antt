@@ -13,9 +13,9 @@ use Rattle.str_model.proofs.Principle.Everywhere.{IsSeen, Stage, at_place, durin
 use Rattle.si_laws.specs.Commits.{seen}
 use Rattle.si_laws.specs.Laws.Apart.{IsOrdered, OnePre, OrderAtMaster, OrderHolds}
 use Rattle.si_laws.specs.Standing.{Begun}
-use Rattle.std.proofs.Common.{Bool, List, Some, [], ap, arith, eq-eqb, false, inl, inr, refl, replicate, slice_get, subst, subst₂, sym, true, ℕ, ◌+◌, ◌∙◌, ◌≡◌, ◌≢◌, ◌≤◌, ◌⊎◌}
-use Rattle.str_base.specs.Versions.{is_local, same_tx}
-use Rattle.str_base.specs.declared.names.Kind.TheVariants.{Final, Local as LocalKind, Pre}
+use Rattle.std.proofs.Common.{Bool, List, Some, [], ap, arith, false, inl, inr, refl, replicate, slice_get, subst, subst₂, sym, true, ℕ, ◌+◌, ◌∙◌, ◌≡◌, ◌≢◌, ◌≤◌}
+use Rattle.str_base.specs.Versions.{is_local}
+use Rattle.str_base.specs.declared.names.Kind.TheVariants.{Final, Local as LocalKind}
 use Rattle.str_base.specs.declared.names.Kind.{Kind}
 use Rattle.str_base.specs.declared.names.NodeId.{NodeId}
 use Rattle.str_base.specs.declared.names.TxId.{TxId}
@@ -29,7 +29,7 @@ use Rattle.str_model.specs.declared.messages.Waiter.TheVariants.{Held}
 use Rattle.str_scene.specs.SceneLimits.{IsScene}
 use Rattle.str_scene.specs.Scenes.{Scene, is_master, nth}
 use Rattle.str_scene.specs.declared.names.Event.{Event}
-use Rattle.str_base.proofs.SameNames.{cases_tx, is-same_tx, same_tx-is}
+use Rattle.str_base.proofs.SameNames.{cases_tx}
 use Rattle.str_base.proofs.Lists.{get_set, get_set_other, got_replicate, got_set}
 use Rattle.str_base.proofs.Members.{in_at}
 use Rattle.str_base.specs.Members.{In}

@@ -11,9 +11,8 @@ use Rattle.str_model.proofs.Principle.SingleChanges.{Act, Arrives, IsHere, Where
 use Rattle.str_model.proofs.Principle.Everywhere.{IsSeen, Stage, at_place, during}
 use Rattle.str_model.proofs.Changes.VersionsMet.{accept_met}
 use Rattle.std.proofs.Common.{List, Some, [], ap, arith, false, inl, inr, refl, slice_get, slice_set, subst, sym, true, ℕ, ◌+◌, ◌-◌, ◌∙◌, ◌∷◌, ◌≡◌, ◌≢◌, ◌⊎◌}
-use Rattle.str_base.specs.Versions.{is_undecided, of_pair, settled}
+use Rattle.str_base.specs.Versions.{of_pair, settled}
 use Rattle.str_base.specs.declared.names.Kind.TheVariants.{Final, Local as LocalKind, Pre}
-use Rattle.str_base.specs.declared.names.Kind.{Kind}
 use Rattle.str_base.specs.declared.names.NodeId.{NodeId}
 use Rattle.str_base.specs.declared.names.PartId.{PartId}
 use Rattle.str_base.specs.declared.names.Ts.{Ts}

@@ -13,7 +13,7 @@ use Rattle.str_model.specs.declared.messages.Body.TheVariants.{Abort, Ack, Commi
 use Rattle.str_model.specs.declared.messages.Input.{Input}
 use Rattle.str_model.specs.declared.messages.Input.TheVariants.{Deliver}
 use Rattle.str_model.specs.Moments.{moments_of}
-use Rattle.str_model.specs.Runs.{World, run}
+use Rattle.str_model.specs.Runs.{World}
 use Rattle.str_model.specs.Traces.{Happening, MomentAt, trace}
 use Rattle.str_model.specs.Views.{CertWait, Doing, Global, Own, Phase}
 use Rattle.str_model.proofs.Worked.Words.{add, c, d, everything, key, node, put, session, words}
@@ -96,7 +96,7 @@ came = refl
 -- one that was certified and aborts by a conflict at its own node was evicted by the one that is named
 certified_evicted : (scene : Scene) (w : World) (tr : List Happening) (j : ℕ) (t : TxId) (e : Doing) (x : Own) (u : TxId) (k : KeyId) (n : NodeId) (lc : ℕ) → x.phase ≡ Global lc → n ≡ t.node
     → TrueConflict scene w tr j t e x u k n → Evicted tr j e t u k
-certified_evicted scene w tr j t e x u k n lc p home c = elim c.1 [ inl a ↦ by_home a | inr r ↦ absurd (r.elsewhere home) ]
+certified_evicted scene w tr j t e x u k n lc p home c = elim c.2 [ inl a ↦ by_home a | inr r ↦ absurd (r.elsewhere home) ]
   where
     never : AsksToCommit scene tr j t x → ⊥
     never (at_end st q f g) = cc (p, q)

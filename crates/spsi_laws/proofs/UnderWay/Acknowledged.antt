@@ -1,5 +1,5 @@
 -- A participant whose Ack has come stays answered.
-use Rattle.std.proofs.Common.{Bool, List, None, Option, Some, [], ap, eq-eqb, eqb-true, false, if◌then◌else◌, inl, inr, is_some, map, not, option_map, refl, subst, sym, true, ℕ, ◌&&◌, ◌||◌, ◌∙◌, ◌∷◌, ◌≡◌, ◌⊎◌}
+use Rattle.std.proofs.Common.{Bool, List, None, Option, Some, [], ap, eq-eqb, eqb-true, false, inl, inr, is_some, not, option_map, refl, subst, sym, true, ℕ, ◌&&◌, ◌||◌, ◌∙◌, ◌∷◌, ◌≡◌, ◌⊎◌}
 use Rattle.partition_map.specs.declared.rows.Asked.{Asked}
 use Rattle.spsi_laws.proofs.UnderWay.OneOwn.{KeepsOne}
 use Rattle.str_base.specs.Versions.{same_node, same_part, stamp}
@@ -8,7 +8,6 @@ use Rattle.str_base.specs.declared.names.PartId.{PartId}
 use Rattle.str_model.proofs.Changes.OwnGoesOn.{puts_on}
 use Rattle.str_model.proofs.Changes.SnapshotsGain.{if_elim}
 use Rattle.str_model.proofs.Principle.SingleChanges.{AsksCommit, asks_again, asks_new}
-use Rattle.str_model.specs.Acts.{with_asked}
 use Rattle.str_model.specs.Returns.{with_ack}
 use Rattle.str_model.specs.Views.{Doing, Own, is_decided, lc_of}
 use Rattle.str_model.specs.declared.messages.Input.{Input}
@@ -28,7 +27,7 @@ abbrev pub AnsweredBy : PartId → NodeId → Own → Type 0
 AnsweredBy p r x = (is_decided x.phase ≡ true) ⊎ (((lc : ℕ) × (lc_of x.phase ≡ Some lc)) × HasAnswered x.parts p r)
 
 -- the test of an answer: an asked participant that has not answered
-ack_test : (a : Asked) (p : PartId) (n : NodeId) → Bool
+abbrev ack_test : Asked → PartId → NodeId → Bool
 ack_test a p n = same_part a.part p && (same_node a.node n && (a.asked && not (is_some a.ack)))
 
 ack_stays : (old new : List Asked) (p : PartId) (n : NodeId) (ts : ℕ) (b : Asked) → with_ack old p n ts ≡ Some new → In b old → is_some b.ack ≡ true → In b new
@@ -77,13 +76,11 @@ ack_none (a ∷ old) p n ts b e0 h0 part node asked_ =
     left_none (Some bs) e = absurd (cc e)
 
     by_ack : (c : Bool) → is_some b.ack ≡ c → ack_test b p n ≡ false → is_some b.ack ≡ true
-    unfolding ack_test
     by_ack true q t = q
     by_ack false q t =
         absurd (cc (t, and_from (same_part b.part p) _ (eq-eqb b.part.0 p.0 (ap (λ (z : PartId). z.0) part)) (and_from (same_node b.node n) _ (eq-eqb b.node.0 n.0 (ap (λ (z : NodeId). z.0) node)) (and_from b.asked (not (is_some b.ack)) asked_ (ap not q)))))
 
     first : (same_part a.part p && (same_node a.node n && (a.asked && not (is_some a.ack)))) ≡ false → a ≡ b → is_some b.ack ≡ true
-    unfolding ack_test
     first t q = by_ack (is_some b.ack) refl (subst (λ (z : Asked). (same_part z.part p && (same_node z.node n && (z.asked && not (is_some z.ack)))) ≡ false) q t)
 
 module _ (here : Here) (input : Input) (d : Doing) (p : PartId) (r : NodeId) where

@@ -1,6 +1,6 @@
 -- What was sent, in every state of a run: each partition that is asked was asked by a message, each version and each done pair of another node's transaction was
 -- answered for, and each message follows one that asks for it.
-use Rattle.std.proofs.Common.{Bool, List, None, Option, Some, [], ap, append_assoc, arith, eqb-true, false, filter, inl, inr, length, map, not, refl, slice_get, slice_set, subst, subst₂, sym, true, ℕ, ◌++◌, ◌+◌, ◌∙◌, ◌∷◌, ◌≡◌, ◌≢◌, ◌⊎◌}
+use Rattle.std.proofs.Common.{List, Some, [], ap, arith, eqb-true, filter, inl, inr, map, not, refl, slice_get, slice_set, subst, subst₂, sym, true, ℕ, ◌++◌, ◌+◌, ◌∙◌, ◌∷◌, ◌≡◌, ◌≢◌, ◌⊎◌}
 use Rattle.partition_map.specs.declared.rows.Asked.{Asked}
 use Rattle.si_laws.proofs.Stages.ParticipantSeats.{own_seat}
 use Rattle.si_laws.specs.Laws.Presence.{Decides}
@@ -154,7 +154,7 @@ module _ (scene : Scene) (s : Stage) (i : ℕ) (v : View) (input : Input) (w : W
   -- ---- each field
 
   post_follows : (m : Message) → In m e.sent → Post (at_place scene i) input d e m → Follows (s.sent ++ e.sent) m.body
-  post_follows m k (p_request j l to x own own') = tt
+  post_follows m k (p_request j l to x own own' aw) = tt
   post_follows m k (p_prepare j lc p x own l g t) = (m, newer m k, (refl, (refl, refl)))
   post_follows m k (p_replicate j lc p x r own l g t z) = (m, newer m k, (refl, (refl, refl)))
   post_follows m k (p_ack a ts pl) = lift (placed_asked a pl)
@@ -278,7 +278,7 @@ module _ (scene : Scene) (s : Stage) (i : ℕ) (v : View) (input : Input) (w : W
   no_request tx k (Ack t p ts) z r = absurd z
 
   new_requested : (m : Message) (n j : ℕ) (u : View) (k : KeyId) → Post (at_place scene i) input d e m → slice_get (slice_set s.nodes i e.view) n ≡ Some u → Requests (name_of (at_place scene n) j) k m.body → OneHas (λ x. Requested x k) j u
-  new_requested m n j u k (p_request c l to x own own') g r =
+  new_requested m n j u k (p_request c l to x own own' aw) g r =
       let node : i + 1 ≡ n + 1 = ap (λ (z : TxId). z.node.0) r.0 in
       let place : c + 1 ≡ j + 1 = ap (λ (z : TxId). z.seq) r.0 in
       let at : c ≡ j = omega (arith, place) in

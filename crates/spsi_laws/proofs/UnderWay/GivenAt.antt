@@ -1,5 +1,5 @@
 -- What holds once a message was given: the event that gave it judged it, and what it left stays.
-use Rattle.std.proofs.Common.{List, None, Option, Some, [], ap, arith, inl, inr, length, option_map, refl, slice_get, slice_set, subst, subst₂, suc, sym, true, zero, ℕ, ◌++◌, ◌+◌, ◌-◌, ◌<◌, ◌∙◌, ◌∷◌, ◌≡◌, ◌≢◌, ◌⊎◌}
+use Rattle.std.proofs.Common.{List, None, Option, Some, [], ap, arith, inl, inr, length, option_map, refl, slice_get, slice_set, subst, suc, sym, true, zero, ℕ, ◌++◌, ◌+◌, ◌-◌, ◌<◌, ◌∙◌, ◌∷◌, ◌≡◌}
 use Rattle.si_laws.proofs.Stages.LinkedStates.{one_of}
 use Rattle.si_laws.proofs.Stages.ParticipantSeats.{to_nth}
 use Rattle.spsi_laws.proofs.Rest.GivenBy.{given_by}
@@ -7,7 +7,7 @@ use Rattle.spsi_laws.proofs.UnderWay.ReadsWaiting.{by_steps}
 use Rattle.spsi_laws.proofs.UnderWay.ValidMessages.{posted}
 use Rattle.str_base.specs.declared.names.NodeId.{NodeId}
 use Rattle.str_model.proofs.Principle.Everywhere.{IsSeen, Stage, at_place, during, ever_after, run-append, stage_of}
-use Rattle.str_model.proofs.Principle.SingleChanges.{Act, InRule, InTurn, InWait, Where, along}
+use Rattle.str_model.proofs.Principle.SingleChanges.{Act, InTurn, InWait, Where, along}
 use Rattle.str_model.proofs.Principle.StepPaths.{turn-path, wait_turns-path}
 use Rattle.str_model.specs.Owned.{IsView}
 use Rattle.str_model.specs.Pass
@@ -25,8 +25,7 @@ use Rattle.str_scene.specs.Scenes.{Here, Scene, nth}
 use Rattle.str_scene.specs.declared.names.Event.{Event}
 use Rattle.str_scene.specs.declared.names.Event.TheVariants.{Deliver as DeliverEvent}
 use Rattle.str_base.proofs.Lists.{get_set, get_set_other, got_set, slice_get_there}
-use Rattle.str_base.proofs.Members.{in_at}
-use Rattle.str_base.specs.Members.{In}
+use Rattle.str_scene.proofs.Each.{get_left}
 
 -- the event by which the j-th message was given to the n-th node, both counted from 0
 pub record Given (scene : Scene) (es : List Event) (j : ℕ) (m : Message) (n : ℕ) : Type 0 where
@@ -36,11 +35,6 @@ pub record Given (scene : Scene) (es : List Event) (j : ℕ) (m : Message) (n : 
   pub sent : slice_get (run scene early).sent j ≡ Some m
   pub late : List Event
   pub final_ : run scene es ≡ run_from scene (Runs.stepped (DeliverEvent (j + 1)) n (give (j + 1) (run scene early)) (step (at_place scene n) (Deliver m) view)) late
-
-get_left : {A : Type 0} (xs ys : List A) (j : ℕ) (x : A) → slice_get xs j ≡ Some x → slice_get (xs ++ ys) j ≡ Some x
-get_left [] ys j x e = absurd (cc e)
-get_left (z ∷ xs) ys zero x e = e
-get_left (z ∷ xs) ys (suc j) x e = get_left xs ys j x e
 
 -- what was sent stays
 sent_stays : (scene : Scene) (w : World) (es : List Event) (j : ℕ) (m : Message) → slice_get w.sent j ≡ Some m → slice_get (run_from scene w es).sent j ≡ Some m

@@ -8,8 +8,7 @@ use Rattle.spsi_laws.proofs.UnderWay.OneOwn.{KeepsOne}
 use Rattle.str_model.proofs.Changes.SnapshotsGain.{if_elim}
 use Rattle.str_model.proofs.Principle.SingleChanges.{AsksCommit, Change, Reads, asks_again, asks_new, ch_away, ch_blind, ch_close, ch_gate, ch_known, ch_read, ch_reply, ch_resolve, ch_take, ch_wait, reads_again, reads_new}
 use Rattle.str_model.specs.NodeFacts.{Needy}
-use Rattle.str_model.specs.Scripts.{finish, finish_next, found_read, found_write, known, noted, or_else, own_op}
-use Rattle.str_model.specs.Scripts
+use Rattle.str_model.specs.Scripts.{finish, finish_next, found_read, found_write, noted, or_else, own_op}
 use Rattle.str_base.specs.Values.{is_below}
 use Rattle.str_model.specs.Views.{Active, Closing, Doing, Own, Phase, Remote, Reply, is_decided, lc_of}
 use Rattle.str_model.specs.declared.messages.Input.{Input}

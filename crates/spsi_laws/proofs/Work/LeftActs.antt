@@ -11,10 +11,8 @@ use Rattle.str_base.specs.declared.names.KeyId.{KeyId}
 use Rattle.str_base.specs.declared.names.NodeId.{NodeId}
 use Rattle.str_base.specs.declared.names.PartId.{PartId}
 use Rattle.dependency_set.specs.Snapshots.{Snap}
-use Rattle.dependency_set.specs.declared.names.Dep.{Dep}
 use Rattle.str_model.specs.Acts.{abort_letters, aborted, ask_letters, asked, asked_ones, certified, closed, commit_letters, committed, decided_as, in_phase, marked, marks_in, requested, with_asked}
-use Rattle.str_model.specs.Gates.{Ask, DepParts, GateTurn, gate_turn}
-use Rattle.str_model.specs.Gates
+use Rattle.str_model.specs.Gates.{Ask, DepParts, gate_turn}
 use Rattle.str_model.specs.Views.{Aborted, Committed, Doing, Global, Local, Own, Remote, is_decided, lc_of, letter, name_of, put}
 use Rattle.str_model.specs.Work.{body_weight, view_left, waiter_left}
 use Rattle.str_model.specs.declared.messages.Body.TheVariants.{Abort, Commit, Prepare, ReadReq, Replicate}
@@ -24,10 +22,7 @@ use Rattle.str_scene.specs.declared.names.TxPlace.{TxPlace}
 use Rattle.str_scene.specs.Scenes.{Here, Scene, first_or, leads, others, participants, replicas}
 use Rattle.str_model.proofs.OwnFacts.ScriptsCovered.{ScriptGood}
 use Rattle.str_model.proofs.OwnFacts.AtHome.{OwnGood}
-use Rattle.str_base.proofs.Tests.{and_true_left}
 use Rattle.str_base.proofs.Lists.{sum_by-set_got}
-use Rattle.str_base.specs.Members.{In}
-use Rattle.std.proofs.lemmas.Bool.{not-true}
 use Rattle.str_model.proofs.ViewFacts.GatesEnd.{gate_open}
 
 -- what messages count for

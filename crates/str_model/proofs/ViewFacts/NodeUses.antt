@@ -1,9 +1,9 @@
 -- What the facts of a view give where a step reads, certifies, places and takes out.
-use Rattle.std.proofs.Common.{Bool, List, None, Some, add-sub_cancel, ap, arith, eq-eqb, eqb-true, false, inr, length, ltb-true, refl, slice_get, subst, sym, true, ℕ, ◌&&◌, ◌+◌, ◌-◌, ◌<◌, ◌==◌, ◌∙◌, ◌≡◌, ◌≤◌}
+use Rattle.std.proofs.Common.{List, None, Some, add-sub_cancel, ap, arith, eq-eqb, eqb-true, false, inr, length, ltb-true, refl, slice_get, subst, sym, true, ℕ, ◌&&◌, ◌+◌, ◌-◌, ◌<◌, ◌==◌, ◌∙◌, ◌≡◌, ◌≤◌}
 use Rattle.std.proofs.lemmas.Option.{slice_get_within}
 use Rattle.std.specs.List.{list_any}
 use Rattle.dependency_set.specs.declared.names.Dep.{Dep}
-use Rattle.str_base.specs.declared.names.Kind.TheVariants.{Final, Local as LocalKind, Pre}
+use Rattle.str_base.specs.declared.names.Kind.TheVariants.{Local as LocalKind}
 use Rattle.str_base.specs.declared.names.PartId.{PartId}
 use Rattle.str_base.specs.declared.names.TxId.{TxId}
 use Rattle.str_base.specs.declared.names.Version.{Version}
