@@ -1,5 +1,7 @@
 -- The judgement of versions, one after the other.
-use Rattle.std.proofs.Common.{Bool, Err, List, None, Ok, Option, Result, Some, [], arith, drop, false, if◌then◌else◌, length, ltb-false, nat_lt, refl, slice_get, suc, sym, true, zero, ℕ, ◌+◌, ◌-◌, ◌<◌, ◌∙◌, ◌∷◌, ◌≡◌, ◌||◌}
+use Rattle.std.proofs.Common.{Bool, Err, List, None, Ok, Option, Result, Some, [], arith, drop, false, if◌then◌else◌, ltb-false, nat_lt, refl, slice_get, suc, sym, true, zero, ℕ, ◌+◌, ◌-◌, ◌<◌, ◌∙◌, ◌∷◌, ◌≡◌, ap}
+use Rattle.str_base.proofs.Tests.{or_false_right}
+use Rattle.str_base.proofs.Lists.{drop_none, drop_there}
 use Rattle.dependency_set.specs.declared.snaps.OwnSnap.{OwnSnap}
 use Rattle.dependency_set.specs.Snapshots.{Snap}
 use Rattle.local_certify.specs.Judging.{after, join_one, judged, judged_all}
@@ -19,22 +21,7 @@ use Rattle.version_chain.specs.ChainLists.{Each}
 
 -- the rest from the place of an item
 drop_at : (xs : List Version) (i : ℕ) (v : Version) → slice_get xs i ≡ Some v → drop i xs ≡ v ∷ drop (i + 1) xs
-drop_at [] i v e = absurd (cc e)
-drop_at (x ∷ xs) zero v e = let same : x ≡ v = cc e in rw same refl
-drop_at (x ∷ xs) (suc i) v e = let n : suc i + 1 ≡ suc (i + 1) = omega arith in rw n (drop_at xs i v e)
-
--- nothing is left past the end
-drop_end : (xs : List Version) (i : ℕ) → slice_get xs i ≡ None → drop i xs ≡ []
-drop_end [] zero e = refl
-drop_end [] (suc i) e = refl
-drop_end (x ∷ xs) zero e = absurd (cc e)
-drop_end (x ∷ xs) (suc i) e = drop_end xs i e
-
--- an item is within
-pub within : (xs : List Version) (i : ℕ) (v : Version) → slice_get xs i ≡ Some v → i < length xs
-within [] i v e = absurd (cc e)
-within (x ∷ xs) zero v e = omega arith
-within (x ∷ xs) (suc i) v e = omega (arith, within xs i v e)
+drop_at xs i v e = let s : suc i ≡ i + 1 = omega arith in drop_there xs i v e ∙ ap (λ k. v ∷ drop k xs) s
 
 -- the measure falls
 pub falls : (n i : ℕ) → i < n → n - (i + 1) < n - i
@@ -61,18 +48,14 @@ next_joins own rs xs i v cur start next h e c j = rw j (rw c at rw (drop_at xs i
 -- there is no next one
 pub none_left : (own : List OwnSnap) (rs : ℕ) (xs : List Version) (i : ℕ) (cur start : Snap) → judged own rs (drop i xs) cur ≡ judged own rs xs start
     → None ≡ slice_get xs i → Ok cur ≡ judged own rs xs start
-none_left own rs xs i cur start h e = rw (drop_end xs i (sym e)) at h
-
-second_false : (p q : Bool) → (p || q) ≡ false → q ≡ false
-second_false true q e = absurd (cc e)
-second_false false q e = e
+none_left own rs xs i cur start h e = rw (drop_none xs i (sym e)) at h
 
 -- of a Local version that is no conflict all is told
 pub told_of : (own : List OwnSnap) (rs : ℕ) (b : Bool) (store cache : List Version) (k : KeyId) (i : ℕ) (v : Version) → AreTold own rs store cache
     → Some v ≡ slice_get (chain k (of_key b store cache)) i → conflicts rs v ≡ false → is_local v.kind ≡ true → OthersNamed own v.tx.seq
 told_of own rs b store cache k i v a e c l =
     let t = each_get (IsTold own rs) (chain k (of_key b store cache)) i v (each_kept (λ w. same_key w.key k) (IsTold own rs) (of_key b store cache) (each_of (IsTold own rs) b store cache a.0 a.1)) (sym e) in
-    t.others l (ltb-false rs v.ts.0 (second_false (is_pre v.kind) (nat_lt rs v.ts.0) c))
+    t.others l (ltb-false rs v.ts.0 (or_false_right (is_pre v.kind) (nat_lt rs v.ts.0) c))
 
 -- ---- the timestamp of the snapshot stays
 

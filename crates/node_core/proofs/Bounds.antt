@@ -12,7 +12,7 @@ use Rattle.str_model.specs.Views.{Own, View}
 use Rattle.node_core.proofs.Chains.{last_time, last_time-none}
 use Rattle.str_base.specs.declared.names.NodeId.{NodeId}
 use Rattle.str_base.specs.Versions.{insert_all}
-use Rattle.str_model.specs.Acts.{in_phase}
+use Rattle.str_model.specs.Acts.{decided_as}
 use Rattle.str_model.specs.Views.{Committed}
 use Rattle.node_core.specs.declared.turns.Turn.TheVariants.{Commit}
 use Rattle.node_core.specs.NodeTurns.{certify_turn, commit_turn, commit_view, one_version, with_own}
@@ -91,7 +91,7 @@ commit_is i x own v n found k h f g e =
 -- the view after a commit in three steps
 pub commit_view_is : (node : NodeId) (i lc : ℕ) (x : Own) (ws : List Write) (v v1 v2 v3 : View) → slice_get v.own i ≡ Some x → ws ≡ x.writes
     → v1 ≡ record v { versions = insert_all (map (one_version node i lc) ws) v.versions } → v2 ≡ record v1 { floor = max v1.floor lc }
-    → ((y : Own) → slice_get v2.own i ≡ Some y → v3 ≡ with_own i (in_phase (Committed (Some lc) (Some lc)) y) v2)
+    → ((y : Own) → slice_get v2.own i ≡ Some y → v3 ≡ with_own i (decided_as (Committed (Some lc) (Some lc)) y) v2)
     → v3 ≡ commit_view node i lc (slice_get v.own i) v
 commit_view_is node i lc x ws v v1 v2 v3 e w a b h =
     let g : slice_get v2.own i ≡ Some x = rw (b, a) e in

@@ -10,7 +10,7 @@ use Rattle.str_model.specs.declared.messages.Outcome.TheVariants.{Aborted as Abo
 use Rattle.node_core.specs.FirstSteps.{aborted_at_once, committed_at_once, final_version}
 use Rattle.node_core.specs.FirstViews.{IsFirstView}
 use Rattle.str_base.specs.Versions.{insert_all, of_tx, same_node, settled, stamp, without}
-use Rattle.str_model.specs.Acts.{abort_letters, aborted, answer_of, certified, closed, committed, decided_versions, in_phase, is_hosted_of, local_version, marks_in}
+use Rattle.str_model.specs.Acts.{abort_letters, aborted, answer_of, certified, closed, committed, decided_as, decided_versions, in_phase, is_hosted_of, local_version, marks_in}
 use Rattle.str_model.specs.Steps.{after_rule}
 use Rattle.str_model.specs.Views.{Aborted, Closing, Committed, Doing, Local, Own, View, lc_of, letter, name_of, put, starts}
 use Rattle.str_scene.specs.FirstScenes.{IsFirst}
@@ -24,8 +24,9 @@ use Rattle.node_core.proofs.FirstScripts.{key_hosted, participants_none}
 use Rattle.node_core.proofs.Ordered.{and_cases, and_true, in_order_sorted}
 use Rattle.node_core.proofs.Places.{got_below, set_length, set_set}
 use Rattle.node_core.proofs.Settling.{AllApart, Differ, filter-insert_all_other, filter-insert_all_own, filter_all, filter_none, settled_insert_all}
-use Rattle.str_model.proofs.Lists.Members.{In, at_in, in_map}
-use Rattle.str_model.proofs.Lists.ListReads.{get_set, get_set_other}
+use Rattle.str_base.proofs.Lists.{get_set, get_set_other}
+use Rattle.str_base.proofs.Members.{at_in, in_map}
+use Rattle.str_base.specs.Members.{In}
 
 -- a map of a map
 map_map : {A B C : Type 0} (g : B → C) (k : A → B) (xs : List A) → map g (map k xs) ≡ map (λ x. g (k x)) xs
@@ -105,7 +106,7 @@ module _ (scene : Scene) (v : View) (is : IsScene scene) (f : IsFirst scene) (h 
       made : List Version → List Message → Option ℕ → Doing
       made vs ms lc =
           record {
-            view = record v { versions = vs; own = slice_set v.own i (in_phase (Aborted lc cause) x) };
+            view = record v { versions = vs; own = slice_set v.own i (decided_as (Aborted lc cause) x) };
             sent = ms;
             released = answer_of (first_here scene) i x (Aborts cause) ∷ [];
             added = 0;
@@ -153,8 +154,8 @@ module _ (scene : Scene) (v : View) (is : IsScene scene) (f : IsFirst scene) (h 
       ap (λ fc. made (decided_versions (first_here scene) (name_of (first_here scene) i) fc locals) (max (max v.floor lc) fc) fc (twice fc) (letters fc x.parts)) zero_below
       ∙ (ap (λ vs. made vs (max (max v.floor lc) lc) lc (twice lc) (letters lc x.parts)) (versions_settle i lc x g)
       ∙ (ap (λ n. made finals n lc (twice lc) (letters lc x.parts)) floor_once
-      ∙ (ap (λ xs. made finals (max v.floor lc) lc xs (letters lc x.parts)) (set_set v.own i (in_phase (Local lc) x) (in_phase (Committed (Some lc) (Some lc)) x))
-      ∙ ap (λ ps. made finals (max v.floor lc) lc (slice_set v.own i (in_phase (Committed (Some lc) (Some lc)) x)) (letters lc ps)) (h.own i x g.at_).parts)))
+      ∙ (ap (λ xs. made finals (max v.floor lc) lc xs (letters lc x.parts)) (set_set v.own i (in_phase (Local lc) x) (decided_as (Committed (Some lc) (Some lc)) x))
+      ∙ ap (λ ps. made finals (max v.floor lc) lc (slice_set v.own i (decided_as (Committed (Some lc) (Some lc)) x)) (letters lc ps)) (h.own i x g.at_).parts)))
     where
       locals : List Version
       locals = insert_all (map (local_version (first_here scene) i lc) x.writes) v.versions
@@ -163,7 +164,7 @@ module _ (scene : Scene) (v : View) (is : IsScene scene) (f : IsFirst scene) (h 
       finals = insert_all (map (final_version (first_here scene) i lc) x.writes) v.versions
 
       twice : ℕ → List Own
-      twice fc = slice_set (slice_set v.own i (in_phase (Local lc) x)) i (in_phase (Committed (Some lc) (Some fc)) x)
+      twice fc = slice_set (slice_set v.own i (in_phase (Local lc) x)) i (decided_as (Committed (Some lc) (Some fc)) x)
 
       letters : ℕ → List Asked → List Message
       letters fc ps =
@@ -202,7 +203,7 @@ module _ (scene : Scene) (v : View) (is : IsScene scene) (f : IsFirst scene) (h 
   -- the closing of a closing transaction is that of the transaction as it was
   closed_is : (i : ℕ) (x : Own) → closed (first_here scene) i (in_phase (Closing false) x) (put i (in_phase (Closing false) x) (starts v)) ≡ closed (first_here scene) i x (starts v)
   unfolding closed
-  closed_is i x = ap (λ own. made own) (set_set v.own i (in_phase (Closing false) x) (in_phase (Committed None None) x))
+  closed_is i x = ap (λ own. made own) (set_set v.own i (in_phase (Closing false) x) (decided_as (Committed None None) x))
     where
       made : List Own → Doing
       made own = record { view = record v { own = own }; sent = []; released = answer_of (first_here scene) i x (Commits None x.gets) ∷ []; added = 0 }

@@ -8,7 +8,7 @@ use Rattle.str_scene.specs.declared.names.Op.{Op}
 use Rattle.str_scene.specs.declared.names.TxPlace.{TxPlace}
 use Rattle.node_core.specs.FirstSteps.{committed_at_once, first_step}
 use Rattle.node_core.specs.FirstViews.{IsFirstView}
-use Rattle.str_model.specs.Acts.{begun, closed, fresh, in_phase}
+use Rattle.str_model.specs.Acts.{begun, closed, decided_as, fresh}
 use Rattle.str_model.specs.Clients.{of_session, reading_limit}
 use Rattle.str_model.specs.Runs.{World}
 use Rattle.str_model.specs.Views.{Aborted, Active, Committed, Doing, Own, View, is_certified, is_decided, starts}
@@ -222,10 +222,10 @@ module _ (scene : Scene) (v : View) (is : IsScene scene) (f : IsFirst scene) whe
   unfolding begun closed
   does_less d (begins place t ops s n) = begun_less place (max (min t reading_limit) v.floor) ops s n
   does_less d (goes_on i x y marks g m o a) = moved_less (went_on v i y marks).view i x y g m refl refl
-  does_less d (closes i x g e) = decided_less (record v { own = slice_set v.own i (in_phase (Committed None None) x) }) i x (in_phase (Committed None None) x) g refl refl refl refl
-  does_less d (conflicts_ i x cause g) = decided_less (record v { own = slice_set v.own i (in_phase (Aborted None cause) x) }) i x (in_phase (Aborted None cause) x) g refl refl refl refl
+  does_less d (closes i x g e) = decided_less (record v { own = slice_set v.own i (decided_as (Committed None None) x) }) i x (decided_as (Committed None None) x) g refl refl refl refl
+  does_less d (conflicts_ i x cause g) = decided_less (record v { own = slice_set v.own i (decided_as (Aborted None cause) x) }) i x (decided_as (Aborted None cause) x) g refl refl refl refl
   does_less d (commits i x g) =
-      decided_less (committed_at_once (first_here scene) i (next_time v x) x (starts v)).view i x (in_phase (Committed (Some (next_time v x)) (Some (next_time v x))) x) g refl refl refl refl
+      decided_less (committed_at_once (first_here scene) i (next_time v x) x (starts v)).view i x (decided_as (Committed (Some (next_time v x)) (Some (next_time v x))) x) g refl refl refl refl
 
 -- a step leaves less to be done
 pub first_left : (scene : Scene) (input : Input) (v : View) (d : Doing) (w w' : World) → IsScene scene → IsFirst scene → IsFirstView scene v

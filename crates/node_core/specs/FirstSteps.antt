@@ -16,7 +16,7 @@ use Rattle.str_scene.specs.declared.names.Op.{Op}
 use Rattle.str_scene.specs.declared.names.Op.TheVariants.{Get, Put}
 use Rattle.dependency_set.specs.Snapshots.{accept_final}
 use Rattle.str_base.specs.Versions.{insert_all, same_node, settled, stamp, visible}
-use Rattle.str_model.specs.Acts.{answer_of, closed, in_phase, local_version, marked}
+use Rattle.str_model.specs.Acts.{answer_of, closed, decided_as, local_version, marked}
 use Rattle.str_model.specs.Clients.{begin, last_index, of_session, place_in}
 use Rattle.str_model.specs.Scripts.{finish, known, noted, own_op, wrote}
 use Rattle.str_model.specs.Turns.{conflicts, met, passed}
@@ -34,7 +34,7 @@ committed_at_once here i lc x d =
       view = record (d.view) {
         versions = insert_all (map (final_version here i lc) x.writes) d.view.versions;
         floor = max d.view.floor lc;
-        own = slice_set d.view.own i (in_phase (Committed (Some lc) (Some lc)) x);
+        own = slice_set d.view.own i (decided_as (Committed (Some lc) (Some lc)) x);
       };
       released = release (answer_of here i x (Commits (Some (stamp lc)) x.gets)) d.released;
       added = d.added + length x.writes;
@@ -44,7 +44,7 @@ committed_at_once here i lc x d =
 abbrev pub aborted_at_once : Here → ℕ → Cause → Own → Doing → Doing
 aborted_at_once here i cause x d =
     record d {
-      view = record (d.view) { own = slice_set d.view.own i (in_phase (Aborted None cause) x) };
+      view = record (d.view) { own = slice_set d.view.own i (decided_as (Aborted None cause) x) };
       released = release (answer_of here i x (Aborts cause)) d.released;
     }
 

@@ -20,7 +20,7 @@ use Rattle.str_model.specs.declared.messages.Input.{Input}
 use Rattle.str_model.specs.declared.messages.Input.TheVariants.{Client, Deliver}
 use Rattle.str_model.specs.declared.messages.Outcome.{Outcome}
 use Rattle.str_model.specs.declared.messages.Outcome.TheVariants.{Aborted as Aborts, Committed as Commits}
-use Rattle.str_model.specs.Acts.{fresh, in_phase}
+use Rattle.str_model.specs.Acts.{decided_as, fresh}
 use Rattle.str_model.specs.Clients.{last_index, of_session, place_in, reading_limit}
 use Rattle.str_model.specs.Scripts.{finish, known, own_op, wrote}
 use Rattle.str_model.specs.Turns.{conflicts, met, passed}
@@ -132,7 +132,7 @@ commit_view node i lc (Some x) v =
     record v {
       versions = insert_all (map (one_version node i lc) x.writes) v.versions;
       floor = max v.floor lc;
-      own = slice_set v.own i (in_phase (Committed (Some lc) (Some lc)) x);
+      own = slice_set v.own i (decided_as (Committed (Some lc) (Some lc)) x);
     }
 
 -- the view after a step
@@ -143,8 +143,8 @@ turn_view node (Begin place rs) v = record v { floor = rs.0; own = v.own ++ fres
 turn_view node (Put i k n) v = changed i (wrote k (Num n)) (slice_get v.own i) v
 turn_view node (Know i k u) v = changed i (finish (GetOp k) u) (slice_get v.own i) v
 turn_view node (Read i k found) v = read_view i k found (slice_get v.own i) v
-turn_view node (Close i) v = changed i (in_phase (Committed None None)) (slice_get v.own i) v
-turn_view node (Refuse i by k) v = changed i (in_phase (Aborted None (ByConflict by k node))) (slice_get v.own i) v
+turn_view node (Close i) v = changed i (decided_as (Committed None None)) (slice_get v.own i) v
+turn_view node (Refuse i by k) v = changed i (decided_as (Aborted None (ByConflict by k node))) (slice_get v.own i) v
 turn_view node (Commit i lc) v = commit_view node i lc.0 (slice_get v.own i) v
 
 -- the answer of an own transaction

@@ -1,32 +1,15 @@
 -- Lists that are walked from place to place, and tests that run over them.
-use Rattle.std.proofs.Common.{Bool, List, None, Option, Some, [], arith, drop, false, find, get_or, if◌then◌else◌, length, ap, refl, slice_get, suc, sym, true, zero, ℕ, ◌++◌, ◌+◌, ◌<◌, ◌∙◌, ◌∷◌, ◌≡◌}
+use Rattle.std.proofs.Common.{Bool, List, None, Option, Some, [], arith, drop, false, find, get_or, if◌then◌else◌, length, ap, refl, slice_get, suc, sym, true, ℕ, ◌++◌, ◌+◌, ◌<◌, ◌∙◌, ◌∷◌, ◌≡◌}
+use Rattle.std.proofs.lemmas.List.{drop_more}
+use Rattle.str_base.proofs.Lists.{drop_none, drop_there}
 use Rattle.str_base.specs.declared.names.Version.{Version}
 use Rattle.str_base.specs.declared.names.Write.{Write}
 use Rattle.str_base.specs.Versions.{chain}
 use Rattle.str_model.specs.Turns.{met}
-use Rattle.version_chain.proofs.Lists.{at_place}
-
--- past the end nothing is left
-pub nothing_left : {A : Type 0} (xs : List A) (i : ℕ) → slice_get xs i ≡ None → drop i xs ≡ []
-nothing_left [] zero e = refl
-nothing_left [] (suc i) e = refl
-nothing_left (x ∷ xs) zero e = absurd cc
-nothing_left (x ∷ xs) (suc i) e = nothing_left xs i e
 
 -- a place and what follows it
 pub one_left : {A : Type 0} (xs : List A) (i j : ℕ) (x : A) → slice_get xs i ≡ Some x → j ≡ i + 1 → drop i xs ≡ x ∷ drop j xs
-one_left [] i j x e q = absurd cc
-one_left (y ∷ xs) zero zero x e q = absurd (omega arith)
-one_left (y ∷ xs) zero (suc zero) x e q = let h : y ≡ x = cc e in rw h refl
-one_left (y ∷ xs) zero (suc (suc j)) x e q = absurd (omega arith)
-one_left (y ∷ xs) (suc i) zero x e q = absurd (omega arith)
-one_left (y ∷ xs) (suc i) (suc j) x e q = one_left xs i j x e (omega arith)
-
--- a place that is there is within
-pub place_within : {A : Type 0} (xs : List A) (i : ℕ) (x : A) → slice_get xs i ≡ Some x → i < length xs
-place_within [] i x e = absurd cc
-place_within (y ∷ xs) zero x e = omega arith
-place_within (y ∷ xs) (suc i) x e = let h = place_within xs i x e in omega arith
+one_left xs i j x e q = let s : suc i ≡ j = omega (arith, q) in drop_there xs i x e ∙ ap (λ k. x ∷ drop k xs) s
 
 -- the first that passes stands in the first list
 pub found_first : {A : Type 0} (p : A → Bool) (xs ys : List A) (v : A) → find p xs ≡ Some v → find p (xs ++ ys) ≡ Some v
@@ -56,7 +39,7 @@ passed_by p xs i x e t q = let h : find p (x ∷ drop (i + 1) xs) ≡ find p (dr
 
 -- none passes
 pub none_passes : {A : Type 0} (p : A → Bool) (xs : List A) (i : ℕ) → slice_get xs i ≡ None → find p (drop i xs) ≡ find p xs → None ≡ find p xs
-none_passes p xs i e q = ap (λ ys. find p ys) (sym (nothing_left xs i e)) ∙ q
+none_passes p xs i e q = ap (λ ys. find p ys) (sym (drop_none xs i e)) ∙ q
 
 -- ---- the versions of written keys
 
@@ -64,10 +47,10 @@ none_passes p xs i e q = ap (λ ys. find p ys) (sym (nothing_left xs i e)) ∙ q
 pub first_met : (p : Version → Bool) (ws : List Write) (vs : List Version) (i : ℕ) (d : Write) (v : Version) (f : Option Version) → i < length ws
     → find p (chain (get_or ws i d).key vs) ≡ Some v → find p (met (drop i ws) vs) ≡ f → Some v ≡ f
 first_met p ws vs i d v f l e q =
-    sym (found_first p (chain (get_or ws i d).key vs) (met (drop (i + 1) ws) vs) v e) ∙ ap (λ us. find p (met us vs)) (sym (at_place ws i (i + 1) d l refl)) ∙ q
+    sym (found_first p (chain (get_or ws i d).key vs) (met (drop (i + 1) ws) vs) v e) ∙ ap (λ us. find p (met us vs)) (sym (drop_more ws i d l)) ∙ q
 
 -- none of the key at this place passes
 pub next_met : (p : Version → Bool) (ws : List Write) (vs : List Version) (i : ℕ) (d : Write) (f : Option Version) → i < length ws
     → find p (chain (get_or ws i d).key vs) ≡ None → find p (met (drop i ws) vs) ≡ f → find p (met (drop (i + 1) ws) vs) ≡ f
 next_met p ws vs i d f l e q =
-    sym (found_later p (chain (get_or ws i d).key vs) (met (drop (i + 1) ws) vs) e) ∙ ap (λ us. find p (met us vs)) (sym (at_place ws i (i + 1) d l refl)) ∙ q
+    sym (found_later p (chain (get_or ws i d).key vs) (met (drop (i + 1) ws) vs) e) ∙ ap (λ us. find p (met us vs)) (sym (drop_more ws i d l)) ∙ q

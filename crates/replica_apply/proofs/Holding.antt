@@ -1,7 +1,10 @@
 -- Whether one of the versions passes a test, and which written key a transaction holds.
-use Rattle.std.proofs.Common.{Bool, List, None, Option, Some, [], ap, drop, false, get_or, if◌then◌else◌, is_some, length, refl, slice_get, sym, true, ℕ, ◌&&◌, ◌++◌, ◌+◌, ◌<◌, ◌∙◌, ◌∷◌, ◌≡◌, ◌||◌}
+use Rattle.std.proofs.Common.{Bool, List, None, Option, Some, [], ap, drop, false, get_or, if◌then◌else◌, is_some, length, refl, slice_get, sym, true, ℕ, ◌&&◌, ◌+◌, ◌<◌, ◌∙◌, ◌∷◌, ◌≡◌, ◌||◌}
+use Rattle.std.proofs.lemmas.List.Folds.{list_any-append}
+use Rattle.std.proofs.lemmas.List.{drop_more}
+use Rattle.str_base.proofs.Lists.{drop_none}
 use Rattle.std.specs.List.{list_any}
-use Rattle.prepare_master.proofs.Walking.{nothing_left, one_left}
+use Rattle.prepare_master.proofs.Walking.{one_left}
 use Rattle.replica_apply.specs.Slaves.{is_local_of}
 use Rattle.str_base.specs.declared.names.KeyId.{KeyId}
 use Rattle.str_base.specs.declared.names.TxId.{TxId}
@@ -10,7 +13,6 @@ use Rattle.str_base.specs.declared.names.Write.{Write}
 use Rattle.str_base.specs.Versions.{chain, same_key}
 use Rattle.str_model.specs.Arrivals.{held_key}
 use Rattle.str_model.specs.Turns.{met}
-use Rattle.version_chain.proofs.Lists.{at_place}
 
 -- ---- one of a list
 
@@ -26,16 +28,7 @@ any_passed p xs i x e t q =
 
 -- none passes
 pub any_none : {A : Type 0} (p : A → Bool) (xs : List A) (i : ℕ) → slice_get xs i ≡ None → list_any p (drop i xs) ≡ list_any p xs → false ≡ list_any p xs
-any_none p xs i e q = ap (λ ys. list_any p ys) (sym (nothing_left xs i e)) ∙ q
-
--- one of two lists
-pub any_append : {A : Type 0} (p : A → Bool) (xs ys : List A) → list_any p (xs ++ ys) ≡ (list_any p xs || list_any p ys)
-any_append p [] ys = refl
-any_append p (x ∷ xs) ys = by_test (p x) (any_append p xs ys)
-  where
-    by_test : (b : Bool) → list_any p (xs ++ ys) ≡ (list_any p xs || list_any p ys) → (b || list_any p (xs ++ ys)) ≡ ((b || list_any p xs) || list_any p ys)
-    by_test true rec = refl
-    by_test false rec = rec
+any_none p xs i e q = ap (λ ys. list_any p ys) (sym (drop_none xs i e)) ∙ q
 
 -- one of a key
 pub any_chain : (p : Version → Bool) (k : KeyId) (vs : List Version) → list_any (λ v. same_key v.key k && p v) vs ≡ list_any p (chain k vs)
@@ -71,19 +64,19 @@ module _ (vs : List Version) (tx : TxId) where
       → held_key vs tx (drop i ws) ≡ o → Some (get_or ws i d) ≡ o
   held_here ws i d o l t q =
       sym (ap (λ b. if b then Some (get_or ws i d) else held_key vs tx (drop (i + 1) ws)) t) ∙ sym (held_first (get_or ws i d) (drop (i + 1) ws))
-      ∙ ap (λ us. held_key vs tx us) (sym (at_place ws i (i + 1) d l refl)) ∙ q
+      ∙ ap (λ us. held_key vs tx us) (sym (drop_more ws i d l)) ∙ q
 
   -- the key at this place is not held
   pub held_later : (ws : List Write) (i : ℕ) (d : Write) (o : Option Write) → i < length ws → list_any (is_local_of tx) (chain (get_or ws i d).key vs) ≡ false
       → held_key vs tx (drop i ws) ≡ o → held_key vs tx (drop (i + 1) ws) ≡ o
   held_later ws i d o l t q =
       sym (ap (λ b. if b then Some (get_or ws i d) else held_key vs tx (drop (i + 1) ws)) t) ∙ sym (held_first (get_or ws i d) (drop (i + 1) ws))
-      ∙ ap (λ us. held_key vs tx us) (sym (at_place ws i (i + 1) d l refl)) ∙ q
+      ∙ ap (λ us. held_key vs tx us) (sym (drop_more ws i d l)) ∙ q
 
   -- a key is held where there is a Local version of one of them
   pub held_met : (ws : List Write) → is_some (held_key vs tx ws) ≡ list_any (is_local_of tx) (met ws vs)
   held_met [] = refl
-  held_met (w ∷ ws) = ap (λ o. is_some o) (held_first w ws) ∙ by_test (list_any (is_local_of tx) (chain w.key vs)) (held_met ws) ∙ sym (any_append (is_local_of tx) (chain w.key vs) (met ws vs))
+  held_met (w ∷ ws) = ap (λ o. is_some o) (held_first w ws) ∙ by_test (list_any (is_local_of tx) (chain w.key vs)) (held_met ws) ∙ sym (list_any-append (is_local_of tx) (chain w.key vs) (met ws vs))
     where
       by_test : (b : Bool) → is_some (held_key vs tx ws) ≡ list_any (is_local_of tx) (met ws vs) → is_some (if b then Some w else held_key vs tx ws) ≡ (b || list_any (is_local_of tx) (met ws vs))
       by_test true rec = refl

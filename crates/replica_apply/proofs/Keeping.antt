@@ -1,9 +1,10 @@
 -- The last version that is not evicted, and which Replicate is taken.
 use Rattle.std.proofs.Common.{Bool, List, None, Option, Some, ap, drop, false, filter, if◌then◌else◌, not, refl, slice_get, sym, true, ℕ, ◌&&◌, ◌+◌, ◌∙◌, ◌∷◌, ◌≡◌}
+use Rattle.str_base.proofs.Lists.{drop_none}
 use Rattle.std.specs.List.{last_or, list_any}
 use Rattle.partition_map.specs.Maps.{PartitionMap, first_or, hosts, replicas}
 use Rattle.prepare_master.proofs.Showing.{leads_first}
-use Rattle.prepare_master.proofs.Walking.{nothing_left, one_left}
+use Rattle.prepare_master.proofs.Walking.{one_left}
 use Rattle.replica_apply.specs.Slaves.{is_taken}
 use Rattle.str_base.specs.declared.names.KeyId.{KeyId}
 use Rattle.str_base.specs.declared.names.NodeId.{NodeId}
@@ -40,7 +41,7 @@ last_next test xs i x o p r e q f =
 
 -- all were looked at
 pub last_end : (test : Version → Bool) (xs : List Version) (i : ℕ) (o r : Option Version) → slice_get xs i ≡ None → last_or o (filter (λ v. not (test v)) (drop i xs)) ≡ r → o ≡ r
-last_end test xs i o r e f = ap (λ ys. last_or o (filter (λ v. not (test v)) ys)) (sym (nothing_left xs i e)) ∙ f
+last_end test xs i o r e f = ap (λ ys. last_or o (filter (λ v. not (test v)) ys)) (sym (drop_none xs i e)) ∙ f
 
 module _ (map : PartitionMap) (node : NodeId) (vs : List Version) (done : List (TxId × PartId)) (a : Arrived) (m : NodeId) (f : (n : NodeId) → m ≡ first_or n (replicas map a.part)) where
   -- the master takes no Replicate

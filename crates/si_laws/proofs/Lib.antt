@@ -11,4 +11,4 @@ pub mod Isolation
 pub mod Presence
 pub mod Marks
 pub mod Reasons
-pub mod Reads
+pub mod Sources

@@ -1,5 +1,6 @@
 pub mod Worked
-pub mod Lists
+pub mod KindTests
+pub mod ListCounts
 pub mod Changes
 pub mod Principle
 pub mod OwnFacts

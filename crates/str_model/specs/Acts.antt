@@ -30,6 +30,10 @@ use Rattle.str_model.specs.Views.{Aborted, Active, Committed, Doing, Global, Loc
 abbrev pub in_phase : Phase → Own → Own
 in_phase p x = record x { phase = p }
 
+-- an own transaction that is decided, in this phase: what its gets gave was handed out with its answer
+abbrev pub decided_as : Phase → Own → Own
+decided_as p x = record x { gets = []; phase = p }
+
 -- an own transaction that has just begun
 abbrev pub fresh : TxPlace → ℕ → Own
 fresh place rs =
@@ -62,7 +66,7 @@ aborted here i cause x d =
     record d {
       view = record (d.view) {
         versions = without (of_tx (name_of here i)) d.view.versions;
-        own = slice_set d.view.own i (in_phase (Aborted (lc_of x.phase) cause) x);
+        own = slice_set d.view.own i (decided_as (Aborted (lc_of x.phase) cause) x);
       };
       sent = d.sent ++ abort_letters here i x.parts;
       released = release (answer_of here i x (Aborts cause)) d.released;
@@ -94,7 +98,7 @@ committed here i lc fc x d =
       view = record (d.view) {
         versions = decided_versions here (name_of here i) fc d.view.versions;
         floor = max d.view.floor fc;
-        own = slice_set d.view.own i (in_phase (Committed (Some lc) (Some fc)) x);
+        own = slice_set d.view.own i (decided_as (Committed (Some lc) (Some fc)) x);
       };
       sent = d.sent ++ commit_letters here i x fc d.view;
       released = release (answer_of here i x (Commits (Some (stamp fc)) x.gets)) d.released;
@@ -104,7 +108,7 @@ committed here i lc fc x d =
 unfoldable pub closed : Here → ℕ → Own → Doing → Doing
 closed here i x d =
     record d {
-      view = record (d.view) { own = slice_set d.view.own i (in_phase (Committed None None) x) };
+      view = record (d.view) { own = slice_set d.view.own i (decided_as (Committed None None) x) };
       released = release (answer_of here i x (Commits None x.gets)) d.released;
     }
 

@@ -58,12 +58,13 @@ gate_phase here i again (Local lc) x d = gate_done here i again lc x (gate_of he
 gate_phase here i again (Global lc) x d = gate_done here i again lc x (gate_of here d.view lc x) d
 gate_phase here i again _ x d = d
 
--- the gate is looked at n times at most: again after each partition that was asked
+-- The gate is looked at, and again after each partition that was asked, at most n times.
 abbrev pub gates : Here → ℕ → ℕ → Doing → Doing
 gates here i zero d = d
 gates here i (suc n) d = at_own i (λ x. gate_phase here i (gates here i n) x.phase x) d
 
--- once for each partition, and once for the commit
+-- The gate is looked at until it asks no partition. A transaction asks each partition once at most, so one look for each partition of the
+-- scene and one for the commit are enough: at the end the transaction is decided or its gate waits, and more looks change nothing.
 abbrev pub gates_in : Here → ℕ → Doing → Doing
 gates_in here i d = gates here i (suc (length here.scene.parts)) d
 

@@ -1,7 +1,7 @@
 -- Runs in which each node drops what no later snapshot can see. Each message carries its sender's low mark, and each node keeps the greatest that it has
 -- heard of each other node.
 use Rattle.std.specs.List.{last_or}
-use Rattle.std.specs.Prelude.{Bool, List, None, Option, Some, [], false, if◌then◌else◌, length, map, max, min, option_map, replicate, slice_get, slice_index, slice_set, suc, true, zero, ℕ, ◌++◌, ◌-◌, ◌∷◌}
+use Rattle.std.specs.Prelude.{List, None, Option, Some, [], if◌then◌else◌, length, max, min, option_map, replicate, slice_get, slice_index, slice_set, suc, zero, ℕ, ◌++◌, ◌-◌, ◌∷◌}
 use Rattle.str_model.specs.declared.names.Done.{Done}
 use Rattle.str_scene.specs.declared.names.Event.{Event}
 use Rattle.str_scene.specs.declared.names.Event.TheVariants.{Client as ClientEvent, Deliver as DeliverEvent}

@@ -3,8 +3,6 @@ use Rattle.partition_map.specs.declared.rows.Asked.{Asked}
 use Rattle.str_model.proofs.Changes.VersionChanges.{Placed, by_master, by_slave}
 use Rattle.str_model.proofs.Principle.SingleChanges.{Act, IsHere, Where, act_abort, act_abort_came, act_accept, act_ack, act_ask, act_begin, act_certify, act_close, act_commit, act_commit_came, act_mark, act_put, act_refuse, act_reply, act_request, act_take, act_unwait, act_wait}
 use Rattle.str_model.proofs.Changes.SnapshotsGain.{if_elim}
-use Rattle.str_model.proofs.Lists.ListReads.{get_set}
-use Rattle.str_model.proofs.Lists.Members.{In, in_append, in_filter, in_map}
 use Rattle.std.proofs.Common.{Bool, List, Some, [], ap, false, filter, inl, inr, map, refl, subst, sym, true, ℕ, ◌++◌, ◌∙◌, ◌∷◌, ◌≡◌, ◌⊎◌}
 use Rattle.str_base.specs.Versions.{insert_all, mark_of, stamp}
 use Rattle.str_base.specs.declared.names.Cause.{Cause}
@@ -14,7 +12,7 @@ use Rattle.str_base.specs.declared.names.Ts.{Ts}
 use Rattle.str_base.specs.declared.names.TxId.{TxId}
 use Rattle.str_base.specs.declared.names.Write.{Write}
 use Rattle.str_model.specs.Acts
-use Rattle.str_model.specs.Acts.{abort_came, abort_letters, aborted, accepted, acked, ask_letters, asked, asked_ones, begun, certified, closed, commit_came, commit_letters, committed, copies, in_phase, marked, marks_in, pre_version, refused, replied, requested, taken, waits}
+use Rattle.str_model.specs.Acts.{abort_came, abort_letters, aborted, accepted, acked, ask_letters, asked, asked_ones, begun, certified, closed, commit_came, commit_letters, committed, copies, decided_as, marked, marks_in, pre_version, refused, replied, requested, taken, waits}
 use Rattle.str_model.specs.Owned.{Owns}
 use Rattle.str_model.specs.Proposals.{proposed}
 use Rattle.str_model.specs.Views.{Aborted, Committed, Doing, Own, lc_of, letter, name_of}
@@ -25,6 +23,9 @@ use Rattle.str_model.specs.declared.messages.Input.{Input}
 use Rattle.str_model.specs.declared.messages.Message.{Message}
 use Rattle.str_model.specs.declared.names.KeyMark.{KeyMark}
 use Rattle.str_scene.specs.Scenes.{Here, first_or, in_part, leads, others, replicas}
+use Rattle.str_base.proofs.Lists.{get_set}
+use Rattle.str_base.proofs.Members.{in_append, in_filter, in_map}
+use Rattle.str_base.specs.Members.{In}
 
 -- neither asked nor answered nor decided
 abbrev pub is_plain : Body → Bool
@@ -53,9 +54,9 @@ pub data NewLetter (here : Here) (input : Input) (d e : Doing) (m : Message) : T
   n_copy : (a : Arrived) → IsHere here input d a → m.body ≡ Replicate a.tx a.part a.rs a.lc a.writes → NewLetter here input d e m
   n_ack : (a : Arrived) (ts : ℕ) → Placed here input d a → m.sender ≡ here.node → m.body ≡ Ack a.tx a.part (stamp ts)
       → e.view.versions ≡ insert_all (map (pre_version a ts) a.writes) d.view.versions → e.view.done ≡ d.view.done → NewLetter here input d e m
-  n_commit : (i lc fc : ℕ) (x : Own) (a : Asked) (ms : List KeyMark) → Owns d.view i x → Owns e.view i (in_phase (Committed (Some lc) (Some fc)) x) → In a x.parts → (m.sender ≡ here.node) × (m.receiver ≡ a.node)
+  n_commit : (i lc fc : ℕ) (x : Own) (a : Asked) (ms : List KeyMark) → Owns d.view i x → Owns e.view i (decided_as (Committed (Some lc) (Some fc)) x) → In a x.parts → (m.sender ≡ here.node) × (m.receiver ≡ a.node)
       → (m.body ≡ Commit (name_of here i) a.part (stamp fc) ms) × AreMarked ms (filter (in_part here.scene a.part) x.writes) → NewLetter here input d e m
-  n_abort : (i : ℕ) (cause : Cause) (x : Own) (a : Asked) → Owns d.view i x → Owns e.view i (in_phase (Aborted (lc_of x.phase) cause) x) → In a x.parts → (m.sender ≡ here.node) × (m.receiver ≡ a.node)
+  n_abort : (i : ℕ) (cause : Cause) (x : Own) (a : Asked) → Owns d.view i x → Owns e.view i (decided_as (Aborted (lc_of x.phase) cause) x) → In a x.parts → (m.sender ≡ here.node) × (m.receiver ≡ a.node)
       → m.body ≡ Abort (name_of here i) a.part → NewLetter here input d e m
   n_plain : is_plain m.body ≡ true → NewLetter here input d e m
 
@@ -76,13 +77,13 @@ module _ (here : Here) (input : Input) (w : Where) where
       n_ask i lc p x own l (subst (λ (z : Message). AsksWith (name_of here i) p x.snap.rs lc ws z.body) r.2 as_replicate))
       (λ b h. elim h [ inl q ↦ n_ask i lc p x own l (subst (λ (z : Message). AsksWith (name_of here i) p x.snap.rs lc ws z.body) q as_prepare) | inr z ↦ absurd z ])
 
-  abort_new : (i : ℕ) (cause : Cause) (x : Own) (d e : Doing) (m : Message) → Owns d.view i x → Owns e.view i (in_phase (Aborted (lc_of x.phase) cause) x) → In m (Acts.abort_letters here i x.parts) → NewLetter here input d e m
+  abort_new : (i : ℕ) (cause : Cause) (x : Own) (d e : Doing) (m : Message) → Owns d.view i x → Owns e.view i (decided_as (Aborted (lc_of x.phase) cause) x) → In m (Acts.abort_letters here i x.parts) → NewLetter here input d e m
   abort_new i cause x d e m own own' h =
       let r = in_map (λ (a : Asked). letter here a.node (Abort (name_of here i) a.part)) (Acts.asked_ones x.parts) m h in
       let k = in_filter (λ (a : Asked). a.asked) x.parts r.0 r.1 in
       n_abort i cause x r.0 own own' k.0 (ap (λ (z : Message). z.sender) (sym r.2), ap (λ (z : Message). z.receiver) (sym r.2)) (ap (λ (z : Message). z.body) (sym r.2))
 
-  commit_new : (i lc fc : ℕ) (x : Own) (d e : Doing) (m : Message) → Owns d.view i x → Owns e.view i (in_phase (Committed (Some lc) (Some fc)) x) → In m (Acts.commit_letters here i x fc d.view) → NewLetter here input d e m
+  commit_new : (i lc fc : ℕ) (x : Own) (d e : Doing) (m : Message) → Owns d.view i x → Owns e.view i (decided_as (Committed (Some lc) (Some fc)) x) → In m (Acts.commit_letters here i x fc d.view) → NewLetter here input d e m
   commit_new i lc fc x d e m own own' h =
       let r = in_map (λ (a : Asked). letter here a.node (Commit (name_of here i) a.part (stamp fc) (Acts.marks_in here d.view a.part x.writes))) x.parts m h in
       n_commit i lc fc x r.0 (Acts.marks_in here d.view r.0.part x.writes) own own' r.1 (ap (λ (z : Message). z.sender) (sym r.2), ap (λ (z : Message). z.receiver) (sym r.2))

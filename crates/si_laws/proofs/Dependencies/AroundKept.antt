@@ -8,7 +8,7 @@ use Rattle.str_base.specs.declared.names.Version.{Version}
 use Rattle.str_base.specs.Versions.{insert_all, is_pre, is_undecided, of_pair, of_tx, settled, without}
 use Rattle.str_model.specs.declared.messages.Arrived.{Arrived}
 use Rattle.str_model.specs.declared.messages.Input.{Input}
-use Rattle.str_model.specs.Acts.{abort_came, aborted, accepted, acked, asked, begun, certified, closed, commit_came, committed, in_phase, is_hosted_of, local_version, marked, pre_version, refused, replied, requested, taken, waits}
+use Rattle.str_model.specs.Acts.{abort_came, aborted, accepted, acked, asked, begun, certified, closed, commit_came, committed, decided_as, is_hosted_of, local_version, marked, pre_version, refused, replied, requested, taken, waits}
 use Rattle.str_model.specs.Owned.{Owns}
 use Rattle.str_model.specs.Proposals.{Accept, is_done, master_turn, proposed}
 use Rattle.str_model.specs.Steps.{decides}
@@ -20,14 +20,15 @@ use Rattle.str_model.specs.Views.{Committed, Doing, Local, Own, View, is_decided
 use Rattle.str_scene.specs.Scenes.{Here, participants}
 use Rattle.str_model.proofs.Principle.SingleChanges.{Act, Takes, Where, act_abort, act_abort_came, act_accept, act_ack, act_ask, act_begin, act_certify, act_close, act_commit, act_commit_came, act_mark, act_put, act_refuse, act_reply, act_request, act_take, act_unwait, act_wait}
 use Rattle.str_model.proofs.Changes.SnapshotsGain.{CertGood, Names, cert_turn-good}
-use Rattle.str_model.proofs.Lists.ListReads.{get_set, got_set}
 use Rattle.str_model.proofs.Changes.VersionsMet.{accept_met, cert_met}
-use Rattle.str_model.proofs.Lists.Members.{In, in_filter, in_insert_all, in_map, in_without}
 use Rattle.si_laws.proofs.Dependencies.AroundLocal.{Around, EachAround, FinalKnown, PresApart, Stand, far_final, final_below, final_late, local_above, local_below, own_final, owner_at}
 use Rattle.str_model.proofs.OwnFacts.EarlierDependencies.{depends-act}
 use Rattle.str_model.proofs.Changes.PairWords.{decides_far, hosted_name, not_done, pair-is}
 use Rattle.si_laws.proofs.Dependencies.LeftAlone.{finals-act, old_around}
 use Rattle.str_model.proofs.OwnFacts.LocalOwners.{LocalOwner, decided_old, final_old, open-fate, placed_old, same_own}
+use Rattle.str_base.proofs.Lists.{get_set, got_set}
+use Rattle.str_base.proofs.Members.{in_filter, in_insert_all, in_map, in_without}
+use Rattle.str_base.specs.Members.{In}
 
 -- ---- around
 
@@ -78,7 +79,7 @@ module _ (here : Here) (input : Input) (w : Where) where
       by_around (local_above j y l q oy le m) = local l
 
   -- the version of a transaction that commits now
-  commit_around : (n lc fc : ℕ) (z : Own) (d e : Doing) (own : Owns d.view n z) → is_decided z.phase ≡ false → z.snap.deps ≡ [] → e.view.own ≡ slice_set d.view.own n (in_phase (Committed (Some lc) (Some fc)) z)
+  commit_around : (n lc fc : ℕ) (z : Own) (d e : Doing) (own : Owns d.view n z) → is_decided z.phase ≡ false → z.snap.deps ≡ [] → e.view.own ≡ slice_set d.view.own n (decided_as (Committed (Some lc) (Some fc)) z)
       → (h : Stand here d.view) (i : ℕ) (x y : Own) (p u q : Version) → Owns d.view i x → Owns e.view i y → is_decided y.phase ≡ false → u.tx ≡ name_of here n → settled fc u ≡ q → In u d.view.versions → Around here d.view i x p.ts.0 u
       → Around here e.view i y p.ts.0 q
   commit_around n lc fc z d e own op none set h i x y p u q ox oy opy name are hu = by_around
@@ -106,11 +107,11 @@ module _ (here : Here) (input : Input) (w : Where) where
       fate : own_fate (slice_get e.view.own (q.tx.seq - 1)) ≡ CommittedAt q.ts.0
       fate =
           ap (λ m. own_fate (slice_get e.view.own m)) place
-          ∙ (ap (λ os. own_fate (slice_get os n)) set ∙ (ap own_fate (get_set d.view.own n z (in_phase (Committed (Some lc) (Some fc)) z) own) ∙ ap (λ (v : Version). CommittedAt v.ts.0) are))
+          ∙ (ap (λ os. own_fate (slice_get os n)) set ∙ (ap own_fate (get_set d.view.own n z (decided_as (Committed (Some lc) (Some fc)) z) own) ∙ ap (λ (v : Version). CommittedAt v.ts.0) are))
 
       same : x ≡ y
       same =
-          elim (got_set d.view.own n i (in_phase (Committed (Some lc) (Some fc)) z) y (ap (λ os. slice_get os i) (sym set) ∙ oy)) [
+          elim (got_set d.view.own n i (decided_as (Committed (Some lc) (Some fc)) z) y (ap (λ os. slice_get os i) (sym set) ∙ oy)) [
             | inl r ↦ absurd (cc (ap (λ (v : Own). is_decided v.phase) r.1, opy))
             | inr r ↦ same_own d.view i i x y ox r.1 refl
           ]

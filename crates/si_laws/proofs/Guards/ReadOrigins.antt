@@ -5,16 +5,17 @@ use Rattle.si_laws.proofs.Scripts.ReadsEvaluate.{reply_same}
 use Rattle.str_model.proofs.ViewFacts.MarksRise.{finish-looks, finish_next-looks}
 use Rattle.si_laws.proofs.Changes.ReadTurns.{reply-is}
 use Rattle.str_model.proofs.Principle.SingleChanges.{Act, Change, GoesOn, JustMarked, ReadsTo, Where, act_abort, act_abort_came, act_accept, act_ack, act_ask, act_begin, act_certify, act_close, act_commit, act_commit_came, act_mark, act_put, act_refuse, act_reply, act_request, act_take, act_unwait, act_wait, ch_away, ch_blind, ch_close, ch_gate, ch_known, ch_read, ch_reply, ch_resolve, ch_take, ch_wait}
-use Rattle.str_model.proofs.Lists.ListReads.{got_push, got_set}
-use Rattle.str_model.proofs.Lists.Members.{In, in_append}
 use Rattle.std.proofs.Common.{Option, Some, [], ap, inl, inr, refl, slice_get, slice_set, subst, sym, ℕ, ◌++◌, ◌∙◌, ◌∷◌, ◌≡◌, ◌⊎◌}
-use Rattle.str_model.specs.Acts.{abort_came, aborted, accepted, acked, asked, begun, certified, closed, commit_came, committed, fresh, in_phase, marked, refused, replied, requested, taken, waits, with_asked}
+use Rattle.str_model.specs.Acts.{abort_came, aborted, accepted, acked, asked, begun, certified, closed, commit_came, committed, decided_as, fresh, in_phase, marked, refused, replied, requested, taken, waits, with_asked}
 use Rattle.str_model.specs.Owned.{Owns}
 use Rattle.str_model.specs.Scripts.{noted, own_op}
 use Rattle.str_model.specs.Views.{Aborted, Committed, Doing, Global, Local, Own, Remote, Reply, lc_of}
 use Rattle.str_model.specs.declared.messages.Input.{Input}
 use Rattle.str_model.specs.declared.names.ReadDone.{ReadDone}
 use Rattle.str_scene.specs.Scenes.{Here, participants}
+use Rattle.str_base.proofs.Lists.{got_push, got_set}
+use Rattle.str_base.proofs.Members.{in_append}
+use Rattle.str_base.specs.Members.{In}
 
 -- it was there; or it is read now at home; or a reply that was held is taken
 pub data ReadOrigin (here : Here) (d : Doing) (i : ℕ) (y : Own) (r : ReadDone) : Type 0 where
@@ -69,9 +70,9 @@ module _ (here : Here) (input : Input) where
         (λ j. ro_old x o.0 j (cert_rs here d'.view x.snap snap x.writes lc c))
     read_origin d e (act_ask n lc p x d' o f l g) i y r own h = set_origin d' n i x (record x { parts = with_asked p x.parts; phase = Global lc }) y r own h (λ j. ro_old x o.0 j refl)
     read_origin d e (act_ack n lc from tx p ts parts x d' o c q g) i y r own h = set_origin d' n i x (record x { parts = parts }) y r own h (λ j. ro_old x o.0 j refl)
-    read_origin d e (act_abort n cause x d' o f g) i y r own h = set_origin d' n i x (in_phase (Aborted (lc_of x.phase) cause) x) y r own h (λ j. ro_old x o.0 j refl)
-    read_origin d e (act_commit n lc fc x d' o l none le f g) i y r own h = set_origin d' n i x (in_phase (Committed (Some lc) (Some fc)) x) y r own h (λ j. ro_old x o.0 j refl)
-    read_origin d e (act_close n x d' o p none) i y r own h = set_origin d' n i x (in_phase (Committed Rattle.std.proofs.Common.None Rattle.std.proofs.Common.None) x) y r own h (λ j. ro_old x o.0 j refl)
+    read_origin d e (act_abort n cause x d' o f g) i y r own h = set_origin d' n i x (decided_as (Aborted (lc_of x.phase) cause) x) y r own h (λ j. ro_old x o.0 j refl)
+    read_origin d e (act_commit n lc fc x d' o l none le f g) i y r own h = set_origin d' n i x (decided_as (Committed (Some lc) (Some fc)) x) y r own h (λ j. ro_old x o.0 j refl)
+    read_origin d e (act_close n x d' o p none) i y r own h = set_origin d' n i x (decided_as (Committed Rattle.std.proofs.Common.None Rattle.std.proofs.Common.None) x) y r own h (λ j. ro_old x o.0 j refl)
     read_origin d e (act_mark k t d' rd) i y r own h = ro_old y own h refl
     read_origin d e (act_accept a ts d' g m) i y r own h = ro_old y own h refl
     read_origin d e (act_refuse a u k d' g m) i y r own h = ro_old y own h refl

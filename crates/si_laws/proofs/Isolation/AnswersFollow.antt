@@ -2,21 +2,19 @@
 use Rattle.si_laws.proofs.Isolation.BehindAnswers.{Behind, WriterOf, behind, commit_phase, committed_in, find_write, get_take, ground, has_written, known, take_get, times_of, writer_of}
 use Rattle.si_laws.proofs.Isolation.WritersAnswered.{IsKept}
 use Rattle.si_laws.proofs.CommitLists.CommitOrder.{named}
-use Rattle.si_laws.proofs.Scripts.ReadsEvaluate.{Evaluates, PhaseGives, ends-at}
-use Rattle.si_laws.proofs.Scripts.EvaluationKept.{evaluates_after}
+use Rattle.si_laws.proofs.Scripts.ReadsEvaluate.{Evaluates}
+use Rattle.si_laws.proofs.Sessions.SessionHolds.{good_everywhere}
 use Rattle.si_laws.proofs.Guards.GuardedNewest.{newest_none}
 use Rattle.si_laws.proofs.CommitLists.NextAnswer.{Covered, Keeps}
 use Rattle.si_laws.proofs.Guards.VersionOrigins.{HasWritten}
 use Rattle.si_laws.proofs.CommitLists.ReadsSeen.{IsAbove, IsRight, Reads, of_none, of_one, reads_keep, reads_seen, top_of}
-use Rattle.si_laws.proofs.Reads.FinalsReported.{CommittedIn}
+use Rattle.si_laws.proofs.Sources.FinalsReported.{CommittedIn}
 use Rattle.str_model.proofs.OwnFacts.ScriptsCovered.{ScriptGood, scripts_after}
-use Rattle.str_model.proofs.Changes.PairWords.{has_at}
 use Rattle.str_model.proofs.Principle.Everywhere.{at_place, stage_of}
-use Rattle.str_model.proofs.Lists.Members.{In, at_in, in_at}
 use Rattle.si_laws.specs.Commits.{seen}
 use Rattle.str_model.specs.Owned.{wrote_key}
 use Rattle.si_laws.specs.SnapshotIsolation.{IsAnswer, IsCommittedAt, SI}
-use Rattle.std.proofs.Common.{List, None, Option, Some, ap, arith, eq-eqb, find, inl, inr, refl, subst, sym, take, true, ℕ, ◌<◌, ◌∙◌, ◌≡◌, ◌≤◌, ◌⊎◌}
+use Rattle.std.proofs.Common.{List, None, Option, Some, ap, arith, eq-eqb, find, inl, inr, refl, sym, take, true, ℕ, ◌<◌, ◌∙◌, ◌≡◌, ◌≤◌, ◌⊎◌}
 use Rattle.str_base.specs.Versions.{same_key, stamp}
 use Rattle.str_base.specs.declared.names.KeyId.{KeyId}
 use Rattle.str_base.specs.declared.names.Ts.{Ts}
@@ -26,8 +24,7 @@ use Rattle.str_base.specs.declared.names.Value.{Value}
 use Rattle.str_base.specs.declared.names.Write.{Write}
 use Rattle.str_model.specs.Evaluation.{AtEnd, Evaluated, Unmet, eval, write_or}
 use Rattle.str_model.specs.Runs.{run}
-use Rattle.str_model.specs.Scripts.{own_op}
-use Rattle.str_model.specs.Views.{Committed, Own, Phase}
+use Rattle.str_model.specs.Views.{Own}
 use Rattle.str_model.specs.declared.messages.Answer.{Answer}
 use Rattle.str_model.specs.declared.messages.Outcome.TheVariants.{Committed as Commits}
 use Rattle.str_model.specs.declared.names.Got.{Got}
@@ -36,14 +33,16 @@ use Rattle.str_scene.specs.SceneLimits.{IsScene}
 use Rattle.str_scene.specs.Scenes.{Scene, script_at}
 use Rattle.str_scene.specs.declared.names.Event.{Event}
 use Rattle.str_scene.specs.declared.names.TxPlace.{TxPlace}
+use Rattle.str_base.proofs.Members.{any_in, at_in, in_at}
+use Rattle.str_base.specs.Members.{In}
 
 -- what a transaction has got and written at the end of its script
-abbrev pub done_of : Own → Evaluated
-done_of x = record { gets = x.gets; writes = x.writes; stop = AtEnd }
+abbrev pub done_of : List Got → Own → Evaluated
+done_of gets x = record { gets = gets; writes = x.writes; stop = AtEnd }
 
 -- and at a need that is not met
-abbrev pub unmet_of : Own → Evaluated
-unmet_of x = record { gets = x.gets; writes = x.writes; stop = Unmet }
+abbrev pub unmet_of : List Got → Own → Evaluated
+unmet_of gets x = record { gets = gets; writes = x.writes; stop = Unmet }
 
 module _ (scene : Scene) (ok : IsScene scene) (es : List Event) where
   -- the first n answers
@@ -54,22 +53,18 @@ module _ (scene : Scene) (ok : IsScene scene) (es : List Event) where
   abbrev pub SeenSo : ℕ → Type 0
   SeenSo n =
       (j : ℕ) (b : Answer) (ib : IsAnswer (run scene es).answers j b) (o : Option Ts) (gs : List Got) → j < n → b.outcome ≡ Commits o gs
-      → seen scene (take n (run scene es).answers) b ≡ done_of (behind scene ok es j b ib).x
+      → seen scene (take n (run scene es).answers) b ≡ done_of (behind scene ok es j b ib).gets (behind scene ok es j b ib).x
 
   -- what its script has come to
   pub evaluates : (b : Answer) (B : Behind scene ok es b) → Evaluates (at_place scene B.n) B.x
-  evaluates b B = evaluates_after scene ok es B.n B.v B.there B.i B.x B.owns
+  evaluates b B = ((good_everywhere scene es).nodes B.n B.v B.there).evaluates B.i B.x B.owns
 
   scripted : (b : Answer) (B : Behind scene ok es b) → ScriptGood (at_place scene B.n) B.x
   scripted b B = scripts_after scene ok es B.n B.v B.there B.i B.x B.owns
 
-  committed_none : (p : Phase) (x : Own) (n : ℕ) (lc fc : Option ℕ) → p ≡ Committed lc fc → PhaseGives (at_place scene n) x p → own_op (at_place scene n) x ≡ None
-  committed_none p x n lc None e h = (subst (PhaseGives (at_place scene n) x) e h).0
-  committed_none p x n lc (Some f) e h = (subst (PhaseGives (at_place scene n) x) e h).0
-
   -- the key of a write stands in its buffer
   wrote_in : (ws : List Write) (k : KeyId) (a : Value) → In (record { key = k; value = a }) ws → wrote_key k ws ≡ true
-  wrote_in ws k a m = has_at (λ (z : Write). same_key z.key k) ws (record { key = k; value = a }) m (eq-eqb k.0 k.0 refl)
+  wrote_in ws k a m = any_in (λ (z : Write). same_key z.key k) ws (record { key = k; value = a }) m (eq-eqb k.0 k.0 refl)
 
   module _ (n : ℕ) (si : SI scene (take n (run scene es).answers)) (so : SeenSo n) where
     -- a commit among them that is seen to write the key
@@ -102,7 +97,7 @@ module _ (scene : Scene) (ok : IsScene scene) (es : List Event) where
             less : w.j < n
             less = let l = w.less in omega (arith, l, le)
 
-            its_seen : seen scene (take n (run scene es).answers) w.b ≡ done_of (behind scene ok es w.j w.b w.is).x
+            its_seen : seen scene (take n (run scene es).answers) w.b ≡ done_of (behind scene ok es w.j w.b w.is).gets (behind scene ok es w.j w.b w.is).x
             its_seen = so w.j w.b w.is (Some (stamp w.f)) w.committed.0 less w.committed.1
 
             within_ : In w.b (take n (run scene es).answers)
@@ -147,18 +142,17 @@ module _ (scene : Scene) (ok : IsScene scene) (es : List Event) where
 
     -- the reads of a commit
     pub commit_reads : (m : ℕ) (a : Answer) (ia : IsAnswer (run scene es).answers m a) (o : Option Ts) (gs : List Got) → m ≤ n → a.outcome ≡ Commits o gs
-        → (q : Reads scene (take n (run scene es).answers) a (done_of (behind scene ok es m a ia).x)) × ((z : ReadDone) → In z q.reads → In z (behind scene ok es m a ia).x.reads)
+        → (q : Reads scene (take n (run scene es).answers) a (done_of (behind scene ok es m a ia).gets (behind scene ok es m a ia).x)) × ((z : ReadDone) → In z q.reads → In z (behind scene ok es m a ia).x.reads)
     commit_reads m a ia o gs le e =
         let B = behind scene ok es m a ia in
         let p = commit_phase scene ok es a B o gs e in
-        let v = evaluates a B in
-        own_reads m a ia le B (inl (p.0, p.1, p.2)) (done_of B.x) (ends-at (at_place scene B.n) B.x (committed_none B.x.phase B.x B.n p.0 p.1 p.2 v.phase) v.gave)
+        own_reads m a ia le B (inl (p.0, p.1, p.2)) (done_of B.gets B.x) (B.ends p.0 p.1 p.2)
 
     -- what a commit is seen to give
     pub commit_seen : (m : ℕ) (a : Answer) (ia : IsAnswer (run scene es).answers m a) (o : Option Ts) (gs : List Got) → m ≤ n → a.outcome ≡ Commits o gs
-        → seen scene (take n (run scene es).answers) a ≡ done_of (behind scene ok es m a ia).x
+        → seen scene (take n (run scene es).answers) a ≡ done_of (behind scene ok es m a ia).gets (behind scene ok es m a ia).x
     commit_seen m a ia o gs le e =
-        reads_seen scene (take n (run scene es).answers) a (done_of (behind scene ok es m a ia).x) (named (take n (run scene es).answers) si.placed.names) (above m a ia) (commit_reads m a ia o gs le e).0
+        reads_seen scene (take n (run scene es).answers) a (done_of (behind scene ok es m a ia).gets (behind scene ok es m a ia).x) (named (take n (run scene es).answers) si.placed.names) (above m a ia) (commit_reads m a ia o gs le e).0
 
     -- a commit that is final at or below the snapshot of an earlier kept answer is covered on the keys of its reads
     pub covered : (m : ℕ) (b : Answer) → IsAnswer (run scene es).answers m b → m ≤ n → (B : Behind scene ok es b) → IsKept (at_place scene B.n) B.x → (c : Answer) (ic : IsAnswer (run scene es).answers n c) (f : ℕ)

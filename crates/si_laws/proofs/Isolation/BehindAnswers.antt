@@ -6,15 +6,13 @@ use Rattle.si_laws.proofs.Stages.LinkedStates.{one_certified, one_of}
 use Rattle.str_model.proofs.Changes.MasterChanges.{AreDistinct, one_write}
 use Rattle.si_laws.proofs.Guards.GuardedNewest.{NoneBetween, newest_some}
 use Rattle.si_laws.proofs.Guards.VersionOrigins.{HasWritten}
-use Rattle.si_laws.proofs.Reads.FinalsReported.{CommittedIn}
+use Rattle.si_laws.proofs.Sources.FinalsReported.{CommittedIn}
 use Rattle.si_laws.proofs.Sessions.SessionAnswers.{entry, session_holds}
 use Rattle.si_laws.proofs.Sessions.SessionHolds.{good_everywhere}
 use Rattle.str_model.proofs.Changes.PairWords.{any_has}
 use Rattle.str_model.proofs.Principle.Everywhere.{Stage, at_place, stage_of}
-use Rattle.str_model.proofs.Changes.SnapshotsGain.{find_none}
-use Rattle.str_model.proofs.Lists.Members.{In, at_in}
 use Rattle.str_model.proofs.Changes.AnswerChanges.{outcome_of, told}
-use Rattle.si_laws.proofs.Scripts.ReadsEvaluate.{find_is}
+use Rattle.si_laws.proofs.Scripts.ReadsEvaluate.{Ends, find_is}
 use Rattle.si_laws.specs.SnapshotIsolation.{IsAnswer, IsCommittedAt}
 use Rattle.std.proofs.Common.{List, None, Option, Some, [], ap, arith, eq-eqb, eqb-true, find, inl, inr, option_map, refl, slice_get, subst, subst₂, suc, sym, take, true, zero, ℕ, ◌<◌, ◌∙◌, ◌∷◌, ◌≡◌, ◌≤◌}
 use Rattle.str_base.specs.Versions.{same_key, stamp}
@@ -34,6 +32,8 @@ use Rattle.str_model.specs.declared.names.ReadDone.{ReadDone}
 use Rattle.str_scene.specs.SceneLimits.{IsScene}
 use Rattle.str_scene.specs.Scenes.{Scene}
 use Rattle.str_scene.specs.declared.names.Event.{Event}
+use Rattle.str_base.proofs.Members.{at_in, find_none}
+use Rattle.str_base.specs.Members.{In}
 
 -- ---- lists
 
@@ -102,16 +102,18 @@ module _ (scene : Scene) (ok : IsScene scene) (es : List Event) where
     pub there : slice_get (run scene es).nodes n ≡ Some v
     pub owns : Owns v i x
     pub decided : is_decided x.phase ≡ true
-    pub same : b ≡ told (at_place scene n) i x
+    pub gets : List Got
+    pub same : b ≡ told (at_place scene n) i x gets
+    pub ends : Ends (at_place scene n) x gets
 
   pub behind : (j : ℕ) (b : Answer) → IsAnswer (run scene es).answers j b → Behind b
   behind j b ib =
       let e = entry scene ok (run scene es) (good_everywhere scene es) j b ib in
-      record { n = e.m; i = e.made.i; v = e.v; x = e.made.x; there = e.is_view; owns = e.made.owns; decided = e.made.decided; same = e.made.same }
+      record { n = e.m; i = e.made.i; v = e.v; x = e.made.x; there = e.is_view; owns = e.made.owns; decided = e.made.decided; gets = e.made.gets; same = e.made.same; ends = e.made.ends }
 
   -- of a commit
-  pub commit_phase : (b : Answer) (B : Behind b) (o : Option Ts) (gs : List Got) → b.outcome ≡ Commits o gs → (lc : Option ℕ) × (fc : Option ℕ) × (B.x.phase ≡ Committed lc fc) × (option_map stamp fc ≡ o) × (B.x.gets ≡ gs)
-  commit_phase b B o gs e = phase_of B.x.phase B.x.gets o gs B.decided (sym (ap (λ (z : Answer). z.outcome) B.same) ∙ e)
+  pub commit_phase : (b : Answer) (B : Behind b) (o : Option Ts) (gs : List Got) → b.outcome ≡ Commits o gs → (lc : Option ℕ) × (fc : Option ℕ) × (B.x.phase ≡ Committed lc fc) × (option_map stamp fc ≡ o) × (B.gets ≡ gs)
+  commit_phase b B o gs e = phase_of B.x.phase B.gets o gs B.decided (sym (ap (λ (z : Answer). z.outcome) B.same) ∙ e)
 
   pub phase_at : (b : Answer) (B : Behind b) (h : ℕ) → IsCommittedAt b h → (lc : Option ℕ) × (B.x.phase ≡ Committed lc (Some h))
   phase_at b B h c =
@@ -168,9 +170,9 @@ module _ (scene : Scene) (ok : IsScene scene) (es : List Event) where
     pub write : In (record { key = r.key; value = r.value }) (behind j b is).x.writes
 
   pub writer_of : (m : ℕ) (a : Answer) → IsAnswer (run scene es).answers m a → (B : Behind a) → IsKept (at_place scene B.n) B.x → (r : ReadDone) → In r B.x.reads → (u : TxId) → r.by ≡ Some u → WriterOf m B.x.snap.rs r u
-  writer_of m a ia B kept r mem u by = build (precedes_at (run scene es).answers before.0 (told (at_place scene B.n) B.i B.x) before.1)
+  writer_of m a ia B kept r mem u by = build (precedes_at (run scene es).answers before.1 (told (at_place scene B.n) B.i B.x before.0) before.2)
     where
-      before : (b : Answer) × Precedes (run scene es).answers b (told (at_place scene B.n) B.i B.x) × (b.tx ≡ u)
+      before : (gets : List Got) × (b : Answer) × Precedes (run scene es).answers b (told (at_place scene B.n) B.i B.x gets) × (b.tx ≡ u)
       before = known.first B.n B.v B.i B.x r u B.there B.owns kept mem by
 
       fate : (f : ℕ) × CommittedIn (stage_of (run scene es)) u f × (f ≤ B.x.snap.rs)
@@ -190,10 +192,10 @@ module _ (scene : Scene) (ok : IsScene scene) (es : List Event) where
           let phase : C.x.phase ≡ Committed z.is.0 (Some fate.0) = ap (λ (y : Own). y.phase) (sym own) ∙ z.is.1 in
           let ce = newest.0.certified in
           let ws = one_certified scene (stage_of (run scene es)) C.n C.i C.v C.x u newest.0.rs newest.0.lc newest.0.ws C.there C.owns name ce in
-          ((C.x.gets, ap (λ (y : Answer). y.outcome) C.same ∙ ap (λ p. outcome_of p C.x.gets) phase), subst (In (record { key = r.key; value = r.value })) (sym ws.0) newest.0.write)
+          ((C.gets, ap (λ (y : Answer). y.outcome) C.same ∙ ap (λ p. outcome_of p C.gets) phase), subst (In (record { key = r.key; value = r.value })) (sym ws.0) newest.0.write)
 
-      build : (j : ℕ) × (k : ℕ) × (j < k) × (slice_get (run scene es).answers j ≡ Some before.0) × (slice_get (run scene es).answers k ≡ Some (told (at_place scene B.n) B.i B.x)) → WriterOf m B.x.snap.rs r u
+      build : (j : ℕ) × (k : ℕ) × (j < k) × (slice_get (run scene es).answers j ≡ Some before.1) × (slice_get (run scene es).answers k ≡ Some (told (at_place scene B.n) B.i B.x before.0)) → WriterOf m B.x.snap.rs r u
       build z =
-          let place : z.1 ≡ m = (session_holds scene ok es).placed.names z.1 m (told (at_place scene B.n) B.i B.x) a z.4 ia (ap (λ (y : Answer). y.tx) (sym B.same)) in
-          let t = its before.0 (behind z.0 before.0 z.3) before.2 in
-          record { f = fate.0; below = fate.2; between = newest.1; b = before.0; j = z.0; less = omega (arith, z.2, place); is = z.3; committed = t.0; write = t.1 }
+          let place : z.1 ≡ m = (session_holds scene ok es).placed.names z.1 m (told (at_place scene B.n) B.i B.x before.0) a z.4 ia (ap (λ (y : Answer). y.tx) (sym B.same)) in
+          let t = its before.1 (behind z.0 before.1 z.3) before.3 in
+          record { f = fate.0; below = fate.2; between = newest.1; b = before.1; j = z.0; less = omega (arith, z.2, place); is = z.3; committed = t.0; write = t.1 }

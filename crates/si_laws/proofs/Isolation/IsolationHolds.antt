@@ -10,13 +10,12 @@ use Rattle.si_laws.proofs.Order.MasterFacts.{IsBefore}
 use Rattle.si_laws.proofs.Guards.GuardedNewest.{commit_at}
 use Rattle.si_laws.proofs.CommitLists.NextAnswer.{IsNext, Keeps, SeenNext, seen_next}
 use Rattle.si_laws.proofs.CommitLists.NextHolds.{si_next, si_none}
-use Rattle.si_laws.proofs.Order.WritersApart.{key_of_table, master_of, script_op}
+use Rattle.si_laws.proofs.Order.WritersApart.{at_final, key_of_table, master_of}
 use Rattle.si_laws.proofs.CommitLists.ReadsSeen.{reads_seen}
 use Rattle.si_laws.proofs.CommitLists.CommitOrder.{named}
 use Rattle.str_model.proofs.OwnFacts.ScriptsCovered.{scripts_after}
 use Rattle.si_laws.proofs.Sessions.SessionAnswers.{session_holds}
 use Rattle.str_model.proofs.Principle.Everywhere.{at_place, stage_of}
-use Rattle.str_model.proofs.Lists.ListReads.{same_or_not}
 use Rattle.str_model.proofs.Changes.AnswerChanges.{outcome_of}
 use Rattle.si_laws.proofs.Isolation.AnswersFollow
 use Rattle.si_laws.specs.Commits.{seen}
@@ -48,6 +47,8 @@ use Rattle.str_scene.specs.declared.names.Event.{Event}
 use Rattle.str_scene.specs.declared.names.Op.TheVariants.{Abort as Give, Add, Del, Get, Need, Put, Puts}
 use Rattle.str_scene.specs.declared.names.Op.{Op}
 use Rattle.str_scene.specs.declared.names.TxPlace.{TxPlace}
+use Rattle.std.proofs.lemmas.Bool.{cases_eq}
+use Rattle.str_model.proofs.ViewFacts.MarksRise.{script_op}
 
 -- one more is taken, or there is none
 take_one : {A : Type 0} (xs : List A) (n : ℕ) → ((x : A) × (slice_get xs n ≡ Some x) × (take (suc n) xs ≡ take n xs ++ x ∷ [])) ⊎ ((slice_get xs n ≡ None) × (take (suc n) xs ≡ take n xs))
@@ -84,19 +85,19 @@ module _ (scene : Scene) (ok : IsScene scene) (es : List Event) where
   -- a wish: by an abort of the script, or at a need after reads that are final
   data WishKind (b : Answer) (B : Behind scene ok es b) : Type 0 where
     by_abort : ((look : KeyId → Value) → IsWish (eval (script_at scene b.place) look) (Aborts Wish)) → WishKind b B
-    by_need : IsKept (at_place scene B.n) B.x → StopsBy (at_place scene B.n) B.x Rattle.str_model.specs.Evaluation.Unmet → WishKind b B
+    by_need : IsKept (at_place scene B.n) B.x → (gets : List Got) → StopsBy (at_place scene B.n) B.x gets Rattle.str_model.specs.Evaluation.Unmet → WishKind b B
 
   wish_kind : (b : Answer) (B : Behind scene ok es b) → b.outcome ≡ Aborts Wish → WishKind b B
   wish_kind b B e = by_op (stop_or_not (own_op (at_place scene B.n) B.x))
     where
       phase : (lc : Option ℕ) × (B.x.phase ≡ Aborted lc Wish)
-      phase = wish_phase B.x.phase B.x.gets B.decided (sym (ap (λ (z : Answer). z.outcome) B.same) ∙ e)
+      phase = wish_phase B.x.phase B.gets B.decided (sym (ap (λ (z : Answer). z.outcome) B.same) ∙ e)
 
       by_op : (own_op (at_place scene B.n) B.x ≡ Some Give) ⊎ (own_op (at_place scene B.n) B.x ≢ Some Give) → WishKind b B
       by_op (inl q) = by_abort (λ look. abort-wishes look (script_at scene b.place) B.x.next [] [] (ap (λ (p : TxPlace). slice_get (script_at scene p) B.x.next) (ap (λ (z : Answer). z.place) B.same) ∙ q))
       by_op (inr q) =
           let p : PhaseGives (at_place scene B.n) B.x (Aborted phase.0 Wish) = subst (PhaseGives (at_place scene B.n) B.x) phase.1 (evaluates scene ok es b B).phase in
-          elim p as (λ z. WishKind b B) [ inl y ↦ by_need (inr ((phase.0, phase.1), q)) y | inr y ↦ absurd (q y) ]
+          elim p as (λ z. WishKind b B) [ inl y ↦ by_need (inr ((phase.0, phase.1), q)) y.0 y.1 | inr y ↦ absurd (q y) ]
 
   module _ (n : ℕ) (a : Answer) (ia : IsAnswer (run scene es).answers n a) (si : SI scene (take n (run scene es).answers)) (so : SeenSo scene ok es n) where
     A : Behind scene ok es a
@@ -124,9 +125,9 @@ module _ (scene : Scene) (ok : IsScene scene) (es : List Event) where
       where
         by_kind : (B : Behind scene ok es a) → WishKind a B → IsWish (seen scene (take n (run scene es).answers) a) (Aborts Wish)
         by_kind B (by_abort f) = f _
-        by_kind B (by_need kept stops) =
-            let r = own_reads scene ok es n si so n a ia (omega arith) B kept (unmet_of B.x) stops in
-            let q = reads_seen scene (take n (run scene es).answers) a (unmet_of B.x) (named (take n (run scene es).answers) si.placed.names) (Isolating.above scene ok es n si so n a ia) r.0 in
+        by_kind B (by_need kept gets stops) =
+            let r = own_reads scene ok es n si so n a ia (omega arith) B kept (unmet_of gets B.x) stops in
+            let q = reads_seen scene (take n (run scene es).answers) a (unmet_of gets B.x) (named (take n (run scene es).answers) si.placed.names) (AnswersFollow.above scene ok es n si so n a ia) r.0 in
             inl (ap (λ (z : Evaluated). z.stop) q)
 
     wish_ : (o : Outcome) → a.outcome ≡ o → IsWish (seen scene (take n (run scene es).answers) a) o
@@ -141,7 +142,7 @@ module _ (scene : Scene) (ok : IsScene scene) (es : List Event) where
         let q = old j b ib in
         let B = behind scene ok es j b q.1 in
         let p = commit_phase scene ok es b B o gets e in
-        keeps_on scene ok es n si so j b q.1 (let z = q.0 in omega (arith, z)) B (inl (p.0, p.1, p.2)) (done_of B.x) (commit_reads scene ok es n si so j b q.1 o gets (let z = q.0 in omega (arith, z)) e) a ia f cm l
+        keeps_on scene ok es n si so j b q.1 (let z = q.0 in omega (arith, z)) B (inl (p.0, p.1, p.2)) (done_of B.gets B.x) (commit_reads scene ok es n si so j b q.1 o gets (let z = q.0 in omega (arith, z)) e) a ia f cm l
 
     wishes_ : (j f : ℕ) (b : Answer) → IsAnswer (take n (run scene es).answers) j b → IsCommittedAt a f → b.outcome ≡ Aborts Wish → f ≤ b.rs.0
         → Keeps scene (take n (run scene es).answers) a f b ⊎ ((look : KeyId → Value) → IsWish (eval (script_at scene b.place) look) (Aborts Wish))
@@ -150,19 +151,15 @@ module _ (scene : Scene) (ok : IsScene scene) (es : List Event) where
         by_kind : (j < n) × IsAnswer (run scene es).answers j b → (B : Behind scene ok es b) → WishKind b B
             → Keeps scene (take n (run scene es).answers) a f b ⊎ ((look : KeyId → Value) → IsWish (eval (script_at scene b.place) look) (Aborts Wish))
         by_kind q B (by_abort g) = inr g
-        by_kind q B (by_need kept stops) =
+        by_kind q B (by_need kept gets stops) =
             let le : j ≤ n = (let z = q.0 in omega (arith, z)) in
-            inl (keeps_on scene ok es n si so j b q.1 le B kept (unmet_of B.x) (own_reads scene ok es n si so j b q.1 le B kept (unmet_of B.x) stops) a ia f cm l)
+            inl (keeps_on scene ok es n si so j b q.1 le B kept (unmet_of gets B.x) (own_reads scene ok es n si so j b q.1 le B kept (unmet_of gets B.x) stops) a ia f cm l)
 
     -- of two writers of one key one is final at or below the other's snapshot
     apart_ : (j f g : ℕ) (b : Answer) (k : KeyId) → IsAnswer (take n (run scene es).answers) j b → IsCommittedAt a f → IsCommittedAt b g → wrote_key k (seen scene (take n (run scene es).answers) a).writes ≡ true
         → wrote_key k (seen scene (take n (run scene es).answers) b).writes ≡ true → (f ≤ b.rs.0) ⊎ (g ≤ a.rs.0)
     apart_ j f g b k ib ca cb wa wb = by_buffers (old j b ib) (behind scene ok es n a ia) (ap (λ (z : Evaluated). wrote_key k z.writes) (sym (commit_seen scene ok es n si so n a ia (Some (stamp f)) ca.0 (omega arith) ca.1)) ∙ wa)
       where
-        at_final : (v : View) (h : ℕ) (q : Version) → ArrivedAs v h q → q.kind ≡ Final → q.ts.0 ≡ h
-        at_final v h q (a_final t e) z = e
-        at_final v h q (a_pre t le nd) z = absurd (cc (sym t ∙ z))
-
         not_local : (v : View) (h : ℕ) (q : Version) → ArrivedAs v h q → q.kind ≢ LocalKind
         not_local v h q (a_final t e) z = cc (sym t ∙ z)
         not_local v h q (a_pre t le nd) z = cc (sym t ∙ z)
@@ -217,12 +214,12 @@ module _ (scene : Scene) (ok : IsScene scene) (es : List Event) where
   so_next : (n : ℕ) (a : Answer) (ia : IsAnswer (run scene es).answers n a) → (si : SI scene (take n (run scene es).answers)) → (so : SeenSo scene ok es n) → take (suc n) (run scene es).answers ≡ take n (run scene es).answers ++ a ∷ []
       → SeenSo scene ok es (suc n)
   so_next n a ia si so q j b ib o gs l e =
-      subst (λ zs. seen scene zs b ≡ done_of (behind scene ok es j b ib).x) (sym q) (by_place (same_or_not j n))
+      subst (λ zs. seen scene zs b ≡ done_of (behind scene ok es j b ib).gets (behind scene ok es j b ib).x) (sym q) (by_place (cases_eq j n))
     where
       nx : SeenNext scene (take n (run scene es).answers) a
       nx = seen_next scene (take n (run scene es).answers) a si (next_answer n a ia si so)
 
-      by_place : (j ≡ n) ⊎ (j ≢ n) → seen scene (take n (run scene es).answers ++ a ∷ []) b ≡ done_of (behind scene ok es j b ib).x
+      by_place : (j ≡ n) ⊎ (j ≢ n) → seen scene (take n (run scene es).answers ++ a ∷ []) b ≡ done_of (behind scene ok es j b ib).gets (behind scene ok es j b ib).x
       by_place (inl t) =
           let both : Some b ≡ Some a = sym ib ∙ (ap (λ k. slice_get (run scene es).answers k) t ∙ ia) in
           let same : b ≡ a = cc both in
@@ -240,10 +237,10 @@ module _ (scene : Scene) (ok : IsScene scene) (es : List Event) where
           → SI scene (take (suc n) (run scene es).answers) × SeenSo scene ok es (suc n)
       by_end r (inl h) =
           (subst (SI scene) (sym h.2) (si_next scene (take n (run scene es).answers) h.0 r.0 (next_answer n h.0 h.1 r.0 r.1)), so_next n h.0 h.1 r.0 r.1 h.2)
-      by_end r (inr h) = (subst (SI scene) (sym h.1) r.0, λ j b ib o gs l e. subst (λ zs. seen scene zs b ≡ done_of (behind scene ok es j b ib).x) (sym h.1) (by_place j b ib o gs l e (same_or_not j n)))
+      by_end r (inr h) = (subst (SI scene) (sym h.1) r.0, λ j b ib o gs l e. subst (λ zs. seen scene zs b ≡ done_of (behind scene ok es j b ib).gets (behind scene ok es j b ib).x) (sym h.1) (by_place j b ib o gs l e (cases_eq j n)))
         where
           by_place : (j : ℕ) (b : Answer) (ib : IsAnswer (run scene es).answers j b) (o : Option Ts) (gs : List Got) → j < suc n → b.outcome ≡ Commits o gs → (j ≡ n) ⊎ (j ≢ n)
-              → seen scene (take n (run scene es).answers) b ≡ done_of (behind scene ok es j b ib).x
+              → seen scene (take n (run scene es).answers) b ≡ done_of (behind scene ok es j b ib).gets (behind scene ok es j b ib).x
           by_place j b ib o gs l e (inl t) = absurd (let z : Some b ≡ None = sym ib ∙ (ap (λ k. slice_get (run scene es).answers k) t ∙ h.0) in cc z)
           by_place j b ib o gs l e (inr t) = let less : j < n = grind (arith, l, t) in r.1 j b ib o gs less e
 

@@ -4,28 +4,30 @@ use Rattle.si_laws.proofs.Guards.GuardReads.{Guarded, guarded_opening, guarded_s
 use Rattle.si_laws.proofs.Guards.GuardsKept.{committed_up}
 use Rattle.si_laws.proofs.Stages.LinkedStates.{one_of}
 use Rattle.si_laws.proofs.CommitLists.AnswersBefore.{Precedes, in_event, lower_first, new_released, precedes_across, precedes_event, precedes_right}
-use Rattle.si_laws.proofs.Reads.FinalsReported.{CommittedIn, ReadOk, ro_committed, ro_gone, ro_listed}
+use Rattle.si_laws.proofs.Sources.FinalsReported.{CommittedIn, ReadOk, ro_committed, ro_gone, ro_listed}
 use Rattle.si_laws.proofs.Isolation.WishOrigins.{HasWished, WishOrigin, wish_origin, wo_now, wo_old, wo_stop}
 use Rattle.str_model.proofs.Principle.SingleChanges.{Act, Where}
 use Rattle.str_model.proofs.Principle.StepPaths.{StepPath, step-keeps}
 use Rattle.str_model.proofs.Principle.Everywhere.{IsSeen, Stage, at_place, during, during_start, stage_of, steps_everywhere}
-use Rattle.str_model.proofs.Lists.ListReads.{get_set, get_set_other, got_push, got_replicate, got_set}
-use Rattle.str_model.proofs.Lists.Members.{In, in_append, in_right}
 use Rattle.str_model.proofs.Changes.AnswerChanges.{Rising, TellStep, in_release, r_none, release-rising, t_begins, t_decides, t_goes, t_rests, tell_step, told}
 use Rattle.std.proofs.Common.{List, Option, Some, ap, arith, false, inl, inr, replicate, slice_get, slice_set, subst, sym, true, ℕ, ◌++◌, ◌+◌, ◌<◌, ◌∙◌, ◌≡◌, ◌≢◌, ◌≤◌, ◌⊎◌}
 use Rattle.str_base.specs.declared.names.TxId.{TxId}
-use Rattle.str_model.specs.Acts.{fresh}
+use Rattle.str_model.specs.Acts.{decided_as, fresh}
 use Rattle.str_model.specs.Owned.{Owns}
 use Rattle.str_model.specs.Runs.{opening, opening_view, run}
 use Rattle.str_model.specs.Scripts.{own_op}
 use Rattle.str_model.specs.Views.{Committed, Doing, Own, View, is_decided, lc_of, release, starts}
 use Rattle.str_model.specs.declared.messages.Answer.{Answer}
 use Rattle.str_model.specs.declared.messages.Input.{Input}
+use Rattle.str_model.specs.declared.names.Got.{Got}
 use Rattle.str_model.specs.declared.names.ReadDone.{ReadDone}
 use Rattle.str_scene.specs.SceneLimits.{IsScene}
 use Rattle.str_scene.specs.Scenes.{Here, Scene}
 use Rattle.str_scene.specs.declared.names.Event.{Event}
 use Rattle.str_scene.specs.declared.names.Op.TheVariants.{Abort as Stop}
+use Rattle.str_base.proofs.Lists.{get_set, get_set_other, got_push, got_replicate, got_set}
+use Rattle.str_base.proofs.Members.{in_append, in_right}
+use Rattle.str_base.specs.Members.{In}
 
 -- ---- the state
 
@@ -40,10 +42,10 @@ pub record Answering (scene : Scene) (s : Stage) : Type 0 where
   pub wished : (n : ℕ) (v : View) (i : ℕ) (x : Own) (r : ReadDone) (u : TxId) → slice_get s.nodes n ≡ Some v → Owns v i x → HasWished x → own_op (at_place scene n) x ≢ Some Stop → In r x.reads → r.by ≡ Some u
       → (f : ℕ) × CommittedIn s u f × (f ≤ x.snap.rs)
   -- each decided transaction is answered
-  pub told_ : (n : ℕ) (v : View) (i : ℕ) (x : Own) → slice_get s.nodes n ≡ Some v → Owns v i x → is_decided x.phase ≡ true → In (told (at_place scene n) i x) s.answers
+  pub told_ : (n : ℕ) (v : View) (i : ℕ) (x : Own) → slice_get s.nodes n ≡ Some v → Owns v i x → is_decided x.phase ≡ true → (gets : List Got) × In (told (at_place scene n) i x gets) s.answers
   -- its writers before it
   pub first : (n : ℕ) (v : View) (i : ℕ) (x : Own) (r : ReadDone) (u : TxId) → slice_get s.nodes n ≡ Some v → Owns v i x → IsKept (at_place scene n) x → In r x.reads → r.by ≡ Some u
-      → (b : Answer) × Precedes s.answers b (told (at_place scene n) i x) × (b.tx ≡ u)
+      → (gets : List Got) × (b : Answer) × Precedes s.answers b (told (at_place scene n) i x gets) × (b.tx ≡ u)
 
 -- what a kept transaction read from has committed at or below its snapshot
 pub kept_reads : (scene : Scene) (s : Stage) → Guarded scene s
@@ -110,9 +112,9 @@ module _ (scene : Scene) (ok : IsScene scene) (s : Stage) (i : ℕ) (v : View) (
   grows (t_rests o r) = same_grows r
   grows (t_begins place rs b o r) = same_grows r
   grows (t_goes j x y is' f g p q o r) = same_grows r
-  grows (t_decides j x y is' f g p q o r) = record {
-    stays = λ a k. subst (λ xs. In a (s.answers ++ xs)) (sym r) (in_event s.answers d.released (told (at_place scene i) j y) a k);
-    order = λ b a k. subst (λ xs. Precedes (s.answers ++ xs) b a) (sym r) (precedes_event s.answers d.released (told (at_place scene i) j y) b a k);
+  grows (t_decides j x p is' f g o r) = record {
+    stays = λ a k. subst (λ xs. In a (s.answers ++ xs)) (sym r) (in_event s.answers d.released (told (at_place scene i) j (decided_as p x) x.gets) a k);
+    order = λ b a k. subst (λ xs. Precedes (s.answers ++ xs) b a) (sym r) (precedes_event s.answers d.released (told (at_place scene i) j (decided_as p x) x.gets) b a k);
   }
 
   g : Grows
@@ -121,7 +123,7 @@ module _ (scene : Scene) (ok : IsScene scene) (s : Stage) (i : ℕ) (v : View) (
   -- an own transaction that is decided after the change: it was so before, or it is answered now
   data Decided (j : ℕ) (x : Own) : Type 0 where
     d_old : Owns d.view j x → Decided j x
-    d_new : e.released ≡ release (told (at_place scene i) j x) d.released → Decided j x
+    d_new : (gets : List Got) → e.released ≡ release (told (at_place scene i) j x gets) d.released → Decided j x
 
   decided_by : (j : ℕ) (x : Own) → Owns e.view j x → is_decided x.phase ≡ true → TellStep (at_place scene i) d e → Decided j x
   decided_by j x own dec (t_rests o r) = d_old (subst (λ xs. slice_get xs j ≡ Some x) o own)
@@ -133,54 +135,53 @@ module _ (scene : Scene) (ok : IsScene scene) (s : Stage) (i : ℕ) (v : View) (
     | inl c ↦ absurd (let k : is_decided x.phase ≡ false = ap (λ (u : Own). is_decided u.phase) c.1 ∙ g' in cc (k, dec))
     | inr c ↦ d_old c.1
   ]
-  decided_by j x own dec (t_decides m z y is' f g' p q o r) = elim (got_set d.view.own m j y x (subst (λ xs. slice_get xs j ≡ Some x) o own)) [
-    | inl c ↦ d_new (r ∙ (λ t. release (told (at_place scene i) (sym c.0 t) (sym c.1 t)) d.released))
+  decided_by j x own dec (t_decides m z p is' f g' o r) = elim (got_set d.view.own m j (decided_as p z) x (subst (λ xs. slice_get xs j ≡ Some x) o own)) [
+    | inl c ↦ d_new z.gets (r ∙ (λ t. release (told (at_place scene i) (sym c.0 t) (sym c.1 t) z.gets) d.released))
     | inr c ↦ d_old c.1
   ]
 
   decided_now : (j : ℕ) (x : Own) → Owns e.view j x → is_decided x.phase ≡ true → Decided j x
   decided_now j x own dec = decided_by j x own dec (tell_step (at_place scene i) input w d e act)
 
-  told_e : (n : ℕ) (z : View) (j : ℕ) (x : Own) → slice_get (slice_set s.nodes i e.view) n ≡ Some z → Owns z j x → is_decided x.phase ≡ true → In (told (at_place scene n) j x) (s.answers ++ e.released)
+  told_e : (n : ℕ) (z : View) (j : ℕ) (x : Own) → slice_get (slice_set s.nodes i e.view) n ≡ Some z → Owns z j x → is_decided x.phase ≡ true
+      → (gets : List Got) × In (told (at_place scene n) j x gets) (s.answers ++ e.released)
   told_e n z j x there own dec = elim (got_set s.nodes i n e.view z there) [
-    | inl q ↦ subst (λ (k : ℕ). In (told (at_place scene k) j x) (s.answers ++ e.released)) (sym q.0) (here (decided_now j x (subst (λ (y : View). Owns y j x) q.1 own) dec))
-    | inr q ↦ g.stays (told (at_place scene n) j x) (h.state.told_ n z j x (get_set_other s.nodes i n d.view q.0 ∙ q.1) own dec)
+    | inl q ↦ subst (λ (k : ℕ). (gets : List Got) × In (told (at_place scene k) j x gets) (s.answers ++ e.released)) (sym q.0) (here (decided_now j x (subst (λ (y : View). Owns y j x) q.1 own) dec))
+    | inr q ↦ (let t = h.state.told_ n z j x (get_set_other s.nodes i n d.view q.0 ∙ q.1) own dec in (t.0, g.stays (told (at_place scene n) j x t.0) t.1))
   ]
     where
-      here : Decided j x → In (told (at_place scene i) j x) (s.answers ++ e.released)
-      here (d_old o) = g.stays (told (at_place scene i) j x) (h.state.told_ i d.view j x at_d o dec)
-      here (d_new r) = subst (λ xs. In (told (at_place scene i) j x) (s.answers ++ xs)) (sym r) (in_right s.answers _ _ (new_released (told (at_place scene i) j x) d.released))
+      here : Decided j x → (gets : List Got) × In (told (at_place scene i) j x gets) (s.answers ++ e.released)
+      here (d_old o) = let t = h.state.told_ i d.view j x at_d o dec in (t.0, g.stays (told (at_place scene i) j x t.0) t.1)
+      here (d_new gets r) = (gets, subst (λ xs. In (told (at_place scene i) j x gets) (s.answers ++ xs)) (sym r) (in_right s.answers _ _ (new_released (told (at_place scene i) j x gets) d.released)))
 
   kept_decided : (n : ℕ) (x : Own) → IsKept (at_place scene n) x → is_decided x.phase ≡ true
   kept_decided n x (inl k) = ap is_decided k.2
   kept_decided n x (inr k) = ap is_decided k.0.1
 
   -- the writers of one that is answered now
-  first_new : (j : ℕ) (x : Own) (r : ReadDone) (u : TxId) → Owns e.view j x → IsKept (at_place scene i) x → In r x.reads → r.by ≡ Some u → e.released ≡ release (told (at_place scene i) j x) d.released
-      → (b : Answer) × Precedes (s.answers ++ e.released) b (told (at_place scene i) j x) × (b.tx ≡ u)
-  first_new j x r u own k m by rel =
+  first_new : (j : ℕ) (x : Own) (gets : List Got) (r : ReadDone) (u : TxId) → Owns e.view j x → IsKept (at_place scene i) x → In r x.reads → r.by ≡ Some u → e.released ≡ release (told (at_place scene i) j x gets) d.released
+      → (b : Answer) × Precedes (s.answers ++ e.released) b (told (at_place scene i) j x gets) × (b.tx ≡ u)
+  first_new j x gets r u own k m by rel =
       let f = kept_reads scene (during s i e) ge wished_e i e.view j x r u (get_set s.nodes i v e.view is) own k m by in
       let c : Committer scene (during s i e) u f.0 = committer scene (during s i e) u f.0 f.1 in
-      let b : Answer = told (at_place scene c.at_.n) c.at_.i c.x in
+      let t = told_e c.at_.n c.at_.view c.at_.i c.x c.at_.there c.at_.own (ap is_decided c.is.1) in
+      let b : Answer = told (at_place scene c.at_.n) c.at_.i c.x t.0 in
       let name : b.tx ≡ u = sym c.at_.name in (
         b,
-        by_place f c name (in_append s.answers (release (told (at_place scene i) j x) d.released) b
-            (subst (λ xs. In b (s.answers ++ xs)) rel (told_e c.at_.n c.at_.view c.at_.i c.x c.at_.there c.at_.own (ap is_decided c.is.1)))),
+        by_place f c t.0 name (in_append s.answers (release (told (at_place scene i) j x gets) d.released) b
+            (subst (λ xs. In b (s.answers ++ xs)) rel t.1)),
         name,
       )
     where
-      a : Answer
-      a = told (at_place scene i) j x
-
-      by_place : (f : (fc : ℕ) × CommittedIn (during s i e) u fc × (fc ≤ x.snap.rs)) (c : Committer scene (during s i e) u f.0) → (told (at_place scene c.at_.n) c.at_.i c.x).tx ≡ u
-          → In (told (at_place scene c.at_.n) c.at_.i c.x) s.answers ⊎ In (told (at_place scene c.at_.n) c.at_.i c.x) (release (told (at_place scene i) j x) d.released)
-          → Precedes (s.answers ++ e.released) (told (at_place scene c.at_.n) c.at_.i c.x) (told (at_place scene i) j x)
-      by_place f c name (inl q) =
-          subst (λ xs. Precedes (s.answers ++ xs) (told (at_place scene c.at_.n) c.at_.i c.x) (told (at_place scene i) j x)) (sym rel)
-          (precedes_across s.answers (release (told (at_place scene i) j x) d.released) _ _ q (new_released (told (at_place scene i) j x) d.released))
-      by_place f c name (inr q) =
-          subst (λ xs. Precedes (s.answers ++ xs) (told (at_place scene c.at_.n) c.at_.i c.x) (told (at_place scene i) j x)) (sym rel)
-          (precedes_right s.answers (release (told (at_place scene i) j x) d.released) _ _ (by_new (in_release (told (at_place scene i) j x) d.released (told (at_place scene c.at_.n) c.at_.i c.x) q)))
+      by_place : (f : (fc : ℕ) × CommittedIn (during s i e) u fc × (fc ≤ x.snap.rs)) (c : Committer scene (during s i e) u f.0) (gs : List Got) → (told (at_place scene c.at_.n) c.at_.i c.x gs).tx ≡ u
+          → In (told (at_place scene c.at_.n) c.at_.i c.x gs) s.answers ⊎ In (told (at_place scene c.at_.n) c.at_.i c.x gs) (release (told (at_place scene i) j x gets) d.released)
+          → Precedes (s.answers ++ e.released) (told (at_place scene c.at_.n) c.at_.i c.x gs) (told (at_place scene i) j x gets)
+      by_place f c gs name (inl q) =
+          subst (λ xs. Precedes (s.answers ++ xs) (told (at_place scene c.at_.n) c.at_.i c.x gs) (told (at_place scene i) j x gets)) (sym rel)
+          (precedes_across s.answers (release (told (at_place scene i) j x gets) d.released) _ _ q (new_released (told (at_place scene i) j x gets) d.released))
+      by_place f c gs name (inr q) =
+          subst (λ xs. Precedes (s.answers ++ xs) (told (at_place scene c.at_.n) c.at_.i c.x gs) (told (at_place scene i) j x gets)) (sym rel)
+          (precedes_right s.answers (release (told (at_place scene i) j x gets) d.released) _ _ (by_new (in_release (told (at_place scene i) j x gets) d.released (told (at_place scene c.at_.n) c.at_.i c.x gs) q)))
         where
           -- it stands below x at this node
           below : c.at_.n ≡ i → c.at_.i < j
@@ -195,40 +196,40 @@ module _ (scene : Scene) (ok : IsScene scene) (s : Stage) (i : ℕ) (v : View) (
                 | inr z ↦ (let t = times.rising j c.at_.i x c.x z own owns in absurd (omega (arith, t, f.2, fc.2, l.0)))
               ]
 
-          by_new : (told (at_place scene i) j x ≡ told (at_place scene c.at_.n) c.at_.i c.x) ⊎ In (told (at_place scene c.at_.n) c.at_.i c.x) d.released
-              → Precedes (release (told (at_place scene i) j x) d.released) (told (at_place scene c.at_.n) c.at_.i c.x) (told (at_place scene i) j x)
+          by_new : (told (at_place scene i) j x gets ≡ told (at_place scene c.at_.n) c.at_.i c.x gs) ⊎ In (told (at_place scene c.at_.n) c.at_.i c.x gs) d.released
+              → Precedes (release (told (at_place scene i) j x gets) d.released) (told (at_place scene c.at_.n) c.at_.i c.x gs) (told (at_place scene i) j x gets)
           by_new (inl z) =
               let node : c.at_.n ≡ i = omega (arith, ap (λ (y : Answer). y.tx.node.0) z) in
               let place : c.at_.i ≡ j = omega (arith, ap (λ (y : Answer). y.tx.seq) z) in
               let b = below node in absurd (omega (arith, b, place))
           by_new (inr z) =
-              let o = h.ours (told (at_place scene c.at_.n) c.at_.i c.x) z in
+              let o = h.ours (told (at_place scene c.at_.n) c.at_.i c.x gs) z in
               let node : c.at_.n ≡ i = omega (arith, o) in
-              let b = below node in lower_first (told (at_place scene i) j x) d.released (told (at_place scene c.at_.n) c.at_.i c.x) h.rising z (omega (arith, b))
+              let b = below node in lower_first (told (at_place scene i) j x gets) d.released (told (at_place scene c.at_.n) c.at_.i c.x gs) h.rising z (omega (arith, b))
 
   first_e : (n : ℕ) (z : View) (j : ℕ) (x : Own) (r : ReadDone) (u : TxId) → slice_get (slice_set s.nodes i e.view) n ≡ Some z → Owns z j x → IsKept (at_place scene n) x → In r x.reads → r.by ≡ Some u
-      → (b : Answer) × Precedes (s.answers ++ e.released) b (told (at_place scene n) j x) × (b.tx ≡ u)
+      → (gets : List Got) × (b : Answer) × Precedes (s.answers ++ e.released) b (told (at_place scene n) j x gets) × (b.tx ≡ u)
   first_e n z j x r u there own k m by = elim (got_set s.nodes i n e.view z there) [
-    | inl q ↦ subst (λ (a : ℕ). (b : Answer) × Precedes (s.answers ++ e.released) b (told (at_place scene a) j x) × (b.tx ≡ u)) (sym q.0)
+    | inl q ↦ subst (λ (a : ℕ). (gets : List Got) × (b : Answer) × Precedes (s.answers ++ e.released) b (told (at_place scene a) j x gets) × (b.tx ≡ u)) (sym q.0)
         (here (subst (λ (a : ℕ). IsKept (at_place scene a) x) q.0 k) (subst (λ (y : View). Owns y j x) q.1 own) (decided_now j x (subst (λ (y : View). Owns y j x) q.1 own) (kept_decided n x k)))
-    | inr q ↦ (let y = h.state.first n z j x r u (get_set_other s.nodes i n d.view q.0 ∙ q.1) own k m by in (y.0, g.order y.0 (told (at_place scene n) j x) y.1, y.2))
+    | inr q ↦ (let y = h.state.first n z j x r u (get_set_other s.nodes i n d.view q.0 ∙ q.1) own k m by in (y.0, y.1, g.order y.1 (told (at_place scene n) j x y.0) y.2, y.3))
   ]
     where
-      here : IsKept (at_place scene i) x → Owns e.view j x → Decided j x → (b : Answer) × Precedes (s.answers ++ e.released) b (told (at_place scene i) j x) × (b.tx ≡ u)
-      here k' own' (d_old o) = let y = h.state.first i d.view j x r u at_d o k' m by in (y.0, g.order y.0 (told (at_place scene i) j x) y.1, y.2)
-      here k' own' (d_new rel) = first_new j x r u own' k' m by rel
+      here : IsKept (at_place scene i) x → Owns e.view j x → Decided j x → (gets : List Got) × (b : Answer) × Precedes (s.answers ++ e.released) b (told (at_place scene i) j x gets) × (b.tx ≡ u)
+      here k' own' (d_old o) = let y = h.state.first i d.view j x r u at_d o k' m by in (y.0, y.1, g.order y.1 (told (at_place scene i) j x y.0) y.2, y.3)
+      here k' own' (d_new gets rel) = let y = first_new j x gets r u own' k' m by rel in (gets, y.0, y.1, y.2)
 
   ours_e : TellStep (at_place scene i) d e → (a : Answer) → In a e.released → a.tx.node.0 ≡ i + 1
   ours_e (t_rests o r) a m = h.ours a (subst (In a) r m)
   ours_e (t_begins place rs b o r) a m = h.ours a (subst (In a) r m)
   ours_e (t_goes j x y is' f g' p q o r) a m = h.ours a (subst (In a) r m)
-  ours_e (t_decides j x y is' f g' p q o r) a m = elim (in_release (told (at_place scene i) j y) d.released a (subst (In a) r m)) [ inl z ↦ ap (λ (b : Answer). b.tx.node.0) (sym z) | inr z ↦ h.ours a z ]
+  ours_e (t_decides j x p is' f g' o r) a m = elim (in_release (told (at_place scene i) j (decided_as p x) x.gets) d.released a (subst (In a) r m)) [ inl z ↦ ap (λ (b : Answer). b.tx.node.0) (sym z) | inr z ↦ h.ours a z ]
 
   rising_e : TellStep (at_place scene i) d e → Rising e.released
   rising_e (t_rests o r) = subst Rising (sym r) h.rising
   rising_e (t_begins place rs b o r) = subst Rising (sym r) h.rising
   rising_e (t_goes j x y is' f g' p q o r) = subst Rising (sym r) h.rising
-  rising_e (t_decides j x y is' f g' p q o r) = subst Rising (sym r) (release-rising (told (at_place scene i) j y) d.released h.rising)
+  rising_e (t_decides j x p is' f g' o r) = subst Rising (sym r) (release-rising (told (at_place scene i) j (decided_as p x) x.gets) d.released h.rising)
 
   pub in_event_step : InEvent scene s i e
   in_event_step = record {

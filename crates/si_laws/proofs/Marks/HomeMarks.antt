@@ -11,7 +11,7 @@ use Rattle.str_model.specs.declared.messages.Input.{Input}
 use Rattle.str_model.specs.declared.names.ReadDone.{ReadDone}
 use Rattle.str_base.specs.declared.names.Value.{Value}
 use Rattle.dependency_set.specs.Snapshots.{Snap}
-use Rattle.str_model.specs.Acts.{abort_came, aborted, accepted, acked, asked, begun, certified, closed, commit_came, committed, fresh, in_phase, marked, refused, replied, requested, taken, waits, with_asked}
+use Rattle.str_model.specs.Acts.{abort_came, aborted, accepted, acked, asked, begun, certified, closed, commit_came, committed, decided_as, fresh, in_phase, marked, refused, replied, requested, taken, waits, with_asked}
 use Rattle.str_model.specs.Owned.{IsView, Owns, WaitsFor}
 use Rattle.str_model.specs.Runs.{opening_view, run}
 use Rattle.str_model.specs.Scripts.{noted, own_op}
@@ -21,11 +21,13 @@ use Rattle.str_model.proofs.Principle.SingleChanges.{Act, Change, JustMarked, Re
 use Rattle.str_model.proofs.Principle.StepPaths.{step-keeps}
 use Rattle.str_model.proofs.Principle.Everywhere.{at_each_event, at_place}
 use Rattle.str_model.proofs.Changes.SnapshotsGain.{TurnGood, read_turn-good, reply_turn-good}
-use Rattle.str_model.proofs.Lists.ListReads.{got_push, got_set}
-use Rattle.str_model.proofs.Lists.Members.{In, in_append, in_at}
 use Rattle.si_laws.proofs.Dependencies.AroundKept.{cert_rs}
-use Rattle.str_model.proofs.ViewFacts.MarksRise.{Looks, LooksLess, Rises, finish-looks, finish_next-looks, marked_now, need_within, raise_all-rises, raised-rises, rises_self, same_key-is}
+use Rattle.str_model.proofs.ViewFacts.MarksRise.{Looks, LooksLess, Rises, finish-looks, finish_next-looks, marked_now, need_within, raise_all-rises, raised-rises, rises_self}
 use Rattle.si_laws.specs.Laws.Marks.{MarkedAtHome, ReadsKey}
+use Rattle.str_base.proofs.Lists.{got_push, got_set}
+use Rattle.str_base.proofs.Members.{in_append, in_at}
+use Rattle.str_base.proofs.SameNames.{same_key-is}
+use Rattle.str_base.specs.Members.{In}
 
 -- The mark of each key that an own transaction has read or waits for is at least its timestamp, and the key is one of the scene. Why: a later
 -- version of the key here gets a timestamp above the mark, so it stays above the snapshot.
@@ -145,9 +147,9 @@ module _ (here : Here) (ok : IsScene here.scene) where
       turn d'.view e.view i x (record x { snap = snap; parts = participants here.scene here.node x.writes; phase = Local lc }) refl refl own.0 (less d'.view x (record x { snap = snap; parts = participants here.scene here.node x.writes; phase = Local lc }) (record { reads = refl; rs = cert_rs here d'.view x.snap snap x.writes lc c; waits = λ k z. absurd z })) h
   marked-act input w d e (act_ask i lc p x d' own f l g) h = turn d'.view e.view i x (record x { parts = with_asked p x.parts; phase = Global lc }) refl refl own.0 (less d'.view x (record x { parts = with_asked p x.parts; phase = Global lc }) (record { reads = refl; rs = refl; waits = λ k z. absurd z })) h
   marked-act input w d e (act_ack i lc from tx p ts parts x d' own c q g) h = turn d'.view e.view i x (record x { parts = parts }) refl refl own.0 (less d'.view x (record x { parts = parts }) (record { reads = refl; rs = refl; waits = λ k z. z })) h
-  marked-act input w d e (act_abort i cause x d' own f y) h = turn d'.view e.view i x (in_phase (Aborted (lc_of x.phase) cause) x) refl refl own.0 (less d'.view x (in_phase (Aborted (lc_of x.phase) cause) x) (record { reads = refl; rs = refl; waits = λ k z. absurd z })) h
-  marked-act input w d e (act_commit i lc fc x d' own l n le f g) h = turn d'.view e.view i x (in_phase (Committed (Some lc) (Some fc)) x) refl refl own.0 (less d'.view x (in_phase (Committed (Some lc) (Some fc)) x) (record { reads = refl; rs = refl; waits = λ k z. absurd z })) h
-  marked-act input w d e (act_close i x d' own p n) h = turn d'.view e.view i x (in_phase (Committed None None) x) refl refl own.0 (less d'.view x (in_phase (Committed None None) x) (record { reads = refl; rs = refl; waits = λ k z. absurd z })) h
+  marked-act input w d e (act_abort i cause x d' own f y) h = turn d'.view e.view i x (decided_as (Aborted (lc_of x.phase) cause) x) refl refl own.0 (less d'.view x (decided_as (Aborted (lc_of x.phase) cause) x) (record { reads = refl; rs = refl; waits = λ k z. absurd z })) h
+  marked-act input w d e (act_commit i lc fc x d' own l n le f g) h = turn d'.view e.view i x (decided_as (Committed (Some lc) (Some fc)) x) refl refl own.0 (less d'.view x (decided_as (Committed (Some lc) (Some fc)) x) (record { reads = refl; rs = refl; waits = λ k z. absurd z })) h
+  marked-act input w d e (act_close i x d' own p n) h = turn d'.view e.view i x (decided_as (Committed None None) x) refl refl own.0 (less d'.view x (decided_as (Committed None None) x) (record { reads = refl; rs = refl; waits = λ k z. absurd z })) h
   marked-act input w d e (act_accept a ts d' g m) h = rest d'.view e.view (rises_self d'.view.marks) refl h
   marked-act input w d e (act_refuse a u k d' g m) h = rest d'.view e.view (rises_self d'.view.marks) refl h
   marked-act input w d e (act_take from a d' c l) h = rest d'.view e.view (rises_self d'.view.marks) refl h

@@ -6,17 +6,14 @@ use Rattle.si_laws.proofs.Changes.ReadLetters.{marks_act}
 use Rattle.si_laws.proofs.Marks.ReplyMarks.{rs_stays}
 use Rattle.str_model.proofs.Principle.SingleChanges.{Act, Where, act_abort, act_abort_came, act_accept, act_ack, act_ask, act_begin, act_certify, act_close, act_commit, act_commit_came, act_mark, act_put, act_refuse, act_reply, act_request, act_take, act_unwait, act_wait}
 use Rattle.str_model.proofs.Principle.Everywhere.{Stage, at_place, during}
-use Rattle.str_model.proofs.Lists.ListReads.{get_set, get_set_other, got_push, got_set}
-use Rattle.str_model.proofs.Lists.Members.{In, at_in, in_append, in_left, in_right, map_in}
 use Rattle.str_model.proofs.Changes.AnswerChanges.{tell_step}
-use Rattle.str_model.proofs.Changes.VersionsMet.{filter_in}
 use Rattle.si_laws.specs.Laws.Marks.{CarriesMark}
 use Rattle.std.proofs.Common.{List, None, Option, Some, ap, arith, eq-eqb, false, filter, inl, inr, refl, slice_get, slice_set, subst, sym, ℕ, ◌++◌, ◌∙◌, ◌≡◌, ◌≤◌}
 use Rattle.str_base.specs.declared.names.KeyId.{KeyId}
 use Rattle.str_base.specs.declared.names.PartId.{PartId}
 use Rattle.str_base.specs.declared.names.Write.{Write}
 use Rattle.str_base.specs.Versions.{mark_of, stamp}
-use Rattle.str_model.specs.Acts.{abort_came, aborted, accepted, acked, asked, begun, certified, closed, commit_came, commit_letters, committed, fresh, in_phase, marked, marks_in, refused, replied, requested, taken, waits, with_asked}
+use Rattle.str_model.specs.Acts.{abort_came, aborted, accepted, acked, asked, begun, certified, closed, commit_came, commit_letters, committed, decided_as, fresh, in_phase, marked, marks_in, refused, replied, requested, taken, waits, with_asked}
 use Rattle.str_model.specs.declared.messages.Body.TheVariants.{Commit}
 use Rattle.str_model.specs.declared.messages.Input.{Input}
 use Rattle.str_model.specs.declared.messages.Message.{Message}
@@ -24,11 +21,14 @@ use Rattle.str_model.specs.declared.names.KeyMark.{KeyMark}
 use Rattle.str_model.specs.Owned.{Owns}
 use Rattle.str_model.specs.Views.{Aborted, Committed, Doing, Global, Local, Own, Remote, View, is_decided, lc_of, letter, name_of}
 use Rattle.str_scene.specs.Scenes.{Here, Scene, in_part, part_of, participants}
+use Rattle.str_base.proofs.Members.{at_in, filter_in, in_append, in_left, in_right, map_in}
+use Rattle.str_base.proofs.Lists.{get_set, get_set_other, got_push, got_set}
+use Rattle.str_base.specs.Members.{In}
 
 -- whoever is committed with a final timestamp was so before, or commits now
 pub data CommitStep (here : Here) (d e : Doing) : Type 0 where
   cs_none : ((i : ℕ) (x : Own) → Owns e.view i x → (l : Option ℕ) (fc : ℕ) → x.phase ≡ Committed l (Some fc) → Owns d.view i x) → CommitStep here d e
-  cs_one : (i lc fc : ℕ) (x : Own) → Owns d.view i x → e.view.own ≡ slice_set d.view.own i (in_phase (Committed (Some lc) (Some fc)) x) → e.sent ≡ d.sent ++ commit_letters here i x fc d.view → CommitStep here d e
+  cs_one : (i lc fc : ℕ) (x : Own) → Owns d.view i x → e.view.own ≡ slice_set d.view.own i (decided_as (Committed (Some lc) (Some fc)) x) → e.sent ≡ d.sent ++ commit_letters here i x fc d.view → CommitStep here d e
 
 module _ (here : Here) (input : Input) (w : Where) where
   set_none : (own : List Own) (j : ℕ) (y : Own) → ((l : Option ℕ) (fc : ℕ) → y.phase ≡ Committed l (Some fc) → ⊥) → (i : ℕ) (x : Own) → slice_get (slice_set own j y) i ≡ Some x → (l : Option ℕ) (fc : ℕ)
@@ -49,9 +49,9 @@ module _ (here : Here) (input : Input) (w : Where) where
       let y : Own = record x { snap = snap; parts = participants here.scene here.node x.writes; phase = Local lc } in cs_none (set_none d'.view.own j y (open_none y refl))
   commit_step d e (act_ask j lc p x d' own f l g) = let y : Own = record x { parts = with_asked p x.parts; phase = Global lc } in cs_none (set_none d'.view.own j y (open_none y refl))
   commit_step d e (act_ack j lc from tx p ts parts x d' own c q g) = let y : Own = record x { parts = parts } in cs_none (set_none d'.view.own j y (open_none y (ap is_decided q)))
-  commit_step d e (act_abort j cause x d' own f y) = let z : Own = in_phase (Aborted (lc_of x.phase) cause) x in cs_none (set_none d'.view.own j z (λ l fc c. cc c))
+  commit_step d e (act_abort j cause x d' own f y) = let z : Own = decided_as (Aborted (lc_of x.phase) cause) x in cs_none (set_none d'.view.own j z (λ l fc c. cc c))
   commit_step d e (act_commit j lc fc x d' own l n le f g) = cs_one j lc fc x own.0 refl refl
-  commit_step d e (act_close j x d' own p n) = let z : Own = in_phase (Committed None None) x in cs_none (set_none d'.view.own j z (λ l fc c. cc c))
+  commit_step d e (act_close j x d' own p n) = let z : Own = decided_as (Committed None None) x in cs_none (set_none d'.view.own j z (λ l fc c. cc c))
   commit_step d e (act_accept a ts d' g m) = cs_none (λ i x k l fc c. k)
   commit_step d e (act_refuse a u k d' g m) = cs_none (λ i x k l fc c. k)
   commit_step d e (act_take from a d' c l) = cs_none (λ i x k l fc c. k)
@@ -90,7 +90,7 @@ module _ (scene : Scene) (n j : ℕ) (k : KeyId) (r : ℕ) where
     was_more y f a h x g q p = let m = f a h x g q p in (m.0, sent_more m.0 m.1, m.2, m.3)
 
     -- a commit sends the mark
-    sent_now : (fc lc : ℕ) (x : Own) → n ≡ i → r ≤ mark_of d.view.marks k → e.sent ≡ d.sent ++ commit_letters (at_place scene i) j x fc d.view → WasSent (s.sent ++ e.sent) (in_phase (Committed (Some lc) (Some fc)) x)
+    sent_now : (fc lc : ℕ) (x : Own) → n ≡ i → r ≤ mark_of d.view.marks k → e.sent ≡ d.sent ++ commit_letters (at_place scene i) j x fc d.view → WasSent (s.sent ++ e.sent) (decided_as (Committed (Some lc) (Some fc)) x)
     sent_now fc lc x place le q a h y g key part =
         let mark : KeyMark = record { key = y.key; mark = stamp (mark_of d.view.marks y.key) } in
         let ms : List KeyMark = marks_in (at_place scene i) d.view a.part x.writes in
@@ -131,7 +131,7 @@ module _ (scene : Scene) (n j : ℕ) (k : KeyId) (r : ℕ) where
 
             by_step : r ≤ mark_of d.view.marks k → Owns d.view j h.own → (z : Own) → Owns e.view j z → (l : Option ℕ) (fc : ℕ) → z.phase ≡ Committed l (Some fc) → CommitStep (at_place scene i) d e → WasSent (s.sent ++ e.sent) z
             by_step mark_d own_d z own l fc c (cs_none f) = old_told own_d z (f j z own l fc c) l fc c
-            by_step mark_d own_d z own l fc c (cs_one b lc gc x own' q t) = elim (got_set d.view.own b j (in_phase (Committed (Some lc) (Some gc)) x) z (subst (λ (xs : List Own). slice_get xs j ≡ Some z) q own)) [
+            by_step mark_d own_d z own l fc c (cs_one b lc gc x own' q t) = elim (got_set d.view.own b j (decided_as (Committed (Some lc) (Some gc)) x) z (subst (λ (xs : List Own). slice_get xs j ≡ Some z) q own)) [
               | inl y ↦ subst (λ (u : Own). WasSent (s.sent ++ e.sent) u) (sym y.1) (sent_now gc lc x place mark_d (t ∙ ap (λ (m : ℕ). d.sent ++ commit_letters (at_place scene i) m x gc d.view) (sym y.0)))
               | inr y ↦ old_told own_d z y.1 l fc c
             ]

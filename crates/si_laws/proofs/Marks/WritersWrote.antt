@@ -4,11 +4,9 @@ use Rattle.si_laws.proofs.Stages.LinksKept.{placed_writes}
 use Rattle.si_laws.proofs.Stages.AllLinksKept.{linked_opening, linked_step}
 use Rattle.str_model.proofs.Changes.VersionChanges.{Placed, by_master, by_slave}
 use Rattle.si_laws.proofs.Changes.ReadLetters.{ReadLetter, is_other, letters_act, rl_commit, rl_other, rl_reply, rl_request}
-use Rattle.si_laws.proofs.Reads.GivenVersions.{OwnFrom, change_from, got_from, serve_from, still_from}
+use Rattle.si_laws.proofs.Sources.GivenVersions.{OwnFrom, change_from, got_from, serve_from, still_from}
 use Rattle.str_model.proofs.Principle.SingleChanges.{Act, Comes, Where, act_abort, act_abort_came, act_accept, act_ack, act_ask, act_begin, act_certify, act_close, act_commit, act_commit_came, act_mark, act_put, act_refuse, act_reply, act_request, act_take, act_unwait, act_wait}
 use Rattle.str_model.proofs.Principle.Everywhere.{IsSeen, Sent, Stage, at_place, during, stage_of}
-use Rattle.str_model.proofs.Lists.ListReads.{get_set, get_set_other, got_push, got_replicate, got_set}
-use Rattle.str_model.proofs.Lists.Members.{In, in_append, in_at, in_filter, in_insert_all, in_left, in_map, in_right, in_without}
 use Rattle.std.proofs.Common.{Bool, List, None, Option, Some, ap, filter, inl, inr, map, refl, replicate, slice_get, slice_set, subst, subst₂, sym, ℕ, ◌++◌, ◌∙◌, ◌≡◌}
 use Rattle.str_base.specs.declared.names.KeyId.{KeyId}
 use Rattle.str_base.specs.declared.names.NodeId.{NodeId}
@@ -18,7 +16,7 @@ use Rattle.str_base.specs.declared.names.Value.{Value}
 use Rattle.str_base.specs.declared.names.Version.{Version}
 use Rattle.str_base.specs.declared.names.Write.{Write}
 use Rattle.str_base.specs.Versions.{insert_all, of_pair, of_tx, settled, without}
-use Rattle.str_model.specs.Acts.{abort_came, aborted, accepted, acked, asked, begun, certified, closed, commit_came, committed, fresh, in_phase, is_hosted_of, local_version, marked, pre_version, refused, replied, requested, taken, waits, with_asked}
+use Rattle.str_model.specs.Acts.{abort_came, aborted, accepted, acked, asked, begun, certified, closed, commit_came, committed, decided_as, fresh, in_phase, is_hosted_of, local_version, marked, pre_version, refused, replied, requested, taken, waits, with_asked}
 use Rattle.str_model.specs.declared.messages.Arrived.{Arrived}
 use Rattle.str_model.specs.declared.messages.Body.TheVariants.{ReadReply}
 use Rattle.str_model.specs.declared.messages.Input.{Input}
@@ -28,6 +26,9 @@ use Rattle.str_model.specs.Proposals.{proposed}
 use Rattle.str_model.specs.Runs.{opening, opening_view}
 use Rattle.str_model.specs.Views.{Aborted, Committed, Doing, Global, Local, Own, Remote, View, lc_of, name_of}
 use Rattle.str_scene.specs.Scenes.{Here, Scene, in_part, participants}
+use Rattle.str_base.proofs.Lists.{get_set, get_set_other, got_push, got_replicate, got_set}
+use Rattle.str_base.proofs.Members.{in_append, in_at, in_filter, in_insert_all, in_left, in_map, in_right, in_without}
+use Rattle.str_base.specs.Members.{In}
 
 -- the transaction was certified with a write of the key
 pub record WroteKey (scene : Scene) (s : Stage) (u : TxId) (k : KeyId) : Type 0 where
@@ -114,10 +115,10 @@ module _ (here : Here) (input : Input) (w : Where) where
     own_from e (act_ack i lc from tx p ts parts x d' own c q g) h =
         let y : Own = record x { parts = parts } in set_from d'.view.own i y h (record { reads = (h i x own.0).reads; phase = (h i x own.0).phase })
     own_from e (act_abort i cause x d' own f y) h =
-        let z : Own = in_phase (Aborted (lc_of x.phase) cause) x in set_from d'.view.own i z h (still_from P x z refl (λ k a u fc e. cc e) (h i x own.0))
+        let z : Own = decided_as (Aborted (lc_of x.phase) cause) x in set_from d'.view.own i z h (still_from P x z refl (λ k a u fc e. cc e) (h i x own.0))
     own_from e (act_commit i lc fc x d' own l n le f g) h =
-        let z : Own = in_phase (Committed (Some lc) (Some fc)) x in set_from d'.view.own i z h (still_from P x z refl (λ k a u fc e. cc e) (h i x own.0))
-    own_from e (act_close i x d' own p n) h = let z : Own = in_phase (Committed None None) x in set_from d'.view.own i z h (still_from P x z refl (λ k a u fc e. cc e) (h i x own.0))
+        let z : Own = decided_as (Committed (Some lc) (Some fc)) x in set_from d'.view.own i z h (still_from P x z refl (λ k a u fc e. cc e) (h i x own.0))
+    own_from e (act_close i x d' own p n) h = let z : Own = decided_as (Committed None None) x in set_from d'.view.own i z h (still_from P x z refl (λ k a u fc e. cc e) (h i x own.0))
     own_from e (act_accept a ts d' g m) h = h
     own_from e (act_refuse a u k d' g m) h = h
     own_from e (act_take from a d' c l) h = h
@@ -177,7 +178,7 @@ module _ (scene : Scene) (s : Stage) (i : ℕ) (v : View) (input : Input) (w : W
   ]
     where
       fresh_ : ReadLetter (at_place scene i) input d e m → WroteKey scene (during s i e) u k
-      fresh_ (rl_request n l x own b) = absurd (cc (b, q))
+      fresh_ (rl_request n l x own to b) = absurd (cc (b, q))
       fresh_ (rl_reply z l r c o gc g f b y) =
           let same : ReadReply z l c o _ ≡ ReadReply tx k a by fc = sym b ∙ q in
           let key : l ≡ k = cc same in

@@ -1,7 +1,6 @@
 -- The order of versions at a master, over every run.
 use Rattle.si_laws.proofs.Dependencies.LocalsApart.{around_after, stand_after, stand_opening}
 use Rattle.si_laws.proofs.Dependencies.AroundLocal.{AroundAfter, Stand, after_above, after_below, after_final}
-use Rattle.str_model.proofs.Changes.PairWords.{same_tx-is}
 use Rattle.si_laws.proofs.Dependencies.AroundKept.{stand-act}
 use Rattle.si_laws.proofs.Order.CertifiedVersions.{begun_at}
 use Rattle.si_laws.proofs.Stages.LinkedStates.{IsCertified, Linked, one_certified, one_of}
@@ -11,8 +10,6 @@ use Rattle.si_laws.proofs.Order.OrderKept.{masters_step}
 use Rattle.si_laws.proofs.Stages.ParticipantSeats.{of_nth}
 use Rattle.str_model.proofs.Principle.SingleChanges.{Act, Where}
 use Rattle.str_model.proofs.Principle.Everywhere.{IsSeen, Stage, at_place, during, everywhere, stage_of}
-use Rattle.str_model.proofs.Lists.ListReads.{get_set, get_set_other, got_replicate, got_set}
-use Rattle.str_model.proofs.Lists.Members.{In, in_at}
 use Rattle.si_laws.specs.Commits.{seen}
 use Rattle.si_laws.specs.Laws.Apart.{IsOrdered, OnePre, OrderAtMaster, OrderHolds}
 use Rattle.si_laws.specs.Standing.{Begun}
@@ -32,6 +29,11 @@ use Rattle.str_model.specs.declared.messages.Waiter.TheVariants.{Held}
 use Rattle.str_scene.specs.SceneLimits.{IsScene}
 use Rattle.str_scene.specs.Scenes.{Scene, is_master, nth}
 use Rattle.str_scene.specs.declared.names.Event.{Event}
+use Rattle.str_base.proofs.SameNames.{cases_tx, is-same_tx, same_tx-is}
+use Rattle.str_base.proofs.Lists.{get_set, get_set_other, got_replicate, got_set}
+use Rattle.str_base.proofs.Members.{in_at}
+use Rattle.str_base.specs.Members.{In}
+use Rattle.str_model.proofs.KindTests.{local_kind}
 
 -- what holds of every state: of messages, around Local versions, and at masters
 pub record Governed (scene : Scene) (s : Stage) : Type 0 where
@@ -73,16 +75,6 @@ governed scene es = everywhere scene (Governed scene) (governed-keeps scene) (go
 
 -- ---- the laws
 
-same_names : (a b : TxId) → a ≡ b → same_tx a b ≡ true
-same_names a b q = rw (eq-eqb a.node.0 b.node.0 (ap (λ (z : TxId). z.node.0) q), eq-eqb a.seq b.seq (ap (λ (z : TxId). z.seq) q)) refl
-
-same_or_other : (t u : TxId) → (t ≡ u) ⊎ (t ≢ u)
-same_or_other t u = by_test (same_tx t u) refl
-  where
-    by_test : (b : Bool) → same_tx t u ≡ b → (t ≡ u) ⊎ (t ≢ u)
-    by_test true e = inl (same_tx-is t u e)
-    by_test false e = inr (λ q. absurd (cc (same_names t u q, e)))
-
 -- a master has one Pre version of a key at most
 pub one_pre : (scene : Scene) (events : List Event) (n : NodeId) (v : View) → nth (run scene events).nodes n.0 ≡ Some v → OnePre scene n v
 one_pre scene events n v is q r hq hr key kq kr mas =
@@ -91,7 +83,7 @@ one_pre scene events n v is q r hq hr key kq kr mas =
     let mas' : is_master scene (record { 0 = p.0 + 1 }) q.part ≡ true = subst (λ (z : NodeId). is_master scene z q.part ≡ true) (λ j. record { 0 = p.1 j }) mas in
     let iq = in_at v.versions hq.0 q hq.1 in
     let ir = in_at v.versions hr.0 r hr.1 in
-    elim (same_or_other q.tx r.tx) [
+    elim (cases_tx q.tx r.tx) [
       | inl t ↦ h.one p.0 v p.2 q r iq ir kq kr t key
       | inr f ↦ (elim (h.order p.0 v p.2 q r iq ir key mas' f (λ z. cc (z, kq)) (λ z. cc (z, kr))) [
         | inl b ↦ absurd (cc (b.final, kq))
@@ -132,19 +124,14 @@ module _ (scene : Scene) (ok : IsScene scene) (events : List Event) where
       let ir = in_at v.versions hr.0 r hr.1 in
       by_kinds p.0 p.2 mas' iq ir (is_local q.kind) refl (is_local r.kind) refl
     where
-      local_is : (k : Kind) → is_local k ≡ true → k ≡ LocalKind
-      local_is Pre e = absurd (cc e)
-      local_is LocalKind e = refl
-      local_is Final e = absurd (cc e)
-
       not_local : (k : Kind) → is_local k ≡ false → k ≢ LocalKind
       not_local k e q = cc (ap is_local q, e)
 
       by_kinds : (m : ℕ) → slice_get (run scene events).nodes m ≡ Some v → is_master scene (record { 0 = m + 1 }) q.part ≡ true → In q v.versions → In r v.versions
           → (a : Bool) → is_local q.kind ≡ a → (b : Bool) → is_local r.kind ≡ b → IsOrdered q x r y
-      by_kinds m there mas' iq ir true ea true eb = inr (inr (local_is q.kind ea, local_is r.kind eb))
-      by_kinds m there mas' iq ir true ea false eb = inr (inl (beside_local m v there q r x iq (local_is q.kind ea) ir (sym key) (λ z. ne (sym z)) (not_local r.kind eb) bx))
-      by_kinds m there mas' iq ir false ea true eb = inl (beside_local m v there r q y ir (local_is r.kind eb) iq key ne (not_local q.kind ea) by_)
+      by_kinds m there mas' iq ir true ea true eb = inr (inr (local_kind q.kind ea, local_kind r.kind eb))
+      by_kinds m there mas' iq ir true ea false eb = inr (inl (beside_local m v there q r x iq (local_kind q.kind ea) ir (sym key) (λ z. ne (sym z)) (not_local r.kind eb) bx))
+      by_kinds m there mas' iq ir false ea true eb = inl (beside_local m v there r q y ir (local_kind r.kind eb) iq key ne (not_local q.kind ea) by_)
       by_kinds m there mas' iq ir false ea false eb =
           elim ((governed scene events).masters.order m v there q r iq ir key mas' ne (not_local q.kind ea) (not_local r.kind eb)) [
             | inl z ↦ inl (z.final, omega (arith, z.below, begun_rs r.tx y z.rs z.lc z.ws by_ z.certified))

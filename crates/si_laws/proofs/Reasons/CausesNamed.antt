@@ -5,19 +5,21 @@ use Rattle.str_model.specs.declared.messages.Answer.{Answer}
 use Rattle.str_model.specs.declared.messages.Input.{Input}
 use Rattle.str_model.specs.declared.messages.Outcome.TheVariants.{Aborted as Aborts}
 use Rattle.str_model.specs.declared.names.Got.{Got}
+use Rattle.str_model.specs.Acts.{decided_as}
 use Rattle.str_model.specs.Owned.{Owns}
 use Rattle.str_model.specs.Runs.{run}
 use Rattle.str_model.specs.Views.{Aborted, Committed, Doing, Own, Phase, View, is_decided}
 use Rattle.str_scene.specs.Scenes.{Scene}
 use Rattle.str_model.proofs.Principle.SingleChanges.{Act, Where}
 use Rattle.str_model.proofs.Principle.Everywhere.{Stage, at_place, during, everywhere}
-use Rattle.str_model.proofs.Lists.ListReads.{get_set, get_set_other, got_set}
-use Rattle.str_model.proofs.Lists.Members.{In, in_append, in_at, in_left, in_right}
 use Rattle.str_model.proofs.Changes.OwnChanges.{own_step}
 use Rattle.str_model.proofs.Changes.AnswerChanges.{TellStep, in_release, outcome_of, t_begins, t_decides, t_goes, t_rests, tell_step, told}
 use Rattle.si_laws.proofs.Reasons.CommitsAfter.{place_nth}
 use Rattle.str_model.proofs.Changes.PairWords.{decided-step}
 use Rattle.si_laws.specs.Laws.Reasons.{CausesNamed}
+use Rattle.str_base.proofs.Lists.{get_set, get_set_other, got_set}
+use Rattle.str_base.proofs.Members.{in_append, in_at, in_left, in_right}
+use Rattle.str_base.specs.Members.{In}
 
 -- the transaction of the answer stands aborted with this cause
 record NamedIn (s : Stage) (a : Answer) (cause : Cause) : Type 0 where
@@ -36,7 +38,7 @@ record NamedIn (s : Stage) (a : Answer) (cause : Cause) : Type 0 where
 AllNamed : Stage → Type 0
 AllNamed s = (a : Answer) (cause : Cause) → In a s.answers → a.outcome ≡ Aborts cause → NamedIn s a cause
 
-outcome_cause : (p : Phase) (gets : List Got) (cause : Cause) → is_decided p ≡ true → outcome_of p gets ≡ Aborts cause → (lc : Option ℕ) × (p ≡ Aborted lc cause)
+pub outcome_cause : (p : Phase) (gets : List Got) (cause : Cause) → is_decided p ≡ true → outcome_of p gets ≡ Aborts cause → (lc : Option ℕ) × (p ≡ Aborted lc cause)
 outcome_cause (Committed lc fc) gets cause d e = absurd (cc e)
 outcome_cause (Aborted lc c) gets cause d e = let same : c ≡ cause = cc e in (lc, ap (Aborted lc) same)
 outcome_cause _ gets cause d e = absurd (cc d)
@@ -80,9 +82,9 @@ module _ (scene : Scene) (s : Stage) (i : ℕ) (v : View) (input : Input) (w : W
   released_named a cause (t_rests o r) h m q = lift_n a cause (h a cause (in_right s.answers d.released a (subst (In a) r m)) q)
   released_named a cause (t_begins place rs b o r) h m q = lift_n a cause (h a cause (in_right s.answers d.released a (subst (In a) r m)) q)
   released_named a cause (t_goes n x y own f g p rs o r) h m q = lift_n a cause (h a cause (in_right s.answers d.released a (subst (In a) r m)) q)
-  released_named a cause (t_decides n x y own f g p rs o r) h m q =
-      elim (in_release (told (at_place scene i) n y) d.released a (subst (In a) r m)) [
-        | inl t ↦ (let c = outcome_cause y.phase y.gets cause g (ap (λ (z : Answer). z.outcome) t ∙ q) in
+  released_named a cause (t_decides n x p own f g o r) h m q =
+      elim (in_release (told (at_place scene i) n (decided_as p x) x.gets) d.released a (subst (In a) r m)) [
+        | inl t ↦ (let c = outcome_cause p x.gets cause g (ap (λ (z : Answer). z.outcome) t ∙ q) in
             record {
               node = i;
               at_node = ap (λ (z : Answer). z.tx.node.0) (sym t);
@@ -90,8 +92,8 @@ module _ (scene : Scene) (s : Stage) (i : ℕ) (v : View) (input : Input) (w : W
               at_place_ = ap (λ (z : Answer). z.tx.seq) (sym t);
               view = e.view;
               there = here_e;
-              own = y;
-              owns = rw o (get_set d.view.own n x y own);
+              own = decided_as p x;
+              owns = rw o (get_set d.view.own n x (decided_as p x) own);
               lc = c.0;
               phase = c.1;
             })

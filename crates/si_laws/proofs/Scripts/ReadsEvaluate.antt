@@ -1,9 +1,7 @@
 -- What a transaction has read gives what it has got and written: the script, on each look that agrees with its reads, comes to where it stands.
 use Rattle.dependency_set.specs.Snapshots.{Snap, accept_final, holds, oldest}
-use Rattle.str_model.proofs.ViewFacts.MarksRise.{same_key-is}
 use Rattle.str_model.proofs.Principle.SingleChanges.{AsksCommit, Needs, NeedsNone, Reads, asks_again, asks_new, reads_again, reads_new}
 use Rattle.str_model.proofs.Changes.SnapshotsGain.{if_elim}
-use Rattle.str_model.proofs.Lists.Members.{In, in_left, in_right}
 use Rattle.std.proofs.Common.{Bool, List, None, Option, Some, [], add-one, ap, drop, false, find, if◌then◌else◌, inl, inr, refl, slice_get, subst, suc, sym, true, zero, ℕ, ◌++◌, ◌+◌, ◌∙◌, ◌∷◌, ◌≡◌, ◌≢◌, ◌⊎◌}
 use Rattle.str_base.specs.Values.{is_below, set_write}
 use Rattle.str_base.specs.Versions.{same_key}
@@ -18,18 +16,22 @@ use Rattle.str_model.specs.Evaluation
 use Rattle.str_model.specs.Scripts.{finish, finish_next, found_read, found_write, known, noted, or_else, own_op}
 use Rattle.str_model.specs.Turns.{Plain, reply_turn}
 use Rattle.str_model.specs.Turns
-use Rattle.str_model.specs.Views.{Aborted, Active, CertWait, Closing, Committed, Global, Local, Own, Phase, ReadWait, Remote, Reply}
+use Rattle.str_model.specs.Views.{Aborted, Active, CertWait, Closing, Committed, Global, Local, Own, Phase, ReadWait, Remote, Reply, is_decided}
 use Rattle.str_model.specs.declared.names.Got.{Got}
 use Rattle.str_model.specs.declared.names.ReadDone.{ReadDone}
 use Rattle.str_scene.specs.Scenes.{Here, script_at}
 use Rattle.str_scene.specs.declared.names.Op.TheVariants.{Abort as Give, Add, Del, Get, Need, Put, Puts}
 use Rattle.str_scene.specs.declared.names.Op.{Op}
+use Rattle.str_base.proofs.Members.{in_left, in_right}
+use Rattle.str_base.proofs.SameNames.{same_key-is}
+use Rattle.str_base.proofs.Lists.{drop_none, drop_there}
+use Rattle.str_base.specs.Members.{In}
 
 -- the look gives what was read
 abbrev pub Agrees : (KeyId → Value) → List ReadDone → Type 0
 Agrees look reads = (r : ReadDone) → In r reads → look r.key ≡ r.value
 
--- the operations that are done give the gets and the buffer
+-- the operations that are done give its gets and its buffer
 abbrev pub Gave : Here → Own → Type 0
 Gave here x =
     (look : KeyId → Value) → Agrees look x.reads → eval_from look (drop x.next (script_at here.scene x.place)) x.writes x.gets ≡ eval (script_at here.scene x.place) look
@@ -41,14 +43,18 @@ pub record Wants (here : Here) (x : Own) (k : KeyId) : Type 0 where
   pub needs : Needs op k
   pub unknown : known x k ≡ None
 
--- the whole script stops so, with the gets and the buffer
-abbrev pub StopsBy : Here → Own → Stop → Type 0
-StopsBy here x stop =
-    (look : KeyId → Value) → Agrees look x.reads → eval (script_at here.scene x.place) look ≡ record { gets = x.gets; writes = x.writes; stop = stop }
+-- the whole script stops so, with these gets and the buffer
+abbrev pub StopsBy : Here → Own → List Got → Stop → Type 0
+StopsBy here x gets stop =
+    (look : KeyId → Value) → Agrees look x.reads → eval (script_at here.scene x.place) look ≡ record { gets = gets; writes = x.writes; stop = stop }
+
+-- where it has committed, its whole script is done, with these gets
+abbrev pub Ends : Here → Own → List Got → Type 0
+Ends here x gets = (lc fc : Option ℕ) → x.phase ≡ Committed lc fc → StopsBy here x gets AtEnd
 
 -- a wish to abort: the script stops at a need that is not met, or its next operation is an abort
 abbrev pub CauseGives : Here → Own → Cause → Type 0
-CauseGives here x Wish = StopsBy here x Unmet ⊎ (own_op here x ≡ Some Give)
+CauseGives here x Wish = ((gets : List Got) × StopsBy here x gets Unmet) ⊎ (own_op here x ≡ Some Give)
 CauseGives here x _ = Unit {0}
 
 -- what the phase says of the next operation and the buffer
@@ -58,7 +64,7 @@ PhaseGives here x (ReadWait k) = Wants here x k
 PhaseGives here x (Remote k) = Wants here x k
 PhaseGives here x (Reply k v by fc) = Wants here x k
 PhaseGives here x CertWait = (own_op here x ≡ None) × (x.writes ≢ [])
-PhaseGives here x (Closing true) = StopsBy here x Unmet
+PhaseGives here x (Closing true) = StopsBy here x x.gets Unmet
 PhaseGives here x (Closing false) = (own_op here x ≡ None) × (x.writes ≡ [])
 PhaseGives here x (Local lc) = (own_op here x ≡ None) × (x.writes ≢ [])
 PhaseGives here x (Global lc) = (own_op here x ≡ None) × (x.writes ≢ [])
@@ -66,23 +72,12 @@ PhaseGives here x (Committed lc None) = (own_op here x ≡ None) × (x.writes �
 PhaseGives here x (Committed lc (Some fc)) = (own_op here x ≡ None) × (x.writes ≢ [])
 PhaseGives here x (Aborted lc cause) = CauseGives here x cause
 
--- both
+-- both: the gets while it is undecided, since its answer has them afterwards
 pub record Evaluates (here : Here) (x : Own) : Type 0 where
-  pub gave : Gave here x
+  pub gave : is_decided x.phase ≡ false → Gave here x
   pub phase : PhaseGives here x x.phase
 
 -- ---- lists
-
-drop_got : {A : Type 0} (xs : List A) (i : ℕ) (x : A) → slice_get xs i ≡ Some x → drop i xs ≡ x ∷ drop (suc i) xs
-drop_got [] i x e = absurd cc
-drop_got (y ∷ ys) zero x e = (let r : y ≡ x = cc e in ap (λ z. z ∷ ys) r)
-drop_got (y ∷ ys) (suc i) x e = drop_got ys i x e
-
-drop_none : {A : Type 0} (xs : List A) (i : ℕ) → slice_get xs i ≡ None → drop i xs ≡ []
-drop_none [] zero e = refl
-drop_none [] (suc i) e = refl
-drop_none (y ∷ ys) zero e = absurd cc
-drop_none (y ∷ ys) (suc i) e = drop_none ys i e
 
 pub find_is : {A : Type 0} (p : A → Bool) (xs : List A) (x : A) → find p xs ≡ Some x → (In x xs) × (p x ≡ true)
 find_is p [] x e = absurd (cc e)
@@ -131,28 +126,28 @@ module _ (here : Here) where
       → eval_from look (drop (suc x.next) (text x)) ws gs ≡ eval_from look (op ∷ drop (suc x.next) (text x)) x.writes x.gets
       → eval_from look (drop x.next (text x)) x.writes x.gets ≡ eval (text x) look → eval_from look (drop (x.next + 1) (text x)) ws gs ≡ eval (text x) look
   next_gives x op look ws gs e step g =
-      ap (λ m. eval_from look (drop m (text x)) ws gs) (add-one x.next) ∙ (step ∙ (ap (λ os. eval_from look os x.writes x.gets) (sym (drop_got (text x) x.next op e)) ∙ g))
+      ap (λ m. eval_from look (drop m (text x)) ws gs) (add-one x.next) ∙ (step ∙ (ap (λ os. eval_from look os x.writes x.gets) (sym (drop_there (text x) x.next op e)) ∙ g))
 
   pub finish-gives : (x : Own) (op : Op) (v : Value) → own_op here x ≡ Some op → ((k : KeyId) × Needs op k) ⊎ NeedsNone op → IsValue x op v → Gave here x → Evaluates here (finish op v x)
   finish-gives x (Get k) v e n val g = record {
-    gave = λ look ag. next_gives x (Get k) look x.writes (x.gets ++ record { key = k; value = v } ∷ []) e
+    gave = λ d look ag. next_gives x (Get k) look x.writes (x.gets ++ record { key = k; value = v } ∷ []) e
         (ap (λ (z : Value). eval_from look (drop (suc x.next) (text x)) x.writes (x.gets ++ record { key = k; value = z } ∷ [])) (sym (val look ag k refl))) (g look ag);
     phase = tt;
   }
-  finish-gives x (Put k m) v e n val g = record { gave = λ look ag. next_gives x (Put k m) look _ x.gets e refl (g look ag); phase = tt }
-  finish-gives x (Puts k t) v e n val g = record { gave = λ look ag. next_gives x (Puts k t) look _ x.gets e refl (g look ag); phase = tt }
+  finish-gives x (Put k m) v e n val g = record { gave = λ d look ag. next_gives x (Put k m) look _ x.gets e refl (g look ag); phase = tt }
+  finish-gives x (Puts k t) v e n val g = record { gave = λ d look ag. next_gives x (Puts k t) look _ x.gets e refl (g look ag); phase = tt }
   finish-gives x (Add k m) v e n val g = record {
-    gave = λ look ag. next_gives x (Add k m) look _ x.gets e
+    gave = λ d look ag. next_gives x (Add k m) look _ x.gets e
         (ap (λ (z : Value). eval_from look (drop (suc x.next) (text x)) (Evaluation.with_write k (Rattle.str_base.specs.Values.sum_with z m) x.writes) x.gets) (sym (val look ag k refl))) (g look ag);
     phase = tt;
   }
-  finish-gives x (Del k) v e n val g = record { gave = λ look ag. next_gives x (Del k) look _ x.gets e refl (g look ag); phase = tt }
+  finish-gives x (Del k) v e n val g = record { gave = λ d look ag. next_gives x (Del k) look _ x.gets e refl (g look ag); phase = tt }
   finish-gives x (Need k m) v e n val g = by_test (is_below v m) refl
     where
       halts : is_below v m ≡ true → (look : KeyId → Value) → Agrees look x.reads → eval_from look (drop x.next (text x)) x.writes x.gets ≡ record { gets = x.gets; writes = x.writes; stop = Unmet }
       halts q look ag =
           let s : is_below (value_at look x.writes k) m ≡ true = ap (λ z. is_below z m) (val look ag k refl) ∙ q in
-          ap (λ os. eval_from look os x.writes x.gets) (drop_got (text x) x.next (Need k m) e)
+          ap (λ os. eval_from look os x.writes x.gets) (drop_there (text x) x.next (Need k m) e)
           ∙ ap (λ (b : Bool). if b then record { gets = x.gets; writes = x.writes; stop = Unmet } else eval_from look (drop (suc x.next) (text x)) x.writes x.gets) s
 
       passes : is_below v m ≡ false → (look : KeyId → Value) → Agrees look x.reads
@@ -162,8 +157,8 @@ module _ (here : Here) where
           sym (ap (λ (b : Bool). if b then record { gets = x.gets; writes = x.writes; stop = Unmet } else eval_from look (drop (suc x.next) (text x)) x.writes x.gets) s)
 
       by_test : (b : Bool) → is_below v m ≡ b → Evaluates here (if b then record x { phase = Closing true } else record x { next = x.next + 1; phase = Active })
-      by_test true q = record { gave = g; phase = λ look ag. sym (g look ag) ∙ halts q look ag }
-      by_test false q = record { gave = λ look ag. next_gives x (Need k m) look x.writes x.gets e (passes q look ag) (g look ag); phase = tt }
+      by_test true q = record { gave = λ d. g; phase = λ look ag. sym (g look ag) ∙ halts q look ag }
+      by_test false q = record { gave = λ d look ag. next_gives x (Need k m) look x.writes x.gets e (passes q look ag) (g look ag); phase = tt }
   finish-gives x Give v e (inl n) val g = absurd n.1
   finish-gives x Give v e (inr n) val g = absurd n
 
@@ -189,8 +184,13 @@ module _ (here : Here) where
           ∙ (unknown_value look x k u ∙ ag (record { key = k; value = v; by = by }) (in_right x.reads (record { key = k; value = v; by = by } ∷ []) (record { key = k; value = v; by = by }) (inl refl)))
 
   -- the whole script is done
-  pub ends-at : (x : Own) → own_op here x ≡ None → Gave here x → StopsBy here x AtEnd
+  pub ends-at : (x : Own) → own_op here x ≡ None → Gave here x → StopsBy here x x.gets AtEnd
   ends-at x e g look ag = sym (g look ag) ∙ ap (λ os. eval_from look os x.writes x.gets) (drop_none (text x) x.next e)
+
+  -- one that has committed has done its script
+  pub committed_none : (x : Own) (p : Phase) (lc fc : Option ℕ) → p ≡ Committed lc fc → PhaseGives here x p → own_op here x ≡ None
+  committed_none x p lc None e h = (subst (PhaseGives here x) e h).0
+  committed_none x p lc (Some f) e h = (subst (PhaseGives here x) e h).0
 
   -- what a read of a key wants
   pub reads-wants : (x : Own) (k : KeyId) → Reads here x k → Evaluates here x → Wants here x k

@@ -19,11 +19,12 @@ use Rattle.si_laws.specs.SnapshotIsolation.{IsAnswer, IsPlaced}
 use Rattle.str_base.specs.Versions.{stamp}
 use Rattle.str_model.specs.Views.{Aborted, Committed, Own, Phase, View, is_decided}
 use Rattle.str_model.proofs.Principle.Everywhere.{at_place, stage_of}
-use Rattle.str_model.proofs.Lists.Members.{in_at}
-use Rattle.si_laws.proofs.Sessions.SessionHolds.{Good, NodeGood, get_within, good_everywhere}
+use Rattle.si_laws.proofs.Sessions.SessionHolds.{Good, NodeGood, good_everywhere}
 use Rattle.si_laws.proofs.Sessions.SessionOrder.{Made, Told, told_in}
 use Rattle.str_model.proofs.OwnFacts.PlacesInOrder.{PlacedIn}
 use Rattle.str_model.proofs.Changes.AnswerChanges.{outcome_of}
+use Rattle.str_base.proofs.Members.{in_at}
+use Rattle.str_base.proofs.Lists.{slice_get_there}
 
 -- ---- places in a filtered list
 
@@ -77,7 +78,7 @@ entry scene ok w h i a is =
     let n = h.named a (in_at w.answers i a is) in
     let p : PlacedIn scene n.0 a.place = n.1 in
     let node : Exists p.text.node.0 scene.nodes = session_node scene ok a.place.session.0 p.text p.session in
-    let v = get_within w.nodes n.0 (omega (arith, node.1, p.node, h.count)) in
+    let v = slice_get_there w.nodes n.0 (omega (arith, node.1, p.node, h.count)) in
     let g : NodeGood scene n.0 w.answers v.0 = h.nodes n.0 v.0 v.1 in
     let s : ℕ = a.place.session.0 in
     let t : Told (at_place scene n.0) s v.0.own (filter (told_in s) w.answers) = g.told_ s p.text p.session p.node in
@@ -189,7 +190,7 @@ module _ (scene : Scene) (ok : IsScene scene) (w : World) (h : Good scene (stage
               omega (arith, r, ap (λ (z : Answer). z.rs.0) t.x.made.same, ap (λ (z : Answer). z.rs.0) t.y.made.same);
           fc = λ i j fc a b less is js e o.
               let t = of_session_both i j a b less is js e in
-              let c = committed_phase t.x.made.x.phase t.x.made.x.gets fc o.0 t.x.made.decided (sym (ap (λ (z : Answer). z.outcome) t.x.made.same) ∙ o.1) in
+              let c = committed_phase t.x.made.x.phase t.x.made.gets fc o.0 t.x.made.decided (sym (ap (λ (z : Answer). z.outcome) t.x.made.same) ∙ o.1) in
               let f = t.x.good.ordered.order t.x.made.i t.y.made.i t.x.made.x t.y.made.x t.less t.x.made.owns t.y_owns
               (sym (ap (λ (z : Answer). z.place.session.0) t.x.made.same) ∙ (ap (λ (p : SessionId). p.0) e ∙ ap (λ (z : Answer). z.place.session.0) t.y.made.same)) in
               omega (arith, f.final c.0 fc c.1, ap (λ (z : Answer). z.rs.0) t.y.made.same);

@@ -6,7 +6,7 @@ use Rattle.std.proofs.Common.{Bool, List, None, Option, Some, [], ap, arith, con
 use Rattle.std.proofs.lemmas.List.Sums.{sum_by-append, sum_by-cons}
 use Rattle.std.specs.List.{count_by, sum_by}
 use Rattle.str_base.specs.Versions.{stamp}
-use Rattle.str_model.specs.Acts.{abort_came, aborted, accepted, acked, asked, begun, certified, closed, commit_came, committed, fresh, in_phase, marked, refused, replied, requested, taken, waits, with_asked}
+use Rattle.str_model.specs.Acts.{abort_came, aborted, accepted, acked, asked, begun, certified, closed, commit_came, committed, decided_as, fresh, in_phase, marked, refused, replied, requested, taken, waits, with_asked}
 use Rattle.str_model.specs.Acts
 use Rattle.str_model.specs.declared.messages.Body.TheVariants.{Ack, ReadReply, ReadReq, Refuse as Refusal}
 use Rattle.str_model.specs.declared.messages.Input.{Input}
@@ -14,6 +14,7 @@ use Rattle.str_model.specs.declared.messages.Message.{Message}
 use Rattle.str_model.specs.Proposals.{proposed}
 use Rattle.str_model.specs.Views.{Aborted, Committed, Doing, Global, Local, Own, Remote, lc_of, letter, name_of}
 use Rattle.str_scene.specs.Scenes.{Here, participants, replicas}
+use Rattle.str_base.proofs.Lists.{sum_by-set_got}
 
 -- how many have a local commit timestamp
 abbrev pub certified_in : List Own → ℕ
@@ -26,29 +27,16 @@ acks_in ms = count_by (λ (m : Message). is_ack m.body) ms
 abbrev pub one_for : Bool → ℕ
 one_for b = cond b 1 0
 
--- a sum after a write
-pub sum_set : {A : Type 0} (f : A → ℕ) (xs : List A) (i : ℕ) (x y : A) → slice_get xs i ≡ Some x → sum_by f (slice_set xs i y) + f x ≡ sum_by f xs + f y
-sum_set f [] i x y e = absurd (cc e)
-sum_set f (z ∷ xs) zero x y e =
-    let is : z ≡ x = cc e in
-    let a = sum_by-cons f y xs in
-    let b = sum_by-cons f z xs in
-    let q : f z ≡ f x = ap f is in omega (arith, a, b, q)
-sum_set f (z ∷ xs) (suc i) x y e =
-    let rec = sum_set f xs i x y e in
-    let a = sum_by-cons f z (slice_set xs i y) in
-    let b = sum_by-cons f z xs in omega (arith, a, b, rec)
-
 -- ---- own transactions
 
 own_same : (own : List Own) (i : ℕ) (x y : Own) → slice_get own i ≡ Some x → lc_of y.phase ≡ lc_of x.phase → certified_in (slice_set own i y) ≡ certified_in own
 own_same own i x y e q =
-    let s = sum_set (λ (z : Own). one_for (is_some (lc_of z.phase))) own i x y e in
+    let s = sum_by-set_got (λ (z : Own). one_for (is_some (lc_of z.phase))) own i x y e in
     let t : one_for (is_some (lc_of y.phase)) ≡ one_for (is_some (lc_of x.phase)) = ap (λ (o : Option ℕ). one_for (is_some o)) q in omega (arith, s, t)
 
 own_more : (own : List Own) (i lc : ℕ) (x y : Own) → slice_get own i ≡ Some x → lc_of x.phase ≡ None → lc_of y.phase ≡ Some lc → certified_in (slice_set own i y) ≡ certified_in own + 1
 own_more own i lc x y e q r =
-    let s = sum_set (λ (z : Own). one_for (is_some (lc_of z.phase))) own i x y e in
+    let s = sum_by-set_got (λ (z : Own). one_for (is_some (lc_of z.phase))) own i x y e in
     let t : one_for (is_some (lc_of x.phase)) ≡ 0 = ap (λ (o : Option ℕ). one_for (is_some o)) q in
     let u : one_for (is_some (lc_of y.phase)) ≡ 1 = ap (λ (o : Option ℕ). one_for (is_some o)) r in omega (arith, s, t, u)
 
@@ -93,12 +81,12 @@ module _ (here : Here) (input : Input) (w : Where) where
       let r = sent_some d'.sent (Acts.ask_letters here i lc x q (replicas here.scene q)) in omega (arith, p, r)
   rise_act d e (act_ack i lc from tx q ts parts x d' own c r g) = let p = own_same d'.view.own i x (record x { parts = parts }) own.0 refl in omega (arith, p)
   rise_act d e (act_abort i cause x d' own f y) =
-      let p = own_same d'.view.own i x (in_phase (Aborted (lc_of x.phase) cause) x) own.0 refl in
+      let p = own_same d'.view.own i x (decided_as (Aborted (lc_of x.phase) cause) x) own.0 refl in
       let r = sent_some d'.sent (Acts.abort_letters here i x.parts) in omega (arith, p, r)
   rise_act d e (act_commit i lc fc x d' own l n le f g) =
-      let p = own_same d'.view.own i x (in_phase (Committed (Some lc) (Some fc)) x) own.0 (sym l) in
+      let p = own_same d'.view.own i x (decided_as (Committed (Some lc) (Some fc)) x) own.0 (sym l) in
       let r = sent_some d'.sent (Acts.commit_letters here i x fc d'.view) in omega (arith, p, r)
-  rise_act d e (act_close i x d' own q n) = let p = own_same d'.view.own i x (in_phase (Committed None None) x) own.0 (sym (ap lc_of q)) in omega (arith, p)
+  rise_act d e (act_close i x d' own q n) = let p = own_same d'.view.own i x (decided_as (Committed None None) x) own.0 (sym (ap lc_of q)) in omega (arith, p)
   rise_act d e (act_accept a ts d' h m) =
       let r = sent_ack d'.sent (Acts.copies here a (replicas here.scene a.part)) (letter here a.tx.node (Ack a.tx a.part (stamp ts))) refl in omega (arith, r)
   rise_act d e (act_refuse a u k d' h m) = let r = sent_some d'.sent (letter here a.tx.node (Refusal a.tx a.part u k) ∷ []) in omega (arith, r)

@@ -1,7 +1,7 @@
 -- One that has committed is neither undecided nor aborted.
 use Rattle.si_laws.proofs.Order.CertifiedVersions.{BegunAt, one_state}
 use Rattle.si_laws.proofs.Guards.GuardGrounds.{committer}
-use Rattle.si_laws.proofs.Reads.FinalsReported.{CommittedIn}
+use Rattle.si_laws.proofs.Sources.FinalsReported.{CommittedIn}
 use Rattle.si_laws.specs.Standing.{IsAborted}
 use Rattle.std.proofs.Common.{ap, sym, true, false, ℕ, ◌∙◌, ◌≡◌}
 use Rattle.str_base.specs.declared.names.TxId.{TxId}

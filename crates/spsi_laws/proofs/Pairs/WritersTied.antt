@@ -1,19 +1,19 @@
 -- Of two transactions that wrote one key: which is before the other, as it is known in the midst of a step too; and that each change keeps it.
 use Rattle.std.proofs.Common.{Some, add-sub_cancel, ap, arith, inl, inr, slice_get, slice_set, subst, sym, ℕ, ◌+◌, ◌-◌, ◌∙◌, ◌≡◌, ◌≤◌}
-use Rattle.si_laws.proofs.Reads.FinalsReported.{CommittedIn, Reported, lift_c, reported-act}
+use Rattle.si_laws.proofs.Sources.FinalsReported.{CommittedIn, Reported, lift_c, reported-act}
 use Rattle.spsi_laws.proofs.Pairs.CertifiedLast.{Lasts, fates_on, lasts_act}
 use Rattle.str_base.specs.declared.names.TxId.{TxId}
 use Rattle.str_base.specs.declared.names.Write.{Write}
 use Rattle.str_model.proofs.Principle.SingleChanges.{Act, Path, Where, along}
 use Rattle.str_model.proofs.Principle.Everywhere.{IsSeen, Stage, at_place, during}
 use Rattle.str_model.proofs.Changes.SnapshotsGain.{Names}
-use Rattle.str_model.proofs.Lists.ListReads.{get_set, get_set_other, got_set}
-use Rattle.str_model.proofs.Lists.Members.{In}
 use Rattle.str_model.specs.Owned.{Owns}
 use Rattle.str_model.specs.Turns.{CommittedAt, own_fate}
 use Rattle.str_model.specs.Views.{Doing, Own, View, lc_of, name_of}
 use Rattle.str_model.specs.declared.messages.Input.{Input}
 use Rattle.str_scene.specs.Scenes.{Scene}
+use Rattle.str_base.proofs.Lists.{get_set, get_set_other, got_set}
+use Rattle.str_base.specs.Members.{In}
 
 -- both wrote a key
 abbrev pub Shares : Own → Own → Type 0

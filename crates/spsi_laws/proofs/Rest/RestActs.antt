@@ -13,11 +13,9 @@ use Rattle.str_base.specs.declared.names.Write.{Write}
 use Rattle.str_base.specs.Versions.{of_pair, of_tx, settled, without}
 use Rattle.str_model.proofs.Principle.SingleChanges.{Act, AsksCommit, Change, IsHere, Reads, Where, act_abort, act_abort_came, act_accept, act_ack, act_ask, act_begin, act_certify, act_close, act_commit, act_commit_came, act_mark, act_put, act_refuse, act_reply, act_request, act_take, act_unwait, act_wait, asks_again, asks_new, ch_away, ch_blind, ch_close, ch_gate, ch_known, ch_read, ch_reply, ch_resolve, ch_take, ch_wait, reads_again, reads_new}
 use Rattle.str_model.proofs.Changes.SnapshotsGain.{if_elim}
-use Rattle.str_model.proofs.Lists.ListReads.{get_push, got_push, got_set}
-use Rattle.str_model.proofs.Lists.Members.{In, in_append, in_insert_all, in_map, in_without}
 use Rattle.str_model.proofs.Principle.OwnPaths.{resolve_all-sub}
 use Rattle.str_model.specs.Acts
-use Rattle.str_model.specs.Acts.{aborted, accepted, acked, asked, begun, certified, closed, commit_came, committed, copies, fresh, in_phase, is_hosted_of, local_version, marked, pre_version, refused, replied, requested, taken, waits, with_asked}
+use Rattle.str_model.specs.Acts.{aborted, accepted, acked, asked, begun, certified, closed, commit_came, committed, copies, decided_as, fresh, in_phase, is_hosted_of, local_version, marked, pre_version, refused, replied, requested, taken, waits, with_asked}
 use Rattle.str_model.specs.Gates.{Ask, gate_of}
 use Rattle.str_model.specs.Owned.{Owns}
 use Rattle.str_model.specs.Turns.{dep_turn, deps_left}
@@ -29,6 +27,9 @@ use Rattle.str_model.specs.declared.messages.Message.{Message}
 use Rattle.str_scene.specs.Scenes.{Here, first_or, in_part, leads, others, participants, replicas}
 use Rattle.str_model.proofs.Changes.VersionChanges.{Placed, VersionStep, v_decided, v_finals, v_locals, v_pres, v_rests, v_without}
 use Rattle.str_model.specs.Owned.{Asks}
+use Rattle.str_base.proofs.Lists.{get_push, get_set, got_push, got_set}
+use Rattle.str_base.proofs.Members.{in_append, in_insert_all, in_map, in_without}
+use Rattle.str_base.specs.Members.{In}
 
 -- ---- a new Pre version
 
@@ -97,7 +98,7 @@ module _ (here : Here) (input : Input) (w : Where) where
   new_message d e (act_certify i lc snap x d' own f n c) fo m k = n_old k
   new_message d e (act_ask i lc p x d' own f l g) fo m k =
       newly d e (Acts.ask_letters here i lc x p (replicas here.scene p)) m refl
-      (λ j. let r = ask_letters_are i lc x p m j in n_ask i lc p x r.0 own.0 f l g (Rattle.str_model.proofs.Lists.ListReads.get_set d'.view.own i x (record x { parts = with_asked p x.parts; phase = Global lc }) own.0) r.1) k
+      (λ j. let r = ask_letters_are i lc x p m j in n_ask i lc p x r.0 own.0 f l g (get_set d'.view.own i x (record x { parts = with_asked p x.parts; phase = Global lc }) own.0) r.1) k
   new_message d e (act_ack i lc from t q ts parts x d' own c r g) fo m k = n_old k
   new_message d e (act_abort i cause x d' own f y) fo m k =
       newly d e (Acts.abort_letters here i x.parts) m refl
@@ -174,9 +175,9 @@ module _ (here : Here) (input : Input) (w : Where) where
       set_deps d'.view.own i k x' (record x' { snap = snap; parts = participants here.scene here.node x'.writes; phase = Local c }) x y own.0 ox oy (λ s op. no_lc x lc l (ap (λ (z : Own). lc_of z.phase) (sym s) ∙ n))
   kept_deps d e (act_ask i c p x' d' own f t g) k lc x y ox l oy = set_deps d'.view.own i k x' (record x' { parts = with_asked p x'.parts; phase = Global c }) x y own.0 ox oy (λ s op. (f, λ dep z. z))
   kept_deps d e (act_ack i c from t q ts parts x' d' own cm r g) k lc x y ox l oy = set_deps d'.view.own i k x' (record x' { parts = parts }) x y own.0 ox oy (λ s op. (op, λ dep z. z))
-  kept_deps d e (act_abort i cause x' d' own f z) k lc x y ox l oy = set_deps d'.view.own i k x' (in_phase (Aborted (lc_of x'.phase) cause) x') x y own.0 ox oy (λ s op. absurd (cc op))
-  kept_deps d e (act_commit i c fc x' d' own t n le f g) k lc x y ox l oy = set_deps d'.view.own i k x' (in_phase (Committed (Some c) (Some fc)) x') x y own.0 ox oy (λ s op. absurd (cc op))
-  kept_deps d e (act_close i x' d' own q n) k lc x y ox l oy = set_deps d'.view.own i k x' (in_phase (Committed None None) x') x y own.0 ox oy (λ s op. absurd (cc op))
+  kept_deps d e (act_abort i cause x' d' own f z) k lc x y ox l oy = set_deps d'.view.own i k x' (decided_as (Aborted (lc_of x'.phase) cause) x') x y own.0 ox oy (λ s op. absurd (cc op))
+  kept_deps d e (act_commit i c fc x' d' own t n le f g) k lc x y ox l oy = set_deps d'.view.own i k x' (decided_as (Committed (Some c) (Some fc)) x') x y own.0 ox oy (λ s op. absurd (cc op))
+  kept_deps d e (act_close i x' d' own q n) k lc x y ox l oy = set_deps d'.view.own i k x' (decided_as (Committed None None) x') x y own.0 ox oy (λ s op. absurd (cc op))
   kept_deps d e (act_accept a ts d' h t) k lc x y ox l oy = same_deps x y (one_of x y (slice_get d'.view.own k) ox oy)
   kept_deps d e (act_refuse a u g d' h t) k lc x y ox l oy = same_deps x y (one_of x y (slice_get d'.view.own k) ox oy)
   kept_deps d e (act_take from a d' c t) k lc x y ox l oy = same_deps x y (one_of x y (slice_get d'.view.own k) ox oy)
@@ -191,8 +192,8 @@ module _ (here : Here) (input : Input) (w : Where) where
   -- a decided transaction was decided before, or is aborted or committed by this change, or closes
   pub data Decided (d e : Doing) (k : ℕ) (y : Own) : Type 0 where
     d_old : Owns d.view k y → Decided d e k y
-    d_abort : (cause : Cause) (x : Own) → Owns d.view k x → y ≡ in_phase (Aborted (lc_of x.phase) cause) x → e.sent ≡ d.sent ++ Acts.abort_letters here k x.parts → Decided d e k y
-    d_commit : (lc fc : ℕ) (x : Own) → Owns d.view k x → y ≡ in_phase (Committed (Some lc) (Some fc)) x → e.sent ≡ d.sent ++ Acts.commit_letters here k x fc d.view → Decided d e k y
+    d_abort : (cause : Cause) (x : Own) → Owns d.view k x → y ≡ decided_as (Aborted (lc_of x.phase) cause) x → e.sent ≡ d.sent ++ Acts.abort_letters here k x.parts → Decided d e k y
+    d_commit : (lc fc : ℕ) (x : Own) → Owns d.view k x → y ≡ decided_as (Committed (Some lc) (Some fc)) x → e.sent ≡ d.sent ++ Acts.commit_letters here k x fc d.view → Decided d e k y
     d_close : y.phase ≡ Committed None None → Decided d e k y
 
   set_decided : (d e : Doing) (j k : ℕ) (y' y : Own) → slice_get (slice_set d.view.own j y') k ≡ Some y → (k ≡ j → y ≡ y' → Decided d e k y) → Decided d e k y
@@ -212,10 +213,10 @@ module _ (here : Here) (input : Input) (w : Where) where
   newly_decided d e (act_ask i c p x' d' own f t g) k y oy dd = set_decided d e i k (record x' { parts = with_asked p x'.parts; phase = Global c }) y oy (λ a b. still_open y _ dd b refl)
   newly_decided d e (act_ack i c from t q ts parts x' d' own cm r g) k y oy dd = set_decided d e i k (record x' { parts = parts }) y oy (λ a b. still_open y (record x' { parts = parts }) dd b (ap is_decided r))
   newly_decided d e (act_abort i cause x' d' own f z) k y oy dd =
-      set_decided d e i k (in_phase (Aborted (lc_of x'.phase) cause) x') y oy (λ a b. d_abort cause x' (ap (λ m. slice_get d'.view.own m) a ∙ own.0) b (ap (λ m. d'.sent ++ Acts.abort_letters here m x'.parts) (sym a)))
+      set_decided d e i k (decided_as (Aborted (lc_of x'.phase) cause) x') y oy (λ a b. d_abort cause x' (ap (λ m. slice_get d'.view.own m) a ∙ own.0) b (ap (λ m. d'.sent ++ Acts.abort_letters here m x'.parts) (sym a)))
   newly_decided d e (act_commit i c fc x' d' own t n le f g) k y oy dd =
-      set_decided d e i k (in_phase (Committed (Some c) (Some fc)) x') y oy (λ a b. d_commit c fc x' (ap (λ m. slice_get d'.view.own m) a ∙ own.0) b (ap (λ m. d'.sent ++ Acts.commit_letters here m x' fc d'.view) (sym a)))
-  newly_decided d e (act_close i x' d' own q n) k y oy dd = set_decided d e i k (in_phase (Committed None None) x') y oy (λ a b. d_close (ap (λ (z : Own). z.phase) b))
+      set_decided d e i k (decided_as (Committed (Some c) (Some fc)) x') y oy (λ a b. d_commit c fc x' (ap (λ m. slice_get d'.view.own m) a ∙ own.0) b (ap (λ m. d'.sent ++ Acts.commit_letters here m x' fc d'.view) (sym a)))
+  newly_decided d e (act_close i x' d' own q n) k y oy dd = set_decided d e i k (decided_as (Committed None None) x') y oy (λ a b. d_close (ap (λ (z : Own). z.phase) b))
   newly_decided d e (act_accept a ts d' h t) k y oy dd = d_old oy
   newly_decided d e (act_refuse a u g d' h t) k y oy dd = d_old oy
   newly_decided d e (act_take from a d' c t) k y oy dd = d_old oy

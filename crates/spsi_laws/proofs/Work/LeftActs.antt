@@ -5,16 +5,14 @@ use Rattle.std.specs.List.{count_by, sum_by}
 use Rattle.partition_map.specs.declared.rows.Asked.{Asked}
 use Rattle.spsi_laws.proofs.Work.LeftHome.{Together, mine}
 use Rattle.spsi_laws.proofs.Work.LeftOwn.{ask_left, certified_left, few_parts_left, left_aborted, left_certified, left_committed, left_global, left_of, named_left}
-use Rattle.spsi_laws.proofs.Work.LeftSums.{count_set, sum_map_each, sum_set}
+use Rattle.spsi_laws.proofs.Work.LeftSums.{count_set, sum_map_each}
 use Rattle.str_base.specs.declared.names.Cause.{Cause}
 use Rattle.str_base.specs.declared.names.KeyId.{KeyId}
 use Rattle.str_base.specs.declared.names.NodeId.{NodeId}
 use Rattle.str_base.specs.declared.names.PartId.{PartId}
 use Rattle.dependency_set.specs.Snapshots.{Snap}
 use Rattle.dependency_set.specs.declared.names.Dep.{Dep}
-use Rattle.str_model.proofs.Changes.SnapshotsGain.{and_left}
-use Rattle.str_model.proofs.Lists.Members.{In}
-use Rattle.str_model.specs.Acts.{abort_letters, aborted, ask_letters, asked, asked_ones, certified, closed, commit_letters, committed, in_phase, marked, marks_in, requested, with_asked}
+use Rattle.str_model.specs.Acts.{abort_letters, aborted, ask_letters, asked, asked_ones, certified, closed, commit_letters, committed, decided_as, in_phase, marked, marks_in, requested, with_asked}
 use Rattle.str_model.specs.Gates.{Ask, DepParts, GateTurn, gate_turn}
 use Rattle.str_model.specs.Gates
 use Rattle.str_model.specs.Views.{Aborted, Committed, Doing, Global, Local, Own, Remote, is_decided, lc_of, letter, name_of, put}
@@ -26,6 +24,11 @@ use Rattle.str_scene.specs.declared.names.TxPlace.{TxPlace}
 use Rattle.str_scene.specs.Scenes.{Here, Scene, first_or, leads, others, participants, replicas}
 use Rattle.str_model.proofs.OwnFacts.ScriptsCovered.{ScriptGood}
 use Rattle.str_model.proofs.OwnFacts.AtHome.{OwnGood}
+use Rattle.str_base.proofs.Tests.{and_true_left}
+use Rattle.str_base.proofs.Lists.{sum_by-set_got}
+use Rattle.str_base.specs.Members.{In}
+use Rattle.std.proofs.lemmas.Bool.{not-true}
+use Rattle.str_model.proofs.ViewFacts.GatesEnd.{gate_open}
 
 -- what messages count for
 unfoldable pub weights : Scene → List Message → ℕ
@@ -92,7 +95,7 @@ module _ (here : Here) where
   eases_own d e i x y ms g c o q p w s l =
       record {
         less =
-            let a = sum_set (left_of here) d.view.own i x y o in
+            let a = sum_by-set_got (left_of here) d.view.own i x y o in
             let b : sum_by (left_of here) e.view.own ≡ sum_by (left_of here) (slice_set d.view.own i y) = ap (λ xs. sum_by (left_of here) xs) q in
             let k : waits_left here.scene e.view.waiters ≡ waits_left here.scene d.view.waiters = ap (waits_left here.scene) w in
             let m : weights here.scene e.sent ≡ weights here.scene d.sent + weights here.scene ms = ap (weights here.scene) s ∙ weights_append here.scene d.sent ms in
@@ -130,8 +133,8 @@ module _ (here : Here) where
   pub eases_abort : (i : ℕ) (cause : Cause) (x : Own) (d : Doing) (g c : ℕ) → slice_get d.view.own i ≡ Some x → length (asked_ones x.parts) + g ≤ left_of here x + c → Eases here d (aborted here i cause x d) g c
   unfolding aborted
   eases_abort i cause x d g c o l =
-      eases_own d (aborted here i cause x d) i x (in_phase (Aborted (lc_of x.phase) cause) x) (abort_letters here i x.parts) g c o refl refl refl refl
-      (let a = left_aborted here (in_phase (Aborted (lc_of x.phase) cause) x) (lc_of x.phase) cause refl in
+      eases_own d (aborted here i cause x d) i x (decided_as (Aborted (lc_of x.phase) cause) x) (abort_letters here i x.parts) g c o refl refl refl refl
+      (let a = left_aborted here (decided_as (Aborted (lc_of x.phase) cause) x) (lc_of x.phase) cause refl in
       let b = weights_map here.scene (λ (a : Asked). letter here a.node (Abort (name_of here i) a.part)) 1 (asked_ones x.parts) (λ z. refl) in
       omega (arith, a, b, l))
 
@@ -139,8 +142,8 @@ module _ (here : Here) where
   pub eases_commit : (i lc fc : ℕ) (x : Own) (d : Doing) → slice_get d.view.own i ≡ Some x → lc_of x.phase ≡ Some lc → is_decided x.phase ≡ false → Eases here d (committed here i lc fc x d) 0 0
   unfolding committed
   eases_commit i lc fc x d o l f =
-      eases_own d (committed here i lc fc x d) i x (in_phase (Committed (Some lc) (Some fc)) x) (commit_letters here i x fc d.view) 0 0 o refl refl refl refl
-      (let a = left_committed here (in_phase (Committed (Some lc) (Some fc)) x) (Some lc) (Some fc) refl in
+      eases_own d (committed here i lc fc x d) i x (decided_as (Committed (Some lc) (Some fc)) x) (commit_letters here i x fc d.view) 0 0 o refl refl refl refl
+      (let a = left_committed here (decided_as (Committed (Some lc) (Some fc)) x) (Some lc) (Some fc) refl in
       let b = weights_map here.scene (λ (a : Asked). letter here a.node (Commit (name_of here i) a.part (record { 0 = fc }) (marks_in here d.view a.part x.writes))) 1 x.parts (λ z. refl) in
       let k = few_parts_left here x lc l f in
       omega (arith, a, b, k))
@@ -149,8 +152,8 @@ module _ (here : Here) where
   pub eases_close : (i : ℕ) (x : Own) (d : Doing) → slice_get d.view.own i ≡ Some x → Eases here d (closed here i x d) 0 0
   unfolding closed
   eases_close i x d o =
-      eases_own d (closed here i x d) i x (in_phase (Committed None None) x) [] 0 0 o refl refl refl (sym (Rattle.std.proofs.Common.append-nil d.sent))
-      (let a = left_committed here (in_phase (Committed None None) x) None None refl in
+      eases_own d (closed here i x d) i x (decided_as (Committed None None) x) [] 0 0 o refl refl refl (sym (Rattle.std.proofs.Common.append-nil d.sent))
+      (let a = left_committed here (decided_as (Committed None None) x) None None refl in
       let z = weights_none here.scene in
       omega (arith, a, z))
 
@@ -187,43 +190,12 @@ module _ (here : Here) where
           let z = weights_none here.scene in
           omega (arith, a, z))
 
-  find_is : {A : Type 0} (p : A → Bool) (xs : List A) (a : A) → find p xs ≡ Some a → In a xs × (p a ≡ true)
-  find_is p [] a e = absurd (cc e)
-  find_is {A = A} p (x ∷ xs) a e = by_test (p x) refl (find_is p xs a) e
-    where
-      by_test : (b : Bool) → p x ≡ b → (find p xs ≡ Some a → In a xs × (p a ≡ true)) → (if b then Some x else find p xs) ≡ Some a → In a (x ∷ xs) × (p a ≡ true)
-      by_test true q rec k = let s : x ≡ a = cc k in (inl s, ap p (sym s) ∙ q)
-      by_test false q rec k = let r = rec k in (inr r.0, r.1)
-
-  -- who is asked next
-  pub asks_one : (snap : Snap) (lc : ℕ) (parts : List Asked) (wrote : List DepParts) (p : PartId) → gate_turn snap lc parts wrote ≡ Ask p → (a : Asked) × In a parts × (a.part ≡ p) × (a.asked ≡ false)
-  unfolding gate_turn
-  asks_one snap lc parts wrote p e = by_ask (find (Gates.may_ask wrote) parts) refl e
-    where
-      not_so : (b : Bool) → not b ≡ true → b ≡ false
-      not_so true q = absurd (cc q)
-      not_so false q = refl
-
-      by_ack : (o : Option Asked) → Gates.gate_acks lc parts o ≡ Ask p → ⊥
-      by_ack (Some a) k = cc k
-      by_ack None k = cc k
-
-      by_deps : (ds : List Dep) → Gates.gate_deps lc parts ds ≡ Ask p → ⊥
-      by_deps [] k = by_ack (find (λ a. not (Rattle.std.proofs.Common.is_some a.ack)) parts) k
-      by_deps (d ∷ ds) k = cc k
-
-      by_ask : (o : Option Asked) → find (Gates.may_ask wrote) parts ≡ o → Gates.gate_asks snap lc parts o ≡ Ask p → (a : Asked) × In a parts × (a.part ≡ p) × (a.asked ≡ false)
-      by_ask (Some a) q k =
-          let f = find_is (Gates.may_ask wrote) parts a q in
-          (a, f.0, (let s : a.part ≡ p = cc k in s), not_so a.asked (and_left (not a.asked) (not (Gates.is_written wrote a.part)) f.1))
-      by_ask None q k = absurd (by_deps snap.deps k)
-
   -- a partition is asked
   pub eases_ask : (i lc : ℕ) (p : PartId) (x : Own) (d : Doing) (wrote : List DepParts) → slice_get d.view.own i ≡ Some x → is_decided x.phase ≡ false → lc_of x.phase ≡ Some lc
       → gate_turn x.snap lc x.parts wrote ≡ Ask p → OwnGood here d.view.versions i x → Together x.parts → Eases here d (asked here i lc p x d) 0 0
   unfolding asked
   eases_ask i lc p x d wrote o f l e g t =
-      let r = asks_one x.snap lc x.parts wrote p e in
+      let r = gate_open x.snap lc x.parts wrote p e in
       eases_own d (asked here i lc p x d) i x (record x { parts = with_asked p x.parts; phase = Global lc }) (ask_letters here i lc x p (replicas here.scene p)) 0 0 o refl refl refl refl
       (let a = left_global here (record x { parts = with_asked p x.parts; phase = Global lc }) lc refl in
       let b = left_certified here x lc l f in

@@ -7,7 +7,7 @@ use Rattle.str_model.specs.declared.messages.Answer.{Answer}
 use Rattle.str_model.specs.declared.messages.Input.{Input}
 use Rattle.str_model.specs.declared.messages.Outcome.{Outcome}
 use Rattle.str_model.specs.declared.messages.Outcome.TheVariants.{Aborted as Aborts, Committed as Commits}
-use Rattle.str_model.specs.Acts.{abort_came, aborted, accepted, acked, asked, begun, certified, closed, commit_came, committed, fresh, marked, refused, replied, requested, taken, waits}
+use Rattle.str_model.specs.Acts.{abort_came, aborted, accepted, acked, asked, begun, certified, closed, commit_came, committed, decided_as, fresh, marked, refused, replied, requested, taken, waits}
 use Rattle.str_model.specs.Clients.{last_index}
 use Rattle.str_scene.specs.Scenes.{Here}
 use Rattle.str_model.specs.Turns.{Certified}
@@ -15,7 +15,8 @@ use Rattle.str_base.specs.Versions.{stamp}
 use Rattle.str_model.specs.Views.{Aborted, Committed, Doing, Own, Phase, is_decided, name_of, release}
 use Rattle.str_model.proofs.Principle.SingleChanges.{Act, Begins, Where, act_abort, act_abort_came, act_accept, act_ack, act_ask, act_begin, act_certify, act_close, act_commit, act_commit_came, act_mark, act_put, act_refuse, act_reply, act_request, act_take, act_unwait, act_wait}
 use Rattle.str_model.proofs.Changes.SnapshotsGain.{CertGood, cert_turn-good, if_elim}
-use Rattle.str_model.proofs.Lists.Members.{In}
+use Rattle.std.proofs.lemmas.Bool.{false_from_ne_true}
+use Rattle.str_base.specs.Members.{In}
 
 -- the outcome that a decided transaction is answered
 abbrev pub outcome_of : Phase → List Got → Outcome
@@ -23,9 +24,9 @@ outcome_of (Committed lc fc) gets = Commits (option_map stamp fc) gets
 outcome_of (Aborted lc cause) gets = Aborts cause
 outcome_of _ gets = Aborts Wish
 
--- the answer of an own transaction as it stands
-abbrev pub told : Here → ℕ → Own → Answer
-told here i x = record { tx = name_of here i; place = x.place; rs = stamp x.snap.rs; outcome = outcome_of x.phase x.gets }
+-- the answer of an own transaction as it stands, with what its gets gave
+abbrev pub told : Here → ℕ → Own → List Got → Answer
+told here i x gets = record { tx = name_of here i; place = x.place; rs = stamp x.snap.rs; outcome = outcome_of x.phase gets }
 
 -- the own transactions and the answers of a step before and after a change
 pub data TellStep (here : Here) (d e : Doing) : Type 0 where
@@ -33,8 +34,8 @@ pub data TellStep (here : Here) (d e : Doing) : Type 0 where
   t_begins : (place : TxPlace) (rs : ℕ) → Begins here place rs d → e.view.own ≡ d.view.own ++ fresh place rs ∷ [] → e.released ≡ d.released → TellStep here d e
   t_goes : (i : ℕ) (x y : Own) → slice_get d.view.own i ≡ Some x → is_decided x.phase ≡ false → is_decided y.phase ≡ false → y.place ≡ x.place → y.snap.rs ≡ x.snap.rs
       → e.view.own ≡ slice_set d.view.own i y → e.released ≡ d.released → TellStep here d e
-  t_decides : (i : ℕ) (x y : Own) → slice_get d.view.own i ≡ Some x → is_decided x.phase ≡ false → is_decided y.phase ≡ true → y.place ≡ x.place → y.snap.rs ≡ x.snap.rs
-      → e.view.own ≡ slice_set d.view.own i y → e.released ≡ release (told here i y) d.released → TellStep here d e
+  t_decides : (i : ℕ) (x : Own) (p : Phase) → slice_get d.view.own i ≡ Some x → is_decided x.phase ≡ false → is_decided p ≡ true
+      → e.view.own ≡ slice_set d.view.own i (decided_as p x) → e.released ≡ release (told here i (decided_as p x) x.gets) d.released → TellStep here d e
 
 module _ (here : Here) (input : Input) (w : Where) where
   unfoldable pub tell_step : (d e : Doing) → Act here input w d e → TellStep here d e
@@ -48,9 +49,9 @@ module _ (here : Here) (input : Input) (w : Where) where
       t_goes i x _ own.0 f refl refl good.0.rs refl refl
   tell_step d e (act_ask i lc p x d' own f l g) = t_goes i x _ own.0 f refl refl refl refl refl
   tell_step d e (act_ack i lc from tx p ts parts x d' own c q g) = t_goes i x _ own.0 (ap is_decided q) (ap is_decided q) refl refl refl refl
-  tell_step d e (act_abort i cause x d' own f y) = t_decides i x _ own.0 f refl refl refl refl refl
-  tell_step d e (act_commit i lc fc x d' own l n le f g) = t_decides i x _ own.0 f refl refl refl refl refl
-  tell_step d e (act_close i x d' own p n) = t_decides i x _ own.0 (ap is_decided p) refl refl refl refl refl
+  tell_step d e (act_abort i cause x d' own f y) = t_decides i x _ own.0 f refl refl refl
+  tell_step d e (act_commit i lc fc x d' own l n le f g) = t_decides i x _ own.0 f refl refl refl
+  tell_step d e (act_close i x d' own p n) = t_decides i x _ own.0 (ap is_decided p) refl refl refl
   tell_step d e (act_accept a ts d' h m) = t_rests refl refl
   tell_step d e (act_refuse a u k d' h m) = t_rests refl refl
   tell_step d e (act_take from a d' c l) = t_rests refl refl
@@ -95,10 +96,6 @@ pub none_pass : (p : Answer → Bool) (bs : List Answer) → ((c : Answer) → I
 none_pass p [] f = refl
 none_pass p (b ∷ bs) f = rw (f b (inl refl)) (none_pass p bs (λ c h. f c (inr h)))
 
-pub not_true : (b : Bool) → (b ≡ true → ⊥) → b ≡ false
-not_true true h = absurd (h refl)
-not_true false h = refl
-
 -- an answer above all that pass comes after them
 pub release-last : (p : Answer → Bool) (a : Answer) (bs : List Answer) → p a ≡ true → Rising bs → ((c : Answer) → In c bs → p c ≡ true → c.tx.seq ≤ a.tx.seq)
     → filter p (release a bs) ≡ filter p bs ++ a ∷ []
@@ -106,7 +103,7 @@ release-last p a bs e r_none f = rw e refl
 release-last p a bs e (r_more b rest above r) f =
     if_elim (λ xs. filter p xs ≡ filter p (b ∷ rest) ++ a ∷ []) (nat_lt a.tx.seq b.tx.seq) (a ∷ b ∷ rest) (b ∷ release a rest)
     (λ t. let less : a.tx.seq < b.tx.seq = ltb-true a.tx.seq b.tx.seq t in
-    let none : filter p (b ∷ rest) ≡ [] = none_pass p (b ∷ rest) (λ c h. not_true (p c) (λ q. absurd (omega (arith, f c h q, seq_of c h)))) in
+    let none : filter p (b ∷ rest) ≡ [] = none_pass p (b ∷ rest) (λ c h. false_from_ne_true (p c) (λ q. absurd (omega (arith, f c h q, seq_of c h)))) in
     rw (e, none) refl)
     (λ t. later (p b) (release-last p a rest e r (λ c h. f c (inr h))))
   where

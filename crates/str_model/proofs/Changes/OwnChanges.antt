@@ -4,7 +4,7 @@ use Rattle.std.proofs.Common.{None, Some, [], ap, false, max, refl, slice_get, s
 use Rattle.str_base.specs.declared.names.Cause.{Cause}
 use Rattle.str_scene.specs.declared.names.TxPlace.{TxPlace}
 use Rattle.str_model.specs.declared.messages.Input.{Input}
-use Rattle.str_model.specs.Acts.{abort_came, aborted, accepted, acked, asked, begun, certified, closed, commit_came, committed, fresh, in_phase, marked, refused, replied, requested, taken, waits}
+use Rattle.str_model.specs.Acts.{abort_came, aborted, accepted, acked, asked, begun, certified, closed, commit_came, committed, decided_as, fresh, marked, refused, replied, requested, taken, waits}
 use Rattle.str_scene.specs.Scenes.{Here}
 use Rattle.str_model.specs.Turns.{Certified}
 use Rattle.str_model.specs.Views.{Aborted, Committed, Doing, Local, Own, View, is_decided, lc_of}
@@ -15,9 +15,9 @@ use Rattle.str_model.proofs.Changes.SnapshotsGain.{CertGood, Extends, cert_turn-
 pub data Becomes (v : View) (f g : ℕ) (x y : Own) : Type 0 where
   goes_on : GoesOn v x y → g ≡ f → Becomes v f g x y
   certifies : (lc : ℕ) → is_decided x.phase ≡ false → lc_of x.phase ≡ None → y.phase ≡ Local lc → y.place ≡ x.place → Extends v x.snap y.snap → x.snap.rs < lc → g ≡ max f lc → Becomes v f g x y
-  commits : (lc fc : ℕ) → is_decided x.phase ≡ false → lc_of x.phase ≡ Some lc → lc ≤ fc → y ≡ in_phase (Committed (Some lc) (Some fc)) x → g ≡ max f fc → Becomes v f g x y
-  closes : is_decided x.phase ≡ false → lc_of x.phase ≡ None → y ≡ in_phase (Committed None None) x → g ≡ f → Becomes v f g x y
-  aborts : (cause : Cause) → is_decided x.phase ≡ false → y ≡ in_phase (Aborted (lc_of x.phase) cause) x → g ≡ f → Becomes v f g x y
+  commits : (lc fc : ℕ) → is_decided x.phase ≡ false → lc_of x.phase ≡ Some lc → lc ≤ fc → y ≡ decided_as (Committed (Some lc) (Some fc)) x → g ≡ max f fc → Becomes v f g x y
+  closes : is_decided x.phase ≡ false → lc_of x.phase ≡ None → y ≡ decided_as (Committed None None) x → g ≡ f → Becomes v f g x y
+  aborts : (cause : Cause) → is_decided x.phase ≡ false → y ≡ decided_as (Aborted (lc_of x.phase) cause) x → g ≡ f → Becomes v f g x y
 
 pub data OwnStep (d e : View) : Type 0 where
   rests : e.own ≡ d.own → e.floor ≡ d.floor → OwnStep d e

@@ -31,15 +31,17 @@ finish_next-parts : (o : Option Op) (v : Value) (x : Own) → (finish_next o v x
 finish_next-parts None v x = refl
 finish_next-parts (Some op) v x = finish-parts op v x
 
-module _ (here : Here) (input : Input) (d : Doing) (i : ℕ) (x : Own) where
-  reads-phase : (k : KeyId) → Reads here x k → lc_of x.phase ≡ None
+-- one that reads or asks to commit is not certified
+module _ (here : Here) (x : Own) where
+  pub reads-phase : (k : KeyId) → Reads here x k → lc_of x.phase ≡ None
   reads-phase k (reads_new op a e n q) = ap lc_of a
   reads-phase k (reads_again e) = ap lc_of e
 
-  asks-phase : AsksCommit here x → lc_of x.phase ≡ None
+  pub asks-phase : AsksCommit here x → lc_of x.phase ≡ None
   asks-phase (asks_new a e ne) = ap lc_of a
   asks-phase (asks_again e) = ap lc_of e
 
+module _ (here : Here) (input : Input) (d : Doing) (i : ℕ) (x : Own) where
   never : lc_of x.phase ≡ None → (lc : ℕ) → lc_of x.phase ≡ Some lc → ⊥
   never n lc l = cc (n, l)
 
@@ -48,14 +50,14 @@ module _ (here : Here) (input : Input) (d : Doing) (i : ℕ) (x : Own) where
   by_change y g (ch_known op k a e o n q) = record { goes = g; same_parts = finish-parts op a x; kept = λ lc l. absurd (never (ap lc_of e) lc l) }
   by_change y g (ch_blind op a e o n) = record { goes = g; same_parts = finish-parts op a x; kept = λ lc l. absurd (never (ap lc_of e) lc l) }
   by_change y g (ch_read k a by snap r m t) =
-      record { goes = g; same_parts = finish_next-parts (own_op here x) a (noted k a by snap x); kept = λ lc l. absurd (never (reads-phase k r) lc l) }
-  by_change y g (ch_wait k by r m t) = record { goes = g; same_parts = refl; kept = λ lc l. absurd (never (reads-phase k r) lc l) }
-  by_change y g (ch_away k n r m t) = record { goes = g; same_parts = refl; kept = λ lc l. absurd (never (reads-phase k r) lc l) }
+      record { goes = g; same_parts = finish_next-parts (own_op here x) a (noted k a by snap x); kept = λ lc l. absurd (never (reads-phase here x k r) lc l) }
+  by_change y g (ch_wait k by r m t) = record { goes = g; same_parts = refl; kept = λ lc l. absurd (never (reads-phase here x k r) lc l) }
+  by_change y g (ch_away k n r m t) = record { goes = g; same_parts = refl; kept = λ lc l. absurd (never (reads-phase here x k r) lc l) }
   by_change y g (ch_reply from tx l k a by fc c n q e s) = record { goes = g; same_parts = refl; kept = λ lc l. absurd (never (ap lc_of e) lc l) }
   by_change y g (ch_take k a b by of fc gc snap e q) =
       record { goes = g; same_parts = finish_next-parts (own_op here x) b (noted k b of snap x); kept = λ lc l. absurd (never (ap lc_of e) lc l) }
   by_change y g (ch_close a o e) = record { goes = g; same_parts = refl; kept = λ lc l. absurd (never (ap lc_of a) lc l) }
-  by_change y g (ch_gate a) = record { goes = g; same_parts = refl; kept = λ lc l. absurd (never (asks-phase a) lc l) }
+  by_change y g (ch_gate a) = record { goes = g; same_parts = refl; kept = λ lc l. absurd (never (asks-phase here x a) lc l) }
 
   pub puts_on : (y : Own) → Goes here input d i x y → PutsOn d.view x y
   puts_on y g = by_change y g.goes g.change

@@ -11,7 +11,7 @@ use Rattle.str_model.specs.declared.messages.Input.{Input}
 use Rattle.dependency_set.specs.Snapshots.{Snap}
 use Rattle.str_base.specs.Values.{is_below, set_write}
 use Rattle.str_base.specs.Versions.{same_key}
-use Rattle.str_model.specs.Acts.{in_phase}
+use Rattle.str_model.specs.Acts.{decided_as, in_phase}
 use Rattle.str_model.specs.NodeFacts.{AllNeedy, AllOwn, AtNeed, Needs, Needy, ScriptLengths, is_stopped}
 use Rattle.str_scene.specs.Scenes.{Here, script_at}
 use Rattle.str_model.specs.Scripts.{finish, finish_next, noted, own_op}
@@ -73,6 +73,10 @@ module _ (here : Here) where
 
   phase_lengths : (x : Own) (p : Phase) → is_stopped x.phase ≡ false → ScriptLengths here x → ScriptLengths here (in_phase p x)
   phase_lengths x p f h = same_lengths x (in_phase p x) refl refl refl refl refl (λ e. f) h
+
+  -- one that is decided keeps no gets
+  decided_lengths : (x : Own) (p : Phase) → (is_stopped p ≡ false → is_stopped x.phase ≡ false) → ScriptLengths here x → ScriptLengths here (decided_as p x)
+  decided_lengths x p f h = record { next = h.next; writes = h.writes; gets = omega arith; reads = h.reads; reads_next = λ e. h.reads_next (f e) }
 
   before_of : (x : Own) (op : Op) → own_op here x ≡ Some op → is_stopped x.phase ≡ false → ScriptLengths here x → Before here x
   before_of x op e f h = record { next = slice_get_within (script_at here.scene x.place) x.next op e; writes = h.writes; gets = h.gets; reads = (let r = h.reads_next f in omega (arith, r)) }
@@ -161,7 +165,7 @@ module _ (here : Here) where
         certifies = λ i lc snap x own a n c h. same_lengths x _ refl refl refl refl refl (λ q. asks_going here x a) h;
         asks = λ i lc p x own f l g h. same_lengths x _ refl refl refl refl refl (λ q. not_stopped x.phase lc f l) h;
         acks = λ i lc from tx p ts parts x own c q g h. same_lengths x _ refl refl refl refl refl (λ z. z) h;
-        aborts = λ cause x f h. same_lengths x _ refl refl refl refl refl (λ z. absurd (cc z)) h;
-        commits = λ i lc fc x own f l n g h. same_lengths x _ refl refl refl refl refl (λ z. not_stopped x.phase lc f l) h;
-        closes = λ x p n h. same_lengths x _ refl refl refl refl refl (λ z. ap is_stopped p) h;
+        aborts = λ cause x f h. decided_lengths x _ (λ z. absurd (cc z)) h;
+        commits = λ i lc fc x own f l n g h. decided_lengths x _ (λ z. not_stopped x.phase lc f l) h;
+        closes = λ x p n h. decided_lengths x _ (λ z. ap is_stopped p) h;
       }

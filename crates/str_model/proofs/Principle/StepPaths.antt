@@ -20,11 +20,12 @@ use Rattle.str_model.specs.Views.{CertWait, Closing, Doing, Global, Local, Own, 
 use Rattle.str_model.specs.Waiters
 use Rattle.str_model.proofs.Principle.SingleChanges.{Act, InRule, InTurn, InWait, IsOwn, Path, PathTo, Touches, Where, act_abort, act_accept, act_ask, act_close, act_commit, act_put, act_refuse, act_reply, act_unwait, along, and_then, asks_again, at_need, by_late, by_lost, by_script, ch_resolve, ch_take, it_waits, one, reads_again, s_read, stay, IsTurn, asked_before, touches_turn}
 use Rattle.str_model.proofs.Changes.SnapshotsGain.{TurnGood, if_elim, reply_turn-good}
-use Rattle.str_model.proofs.Lists.ListReads.{get_set}
 use Rattle.str_model.proofs.Changes.DependencyLooks.{dep_turn_again}
-use Rattle.str_model.proofs.Lists.Members.{In, in_right}
 use Rattle.str_model.proofs.Principle.OwnPaths.{IsFree, at_own-path, certify_now-path, free_at, gate_commits, read_now-path, resolved-extends, with_value-path}
 use Rattle.str_model.proofs.Principle.RulePaths.{rule-path}
+use Rattle.str_base.proofs.Lists.{get_set}
+use Rattle.str_base.proofs.Members.{in_right}
+use Rattle.str_base.specs.Members.{In}
 
 module _ (here : Here) (input : Input) (w : Where) where
   -- ---- the pass
@@ -168,9 +169,10 @@ module _ (here : Here) (input : Input) (w : Where) where
       let t = waiter_turn-waited kept rest w d e in
       and_then d r.1 (Waiters.wait_turns here r.0 rest r.1) t.path (wait_turns-path r.0 rest r.1 t.same)
 
--- a whole step: the rule, the turns upwards, and those who wait
+-- a whole step: the rule of the input, the turns upwards, and those who wait
 pub record StepPath (here : Here) (input : Input) (d e : Doing) : Type 0 where
   pub ruled : Doing
+  pub is_rule : Steps.rule here input d ≡ Some ruled
   pub rule : Path here input InRule d ruled
   pub turns : (i : ℕ) → Path here input (InTurn i) (Pass.pass_to here i ruled) (Pass.pass_to here (suc i) ruled)
   pub waits : Path here input InWait (Pass.pass_to here (length ruled.view.own) ruled) e
@@ -180,13 +182,14 @@ StepTo here input d None = Unit {0}
 StepTo here input d (Some e) = StepPath here input d e
 
 module _ (here : Here) (input : Input) where
-  with_after : (d : Doing) (o : Option Doing) → PathTo here input InRule d o → StepTo here input d (option_map (Steps.after_rule here) o)
+  with_after : (d : Doing) (o : Option Doing) → Steps.rule here input d ≡ o → PathTo here input InRule d o → StepTo here input d (option_map (Steps.after_rule here) o)
   unfolding Steps.after_rule
-  with_after d None p = tt
-  with_after d (Some r) p =
+  with_after d None q p = tt
+  with_after d (Some r) q p =
       let e : Doing = Pass.pass_to here (length r.view.own) r in
       record {
         ruled = r;
+        is_rule = q;
         rule = p;
         turns = λ i. turn-path here input (InTurn i) i (Pass.pass_to here i r) refl;
         waits = wait_turns-path here input InWait [] e.view.waiters e refl;
@@ -195,7 +198,7 @@ module _ (here : Here) (input : Input) where
   pub step-path : (view : View) → StepTo here input (starts view) (Steps.step here input view)
   unfolding Steps.step
   step-path view =
-      let d : Doing = starts view in with_after d (Steps.rule here input d) (rule-path here input InRule refl d)
+      let d : Doing = starts view in with_after d (Steps.rule here input d) refl (rule-path here input InRule refl d)
 
   -- what each change keeps, a whole step keeps
   module _ (I : Doing → Type 0) (keeps : (w : Where) (d e : Doing) → Act here input w d e → I d → I e) where

@@ -1,5 +1,5 @@
 -- The bound at which a node prunes: it is at or below its own low mark and all that it has heard of others, and rises with them.
-use Rattle.std.proofs.Common.{List, None, Option, Some, [], ap, arith, inl, inr, max, min, refl, slice_get, slice_index, slice_set, suc, sym, zero, ℕ, ◌∙◌, ◌∷◌, ◌≡◌, ◌≢◌, ◌≤◌, ◌⊎◌}
+use Rattle.std.proofs.Common.{List, Some, [], ap, arith, max, refl, slice_get, slice_index, slice_set, suc, zero, ℕ, ◌∷◌, ◌≡◌, ◌≢◌, ◌≤◌}
 use Rattle.str_model.specs.PrunedRuns.{bound, least_with}
 
 least_own : (l : ℕ) (hs : List ℕ) → least_with l hs ≤ l

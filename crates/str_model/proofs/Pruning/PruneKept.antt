@@ -1,6 +1,5 @@
 -- What each single change keeps of a view for pruning: nothing open lies below the mark, and the versions are in order.
-use Rattle.std.proofs.Common.{Bool, List, None, Option, Some, [], add-one, ap, arith, false, filter, if◌then◌else◌, inl, inr, length, map, max, min, nat_le, not, refl, slice_get, slice_set, subst, suc, sym, true, zero, ℕ, ◌++◌, ◌+◌, ◌∙◌, ◌∷◌, ◌≡◌, ◌≤◌, ◌⊎◌}
-use Rattle.str_base.specs.declared.names.Version.{Version}
+use Rattle.std.proofs.Common.{Bool, List, Some, [], ap, arith, false, filter, if◌then◌else◌, inl, inr, map, max, min, not, refl, slice_get, subst, suc, sym, true, zero, ℕ, ◌++◌, ◌∙◌, ◌∷◌, ◌≡◌, ◌≤◌, ◌⊎◌}
 use Rattle.str_base.specs.Versions.{of_pair, of_tx, settled, without}
 use Rattle.str_scene.specs.Scenes.{Here}
 use Rattle.str_model.specs.Acts
@@ -10,9 +9,9 @@ use Rattle.str_model.specs.Proposals.{proposed}
 use Rattle.str_model.specs.Pruning.{low, low_from}
 use Rattle.str_model.specs.Views.{Doing, Own, View, is_decided}
 use Rattle.str_model.proofs.Principle.SingleChanges.{Act, Where, act_abort, act_abort_came, act_accept, act_ack, act_ask, act_begin, act_certify, act_close, act_commit, act_commit_came, act_mark, act_put, act_refuse, act_reply, act_request, act_take, act_unwait, act_wait}
-use Rattle.str_model.proofs.Lists.ListReads.{get_set, get_set_other, got_set}
 use Rattle.str_model.proofs.Changes.OwnChanges.{Becomes, OwnStep, aborts, certifies, closes, commits, goes_on, own_step, rests, starts_one, turns_one}
 use Rattle.str_model.proofs.Pruning.PruneOrder.{InOrder, order_all, order_filter, order_finalise}
+use Rattle.str_base.proofs.Lists.{got_set}
 
 -- the floor and the snapshot of each own undecided transaction are at or above the mark
 pub record Above (g : ℕ) (v : View) : Type 0 where

@@ -1,36 +1,26 @@
 -- The rules choose alike for twins, and what they do keeps twins.
-use Rattle.std.proofs.Common.{Bool, List, None, Option, Some, [], ap, false, inl, inr, length, max, min, refl, slice_get, slice_set, subst, sym, true, ℕ, ◌++◌, ◌+◌, ◌-◌, ◌∙◌, ◌∷◌, ◌≡◌, ◌≤◌, ◌⊎◌}
+use Rattle.std.proofs.Common.{Bool, List, None, Option, Some, [], ap, false, refl, slice_get, subst, sym, true, ℕ, ◌∙◌, ◌∷◌, ◌≡◌, ◌≤◌}
 use Rattle.dependency_set.specs.Snapshots.{Snap}
-use Rattle.str_base.specs.declared.names.Cause.TheVariants.{Conflict as ByConflict, Late as IsLate, Lost as IsLost, Wish}
+use Rattle.str_base.specs.declared.names.Cause.TheVariants.{Conflict as ByConflict, Wish}
 use Rattle.str_base.specs.declared.names.KeyId.{KeyId}
-use Rattle.str_base.specs.declared.names.Ts.{Ts}
 use Rattle.str_base.specs.declared.names.TxId.{TxId}
 use Rattle.str_base.specs.declared.names.Value.{Value}
-use Rattle.str_base.specs.declared.names.Value.TheVariants.{Absent, Num, Text}
 use Rattle.str_base.specs.declared.names.Version.{Version}
 use Rattle.str_base.specs.declared.names.Write.{Write}
 use Rattle.str_base.specs.Versions.{of_tx, stamp}
 use Rattle.str_scene.specs.declared.names.Op.{Op}
 use Rattle.str_scene.specs.declared.names.Op.TheVariants.{Abort as Stop, Add, Del, Get, Need, Put, Puts}
-use Rattle.str_scene.specs.declared.names.TxPlace.{TxPlace}
 use Rattle.str_scene.specs.Scenes.{Here}
-use Rattle.str_model.specs.declared.messages.Arrived.{Arrived}
-use Rattle.str_model.specs.declared.messages.Waiter.{Waiter}
-use Rattle.str_model.specs.declared.messages.Waiter.TheVariants.{Held, Read}
+use Rattle.str_model.specs.declared.messages.Waiter.TheVariants.{Read}
 use Rattle.str_model.specs.Acts.{aborted, asked, closed, committed, marked, with_waiters}
 use Rattle.str_model.specs.Arrivals
-use Rattle.str_model.specs.Gates.{Ask, CommitAt, GateTurn, Missing, Shut, gate_of}
 use Rattle.str_model.specs.Pass
-use Rattle.str_model.specs.Proposals.{Accept, Ignore, MasterTurn, Park, Refuse, master_turn}
-use Rattle.str_model.specs.Pruning.{pruned, pruned_versions}
 use Rattle.str_model.specs.Scripts
 use Rattle.str_model.specs.Scripts.{known}
 use Rattle.str_model.specs.Turns.{Away, CertTurn, Certified, Conflict, DepTurn, Give, Keep, Late, Lost, Plain, ReadTurn, ServeTurn, ServeWait, Speculative, Wait, WaitGate, cert_turn, dep_turn, left_by, read_turn, reply_turn, serve_turn}
-use Rattle.str_model.specs.Views.{Active, CertWait, Closing, Doing, Global, Local, Own, Phase, ReadWait, Remote, Reply, View, is_decided, name_of, put}
-use Rattle.str_model.specs.Waiters
-use Rattle.str_model.proofs.Pruning.PruneMaster.{TurnAlike, held_pruned, master_alike, master_pruned, t_refuse, t_same}
+use Rattle.str_model.specs.Views.{CertWait, Doing, Own, Phase, ReadWait, Reply, View, is_decided, name_of, put}
 use Rattle.str_model.proofs.Pruning.PruneOrder.{InOrder, PassesOpen}
-use Rattle.str_model.proofs.Pruning.PruneTurns.{cert_pruned, read_pruned, serve_pruned, undecided_pruned}
+use Rattle.str_model.proofs.Pruning.PruneTurns.{cert_pruned, read_pruned, undecided_pruned}
 use Rattle.str_model.proofs.Pruning.Twins.{Twin, twin_aborted, twin_accepted, twin_asked, twin_certified, twin_closed, twin_committed, twin_marked, twin_put, twin_refused, twin_replied, twin_requested, twin_waiters, twin_waits}
 
 module _ (g : ℕ) (Dec : TxId → Type 0) (here : Here) where

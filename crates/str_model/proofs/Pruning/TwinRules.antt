@@ -1,5 +1,5 @@
 -- The rules of inputs keep twins, and are idle alike.
-use Rattle.std.proofs.Common.{Bool, List, None, Option, Some, [], ap, false, if◌then◌else◌, inl, inr, is_some, length, max, min, nat_lt, not, option_map, refl, slice_get, slice_set, sub-one, subst, suc, sym, true, zero, ℕ, ◌&&◌, ◌++◌, ◌+◌, ◌-◌, ◌∙◌, ◌∷◌, ◌≡◌, ◌≤◌, ◌||◌, ◌⊎◌}
+use Rattle.std.proofs.Common.{Bool, List, None, Option, Some, ap, false, if◌then◌else◌, inl, inr, max, min, not, refl, slice_get, sub-one, subst, suc, sym, true, zero, ℕ, ◌&&◌, ◌+◌, ◌-◌, ◌∙◌, ◌≡◌, ◌≤◌, ◌⊎◌}
 use Rattle.std.specs.List.{list_any}
 use Rattle.partition_map.specs.declared.rows.Asked.{Asked}
 use Rattle.str_base.specs.declared.names.Cause.TheVariants.{Conflict as ByConflict}
@@ -7,35 +7,28 @@ use Rattle.str_base.specs.declared.names.KeyId.{KeyId}
 use Rattle.str_base.specs.declared.names.NodeId.{NodeId}
 use Rattle.str_base.specs.declared.names.PartId.{PartId}
 use Rattle.str_base.specs.declared.names.SessionId.{SessionId}
-use Rattle.str_base.specs.declared.names.Ts.{Ts}
 use Rattle.str_base.specs.declared.names.TxId.{TxId}
 use Rattle.str_base.specs.declared.names.Value.{Value}
-use Rattle.str_base.specs.declared.names.Version.{Version}
-use Rattle.str_base.specs.declared.names.Write.{Write}
 use Rattle.str_base.specs.Versions.{of_pair, same_key, same_node}
 use Rattle.str_scene.specs.declared.names.Op.{Op}
 use Rattle.str_scene.specs.declared.names.TxPlace.{TxPlace}
 use Rattle.str_scene.specs.Scenes.{Here, Session, hosts, hosts_key, is_master, nth}
-use Rattle.str_model.specs.declared.messages.Arrived.{Arrived}
-use Rattle.str_model.specs.declared.messages.Body.{Body}
-use Rattle.str_model.specs.declared.messages.Body.TheVariants.{Abort, Ack, Commit, Prepare, ReadReply, ReadReq, Refuse as Refusal, Replicate}
-use Rattle.str_model.specs.declared.messages.Input.{Input}
 use Rattle.str_model.specs.declared.messages.Waiter.{Waiter}
-use Rattle.str_model.specs.declared.messages.Waiter.TheVariants.{Held, Read}
+use Rattle.str_model.specs.declared.messages.Waiter.TheVariants.{Read}
 use Rattle.str_model.specs.Acts.{abort_came, aborted, commit_came, marked}
 use Rattle.str_model.specs.Arrivals
 use Rattle.str_model.specs.Clients
-use Rattle.str_model.specs.Proposals.{Accept, Ignore, MasterTurn, Park, Refuse, is_done, is_known, is_parked, master_turn, prepare_turn, proposed, takes, ts_limit}
-use Rattle.str_model.specs.Pruning.{pruned}
+use Rattle.str_model.specs.Proposals.{is_done, is_known}
 use Rattle.str_model.specs.Returns
 use Rattle.str_model.specs.Steps.{decides, drop_held}
 use Rattle.str_model.specs.Turns.{Give, ServeTurn, ServeWait, serve_turn}
 use Rattle.str_model.specs.Views.{Active, Aborted, CertWait, Closing, Committed, Doing, Global, Local, Own, Phase, ReadWait, Remote, Reply, View, is_decided}
-use Rattle.str_model.proofs.Pruning.PruneMaster.{TurnAlike, known_pruned, proposed_pruned, t_refuse, t_same}
+use Rattle.str_model.proofs.Pruning.PruneMaster.{known_pruned}
 use Rattle.str_model.proofs.Pruning.PruneOrder.{InOrder, PassesOpen}
 use Rattle.str_model.proofs.Pruning.TwinChoices.{Fit, ServedAlike, s_gives, s_same, serve_alike, twin_op_or_commit}
 use Rattle.str_model.proofs.Pruning.Twins.{Twin, twin_abort_came, twin_aborted, twin_accepted, twin_acked, twin_begun, twin_commit_came, twin_marked, twin_put, twin_refused, twin_replied, twin_taken, twin_waits}
 use Rattle.str_model.proofs.Pruning.TwinTurns.{Ready}
+use Rattle.std.proofs.lemmas.Bool.{and_parts, not-true}
 
 module _ (g : ℕ) (Dec : TxId → Type 0) (here : Here) where
   abbrev Both : Doing → Doing → Type 0
@@ -148,18 +141,10 @@ module _ (g : ℕ) (Dec : TxId → Type 0) (here : Here) where
   decides_same : (tx : TxId) (p : PartId) (d e : Doing) → Both d e → decides here tx p d.view ≡ decides here tx p e.view
   decides_same tx p d e b = ap (λ (v : View). decides here tx p v) b.view
 
-  and_cases : (p q : Bool) → (p && q) ≡ true → (p ≡ true) × (q ≡ true)
-  and_cases true q e = (refl, e)
-  and_cases false q e = absurd cc
-
-  not_false : (b : Bool) → not b ≡ true → b ≡ false
-  not_false true e = absurd cc
-  not_false false e = refl
-
   open_pair : (tx : TxId) (p : PartId) (d : Doing) → IsOpen d → decides here tx p d.view ≡ true → PassesOpen (of_pair tx p) d.view.versions
   open_pair tx p d a h =
-      let r = and_cases (not (same_node tx.node here.node)) (not (is_done d.view tx p)) (and_cases (hosts here.scene here.node p) (not (same_node tx.node here.node) && not (is_done d.view tx p)) h).1 in
-      a tx p (not_false (same_node tx.node here.node) r.0) (not_false (is_done d.view tx p) r.1)
+      let r = and_parts (not (same_node tx.node here.node)) (not (is_done d.view tx p)) (and_parts (hosts here.scene here.node p) (not (same_node tx.node here.node) && not (is_done d.view tx p)) h).1 in
+      a tx p (not-true (same_node tx.node here.node) r.0) (not-true (is_done d.view tx p) r.1)
 
   pub twin_commit_rule : (tx : TxId) (p : PartId) (fc : ℕ) (ms : List Rattle.str_model.specs.declared.names.KeyMark.KeyMark) (d e : Doing) → InOrder d.view.versions → InOrder e.view.versions → IsOpen d → IsOpen e → Both d e
       → BothTo (if decides here tx p d.view then Some (commit_came tx p fc ms d) else None) (if decides here tx p e.view then Some (commit_came tx p fc ms e) else None)
@@ -320,6 +305,6 @@ module _ (g : ℕ) (Dec : TxId → Type 0) (here : Here) where
       (ap (λ (v : View). hosts_key here k && (not (same_node tx.node here.node) && not (list_any (Arrivals.waits_read tx k) v.waiters))) b.view)
       (Some (Arrivals.serve_done here tx k rs (serve_turn d.view.versions k rs) (marked k rs d))) (Some (Arrivals.serve_done here tx k rs (serve_turn e.view.versions k rs) (marked k rs e)))
       (λ z. served tx k rs d e
-      (far (not_false (same_node tx.node here.node)
-      (and_cases (not (same_node tx.node here.node)) (not (list_any (Arrivals.waits_read tx k) d.view.waiters))
-      (and_cases (hosts_key here k) (not (same_node tx.node here.node) && not (list_any (Arrivals.waits_read tx k) d.view.waiters)) z).1).0)) b)
+      (far (not-true (same_node tx.node here.node)
+      (and_parts (not (same_node tx.node here.node)) (not (list_any (Arrivals.waits_read tx k) d.view.waiters))
+      (and_parts (hosts_key here k) (not (same_node tx.node here.node) && not (list_any (Arrivals.waits_read tx k) d.view.waiters)) z).1).0)) b)

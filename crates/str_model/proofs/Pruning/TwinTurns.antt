@@ -1,9 +1,8 @@
 -- Turns, the pass and those who wait keep twins, where what each change keeps gives what a turn needs.
-use Rattle.std.proofs.Common.{Bool, List, None, Option, Some, [], ap, false, if◌then◌else◌, inl, inr, length, refl, slice_get, slice_set, subst, suc, sym, true, zero, ℕ, ◌++◌, ◌∙◌, ◌∷◌, ◌≡◌, ◌≤◌, ◌⊎◌}
+use Rattle.std.proofs.Common.{Bool, List, Some, [], ap, false, if◌then◌else◌, inl, inr, length, refl, slice_get, subst, suc, sym, true, zero, ℕ, ◌++◌, ◌∙◌, ◌∷◌, ◌≡◌, ◌≤◌, ◌⊎◌}
 use Rattle.str_base.specs.declared.names.KeyId.{KeyId}
 use Rattle.str_base.specs.declared.names.Ts.{Ts}
 use Rattle.str_base.specs.declared.names.TxId.{TxId}
-use Rattle.str_base.specs.declared.names.Version.{Version}
 use Rattle.str_scene.specs.Scenes.{Here}
 use Rattle.str_model.specs.declared.messages.Arrived.{Arrived}
 use Rattle.str_model.specs.declared.messages.Body.TheVariants.{Refuse as Refusal}
@@ -18,17 +17,17 @@ use Rattle.str_model.specs.Proposals.{Accept, Ignore, MasterTurn, Park, Refuse, 
 use Rattle.str_model.specs.Pruning.{pruned}
 use Rattle.str_model.specs.Scripts
 use Rattle.str_model.specs.Turns.{Give, ServeTurn, ServeWait, serve_turn}
-use Rattle.str_model.specs.Views.{Active, CertWait, Closing, Doing, Global, Local, Own, Phase, ReadWait, Remote, Reply, View, is_decided, lc_of, letter}
+use Rattle.str_model.specs.Views.{Closing, Doing, Global, Local, Own, Phase, View, is_decided, lc_of, letter}
 use Rattle.str_model.specs.Waiters
-use Rattle.str_model.proofs.Principle.SingleChanges.{Act, InTurn, InWait, IsTurn, Path, Touches, Where, act_ask, along, touches_turn}
+use Rattle.str_model.proofs.Principle.SingleChanges.{Act, InTurn, InWait, Path, Where, act_ask, along}
 use Rattle.str_model.proofs.Principle.StepPaths.{first-path, half_turn-path, resolved_first, turn-path, waiter_turn-waited}
-use Rattle.str_model.proofs.Changes.SnapshotsGain.{if_elim}
-use Rattle.str_model.proofs.Lists.Members.{In, in_right}
 use Rattle.str_model.proofs.Pruning.PruneMaster.{TurnAlike, master_alike, master_pruned, t_refuse, t_same}
 use Rattle.str_model.proofs.Pruning.PruneOrder.{InOrder}
 use Rattle.str_model.proofs.Pruning.PruneTurns.{serve_pruned}
 use Rattle.str_model.proofs.Pruning.TwinChoices.{Fit, ServedAlike, s_gives, s_same, serve_alike, twin_again, twin_at_own, twin_close_free, twin_resolve}
 use Rattle.str_model.proofs.Pruning.Twins.{Twin, alike_append, alike_self, twin_accepted, twin_asked, twin_committed, twin_refused, twin_replied, twin_waiters}
+use Rattle.str_base.proofs.Members.{in_right}
+use Rattle.str_base.specs.Members.{In}
 
 -- what a turn needs at the i-th own transaction
 pub record Ready (g : ℕ) (Dec : TxId → Type 0) (here : Here) (i : ℕ) (x : Own) (d : Doing) : Type 0 where

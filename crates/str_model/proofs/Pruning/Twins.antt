@@ -1,5 +1,5 @@
 -- Two steps that stand alike: one over a full list of versions, one over a pruned one. Each single change keeps that.
-use Rattle.std.proofs.Common.{Bool, List, None, Option, Some, [], ap, false, filter, inl, inr, length, map, max, refl, slice_get, slice_set, subst, sym, true, ℕ, ◌++◌, ◌+◌, ◌∙◌, ◌∷◌, ◌≡◌, ◌≤◌}
+use Rattle.std.proofs.Common.{List, None, Option, Some, [], ap, filter, map, max, refl, slice_set, subst, ℕ, ◌++◌, ◌∙◌, ◌∷◌, ◌≡◌}
 use Rattle.partition_map.specs.declared.rows.Asked.{Asked}
 use Rattle.dependency_set.specs.Snapshots.{Snap}
 use Rattle.str_base.specs.declared.names.Cause.{Cause}
@@ -12,7 +12,6 @@ use Rattle.str_base.specs.declared.names.Value.{Value}
 use Rattle.str_base.specs.declared.names.Version.{Version}
 use Rattle.str_base.specs.Versions.{finalise, insert_all, of_pair, of_tx, settled, stamp, without}
 use Rattle.str_model.specs.declared.names.KeyMark.{KeyMark}
-use Rattle.str_model.specs.declared.messages.Answer.{Answer}
 use Rattle.str_model.specs.declared.messages.Arrived.{Arrived}
 use Rattle.str_model.specs.declared.messages.Body.TheVariants.{ReadReply, Refuse}
 use Rattle.str_model.specs.declared.messages.Message.{Message}
@@ -25,6 +24,7 @@ use Rattle.str_model.specs.Pruning.{pruned, pruned_versions}
 use Rattle.str_model.specs.Views.{Doing, Own, View, letter, name_of, put, release, send}
 use Rattle.str_model.proofs.Pruning.PruneOrder.{InOrder, Kernel, PassesOpen, kernel_all, order_filter}
 use Rattle.str_model.proofs.Pruning.PruneTurns.{kernel_filter, kernel_finalise, kernel_without}
+use Rattle.std.proofs.lemmas.Bool.{and_parts}
 
 -- two messages are one, or a reply or a refusal of one transaction that has its decision
 pub data Alike (Dec : TxId → Type 0) : Message → Message → Type 0 where
@@ -102,7 +102,7 @@ module _ (g : ℕ) (Dec : TxId → Type 0) where
   unfolding closed
   twin_closed here i x d e t =
       record {
-        view = ap (λ (v : View). record v { own = slice_set v.own i (Acts.in_phase (Rattle.str_model.specs.Views.Committed None None) x) }) t.view;
+        view = ap (λ (v : View). record v { own = slice_set v.own i (Acts.decided_as (Rattle.str_model.specs.Views.Committed None None) x) }) t.view;
         sent = t.sent;
         released = ap (release (Acts.answer_of here i x (Rattle.str_model.specs.declared.messages.Outcome.TheVariants.Committed None x.gets))) t.released;
       }
@@ -146,7 +146,7 @@ module _ (g : ℕ) (Dec : TxId → Type 0) where
   twin_aborted here i cause x d e h k t =
       let vs = kernel_without g (of_tx (name_of here i)) d.view.versions e.view.versions h k (kernel_of d e t) in
       record {
-        view = (λ j. record (t.view j) { versions = vs j; own = slice_set (t.view j).own i (Acts.in_phase (Rattle.str_model.specs.Views.Aborted (Rattle.str_model.specs.Views.lc_of x.phase) cause) x) });
+        view = (λ j. record (t.view j) { versions = vs j; own = slice_set (t.view j).own i (Acts.decided_as (Rattle.str_model.specs.Views.Aborted (Rattle.str_model.specs.Views.lc_of x.phase) cause) x) });
         sent = more_sent d e (Acts.abort_letters here i x.parts) t;
         released = ap (release (Acts.answer_of here i x (Rattle.str_model.specs.declared.messages.Outcome.TheVariants.Aborted cause))) t.released;
       }
@@ -166,7 +166,7 @@ module _ (g : ℕ) (Dec : TxId → Type 0) where
       }
 
   hosted_open : (here : Here) (tx : TxId) (vs : List Version) → PassesOpen (of_tx tx) vs → PassesOpen (Acts.is_hosted_of here tx) vs
-  hosted_open here tx vs h v i e = h v i (Rattle.str_model.proofs.Pruning.PruneLists.and_cases (of_tx tx v) (hosts here.scene here.node v.part) e).0
+  hosted_open here tx vs h v i e = h v i (and_parts (of_tx tx v) (hosts here.scene here.node v.part) e).0
 
   pub twin_committed : (here : Here) (i lc fc : ℕ) (x : Own) (d e : Doing) → InOrder d.view.versions → InOrder e.view.versions → PassesOpen (of_tx (name_of here i)) d.view.versions → PassesOpen (of_tx (name_of here i)) e.view.versions
       → Twin g Dec d e → Twin g Dec (committed here i lc fc x d) (committed here i lc fc x e)
@@ -187,7 +187,7 @@ module _ (g : ℕ) (Dec : TxId → Type 0) where
         view = (λ j. record (t.view j) {
           versions = vs j;
           floor = max (t.view j).floor fc;
-          own = slice_set (t.view j).own i (Acts.in_phase (Rattle.str_model.specs.Views.Committed (Some lc) (Some fc)) x);
+          own = slice_set (t.view j).own i (Acts.decided_as (Rattle.str_model.specs.Views.Committed (Some lc) (Some fc)) x);
         });
         sent = alike_append Dec d.sent e.sent _ _ t.sent (subst (λ (ms : List Message). AllAlike Dec (Acts.commit_letters here i x fc d.view) ms) letters (alike_self Dec (Acts.commit_letters here i x fc d.view)));
         released = ap (release (Acts.answer_of here i x (Rattle.str_model.specs.declared.messages.Outcome.TheVariants.Committed (Some (stamp fc)) x.gets))) t.released;

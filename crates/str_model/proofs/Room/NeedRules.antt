@@ -23,7 +23,7 @@ use Rattle.str_model.specs.declared.messages.Input.TheVariants.{Client, Deliver}
 use Rattle.str_model.specs.declared.messages.Waiter.{Waiter}
 use Rattle.str_model.specs.declared.messages.Waiter.TheVariants.{Held, Read}
 use Rattle.str_base.specs.Versions.{same_key, same_node, stamp}
-use Rattle.str_model.specs.Acts.{abort_came, aborted, accepted, acked, begun, certified, commit_came, copies, fresh, in_phase, marked, refused, replied, requested, taken, waits}
+use Rattle.str_model.specs.Acts.{abort_came, aborted, accepted, acked, begun, certified, commit_came, copies, decided_as, fresh, in_phase, marked, refused, replied, requested, taken, waits}
 use Rattle.str_model.specs.Arrivals.{evict, held_key, master_done, prepare_rule, read_req, replicate_rule, serve_done, take_if}
 use Rattle.str_model.specs.Arrivals
 use Rattle.str_model.specs.Clients.{client_rule}
@@ -41,16 +41,16 @@ use Rattle.str_model.specs.Turns.{Away, CertTurn, Certified, Conflict, Give, Pla
 use Rattle.str_model.specs.Views.{Aborted, Active, CertWait, Closing, Committed, Doing, Global, Local, Own, Phase, ReadWait, Remote, Reply, View, is_decided, lc_of, letter, put, starts}
 use Rattle.str_scene.specs.SceneLimits.{IsScene}
 use Rattle.str_scene.specs.Scenes.{Here, Session, hosts_key, is_master, nth, replicas}
-use Rattle.str_model.proofs.Principle.SingleChanges.{InRule}
 use Rattle.str_model.proofs.Room.PartCosts.{Grew, aborted_cost, certified_cost, copies_seven, cost, parts_few, put_cost}
-use Rattle.str_model.proofs.Lists.ListCounts.{many_append}
+use Rattle.str_model.proofs.ListCounts.{many_append}
 use Rattle.str_model.proofs.OwnFacts.FewOwn.{is_open}
 use Rattle.str_model.proofs.ViewFacts.GatesEnd.{many_mono}
-use Rattle.str_model.proofs.Lists.ListReads.{got_set}
 use Rattle.str_model.proofs.Room.NeedTurns.{read_cost}
 use Rattle.str_model.proofs.Room.SmallNumbers.{writes_few}
-use Rattle.str_model.proofs.Principle.RulePaths.{own_named-is}
+use Rattle.str_model.proofs.Principle.RulePaths.{named_owns}
 use Rattle.str_model.proofs.ViewFacts.TimesEnd.{many_set}
+use Rattle.str_base.proofs.Lists.{got_set}
+use Rattle.str_base.proofs.Tests.{and_true_left}
 
 -- ---- what fits in a message
 
@@ -93,11 +93,7 @@ pub record Ruled (v : View) (r : Doing) : Type 0 where
   pub waiting : length r.view.waiters ≤ length v.waiters + 1
 
 busy_open : (xs : List Own) → how_many is_busy xs ≤ how_many is_open xs
-busy_open xs = many_mono is_busy is_open xs (λ x e. left (is_open x) (not (is_idle x)) e)
-  where
-    left : (a b : Bool) → (a && b) ≡ true → a ≡ true
-    left true b q = refl
-    left false b q = absurd cc
+busy_open xs = many_mono is_busy is_open xs (λ x e. and_true_left (is_open x) (not (is_idle x)) e)
 
 spent_rules : (v : View) (r : Doing) → Spent 32 (starts v) r → Ruled v r
 spent_rules v r s = record { cost_is = (let b = busy_open r.view.own in let c = s.cost_is in omega (arith, b, c)); waiting = s.waiting }
@@ -134,7 +130,7 @@ module _ (here : Here) (i : ℕ) where
   unfolding aborted
   abort_spent n k cause x d own f le m =
       let g = aborted_cost here i n cause x d le in
-      let o = opens_less d.view.own i x (in_phase (Aborted (lc_of x.phase) cause) x) own f refl in
+      let o = opens_less d.view.own i x (decided_as (Aborted (lc_of x.phase) cause) x) own f refl in
       record { cost_is = (let c = g.cost_is in omega (arith, c, o, m)); waiting = (let w : length (aborted here i cause x d).view.waiters ≡ length d.view.waiters = ap length g.waiters in omega (arith, w)) }
 
   put_spent : (x y : Own) (d : Doing) → Owns d.view i x → is_decided x.phase ≡ false → Spent 32 d (put i y d)
@@ -305,7 +301,7 @@ module _ (here : Here) (ok : IsScene here.scene) (exists : has_node here here.no
           let s = abort_spent here i 112 0 (ByConflict a.tx w.key here.node) x d own f (p i x own) (omega arith) in
           record {
             spent = (let c = s.cost_is in omega (arith, c));
-            parts = λ j y own'. elim (got_set d.view.own i j (in_phase (Aborted (lc_of x.phase) (ByConflict a.tx w.key here.node)) x) y own') [
+            parts = λ j y own'. elim (got_set d.view.own i j (decided_as (Aborted (lc_of x.phase) (ByConflict a.tx w.key here.node)) x) y own') [
               | inl q ↦ subst (λ (z : Own). length z.parts ≤ 112) (sym q.1) (p i x own)
               | inr q ↦ p j y q.1
             ];
@@ -379,7 +375,7 @@ module _ (here : Here) (ok : IsScene here.scene) (exists : has_node here here.no
 
       by_own : (o : Option Own) → Returns.own_named here tx (starts v) ≡ o → OptRuled v (Returns.reply_own i k a by fc o (starts v))
       by_own None e = tt
-      by_own (Some x) e = by_phase x x.phase (own_named-is here (Client (record { 0 = 0 }) 0) InRule refl tx (starts v) x e).0 refl
+      by_own (Some x) e = by_phase x x.phase (named_owns here tx (starts v) x e) refl
 
   ack_ruled : (from : NodeId) (tx : TxId) (p : PartId) (ts : ℕ) → OptRuled v (Returns.ack_rule here from tx p ts (starts v))
   unfolding Returns.ack_rule acked
@@ -406,7 +402,7 @@ module _ (here : Here) (ok : IsScene here.scene) (exists : has_node here here.no
 
       by_own : (o : Option Own) → Returns.own_named here tx (starts v) ≡ o → OptRuled v (Returns.ack_own i from p ts o (starts v))
       by_own None e = tt
-      by_own (Some x) e = by_phase x x.phase (own_named-is here (Client (record { 0 = 0 }) 0) InRule refl tx (starts v) x e).0 refl
+      by_own (Some x) e = by_phase x x.phase (named_owns here tx (starts v) x e) refl
 
   refuse_ruled : (from : NodeId) (tx : TxId) (p : PartId) (by : TxId) (k : KeyId) → OptRuled v (Returns.refuse_rule here from tx p by k (starts v))
   unfolding Returns.refuse_rule
@@ -433,7 +429,7 @@ module _ (here : Here) (ok : IsScene here.scene) (exists : has_node here here.no
 
       by_own : (o : Option Own) → Returns.own_named here tx (starts v) ≡ o → OptRuled v (Returns.refuse_own here i from p by k o (starts v))
       by_own None e = tt
-      by_own (Some x) e = by_phase x x.phase (own_named-is here (Client (record { 0 = 0 }) 0) InRule refl tx (starts v) x e).0 refl
+      by_own (Some x) e = by_phase x x.phase (named_owns here tx (starts v) x e) refl
 
   -- ---- decisions that come
 

@@ -8,7 +8,6 @@ use Rattle.str_model.proofs.OwnFacts.AtHome.{AckStep, a_new, a_old, acked_parts}
 use Rattle.str_model.proofs.Principle.SingleChanges.{Act, Arrives, Change, Comes, Goes, IsHere, IsReading, ReadsTo, Where, a_prepare, a_read, act_abort, act_abort_came, act_accept, act_ack, act_ask, act_begin, act_certify, act_close, act_commit, act_commit_came, act_mark, act_put, act_refuse, act_reply, act_request, act_take, act_unwait, act_wait, ch_away, ch_blind, ch_close, ch_gate, ch_known, ch_read, ch_reply, ch_resolve, ch_take, ch_wait, far_reading, it_comes, it_waits, left_waiting, own_reading, to_final, to_local}
 use Rattle.str_model.proofs.Changes.SnapshotsGain.{CertGood, cert_turn-good, if_elim}
 use Rattle.str_model.proofs.Changes.OwnGoesOn.{puts_on}
-use Rattle.str_model.proofs.Lists.Members.{In, in_append, in_left, in_map, in_right}
 use Rattle.str_model.specs.Owned.{final_times}
 use Rattle.std.proofs.Common.{true, List, None, Option, Some, [], ap, arith, filter, find, inl, inr, map, nat_lt, refl, slice_set, subst, sym, ℕ, ◌+◌, ◌<◌, ◌∙◌, ◌∷◌, ◌≡◌, ◌≤◌}
 use Rattle.str_base.specs.declared.names.KeyId.{KeyId}
@@ -20,7 +19,7 @@ use Rattle.str_base.specs.declared.names.Version.{Version}
 use Rattle.str_base.specs.declared.names.Write.{Write}
 use Rattle.str_base.specs.Versions.{of_pair, of_tx, settled, stamp, without}
 use Rattle.str_model.specs.Strange.{is_valid}
-use Rattle.str_model.specs.Acts.{abort_came, aborted, accepted, acked, asked, begun, certified, closed, commit_came, committed, fresh, in_phase, is_hosted_of, local_version, marked, pre_version, refused, replied, requested, taken, waits, with_asked}
+use Rattle.str_model.specs.Acts.{abort_came, aborted, accepted, acked, asked, begun, certified, closed, commit_came, committed, decided_as, fresh, in_phase, is_hosted_of, local_version, marked, pre_version, refused, replied, requested, taken, waits, with_asked}
 use Rattle.str_model.specs.Clients.{reading_limit}
 use Rattle.str_model.specs.declared.messages.Arrived.{Arrived}
 use Rattle.str_model.specs.declared.messages.Body.{Body}
@@ -38,6 +37,8 @@ use Rattle.str_model.specs.Turns.{Certified, met}
 use Rattle.str_model.specs.Views.{Aborted, Committed, Doing, Global, Local, Own, Phase, Remote, View, lc_of, name_of, put}
 use Rattle.str_scene.specs.declared.names.TxPlace.{TxPlace}
 use Rattle.str_scene.specs.Scenes.{Here, participants}
+use Rattle.str_base.proofs.Members.{in_append, in_left, in_map, in_right}
+use Rattle.str_base.specs.Members.{In}
 
 module _ (here : Here) (input : Input) (w : Where) where
   -- how many timestamps the change proposes
@@ -166,7 +167,7 @@ module _ (here : Here) (input : Input) (w : Where) where
           read_time (far_reading from tx rs q z) = let r = came_below from (ReadReq tx m rs) z in omega (arith, r, q, le)
       view_act d e (act_put i x y d' own g) k h = put_below d' i y h (own_higher b c y le (goes_below d' i x y h (own_at b d'.view h i x own.0) g))
       view_act d e (act_request i m n x d' own g) k h =
-          put_below d' i (in_phase (Remote m) x) h (own_higher b c (in_phase (Remote m) x) le (goes_below d' i x (in_phase (Remote m) x) h (own_at b d'.view h i x own.0) g))
+          put_below d' i (in_phase (Remote m) x) h (own_higher b c (in_phase (Remote m) x) le (goes_below d' i x (in_phase (Remote m) x) h (own_at b d'.view h i x own.0) (record { goes = g.goes; change = g.change })))
       view_act d e (act_certify i lc snap x d' own f n q) k h =
           let k' : b + 1 ≤ c = k in
           let u = view_higher b c d'.view le h in
@@ -220,7 +221,7 @@ module _ (here : Here) (input : Input) (w : Where) where
             floor = u.floor;
             marks = u.marks;
             versions = without_below c (of_tx (name_of here i)) d'.view.versions u.versions;
-            own = set_below d'.view i (in_phase (Aborted (lc_of x.phase) cause) x) h (record { rs = o.rs; ffc = o.ffc; deps = o.deps; lc = o.lc; finals = λ t j. absurd j; acks = o.acks });
+            own = set_below d'.view i (decided_as (Aborted (lc_of x.phase) cause) x) h (record { rs = o.rs; ffc = o.ffc; deps = o.deps; lc = o.lc; finals = λ t j. absurd j; acks = o.acks });
             waiters = u.waiters;
           }
       view_act d e (act_commit i lc fc x d' own l n m f g) k h =
@@ -234,7 +235,7 @@ module _ (here : Here) (input : Input) (w : Where) where
             marks = u.marks;
             versions = insert_below c (map (settled fc) (filter (is_hosted_of here (name_of here i)) d'.view.versions)) (without (of_tx (name_of here i)) d'.view.versions)
                 (settled_below c fc (filter (is_hosted_of here (name_of here i)) d'.view.versions) less) (without_below c (of_tx (name_of here i)) d'.view.versions u.versions);
-            own = set_below d'.view i (in_phase (Committed (Some lc) (Some fc)) x) h (record {
+            own = set_below d'.view i (decided_as (Committed (Some lc) (Some fc)) x) h (record {
               rs = o.rs;
               ffc = o.ffc;
               deps = o.deps;
@@ -246,7 +247,7 @@ module _ (here : Here) (input : Input) (w : Where) where
           }
       view_act d e (act_close i x d' own p n) k h =
           let o = own_higher b c x le (own_at b d'.view h i x own.0) in
-          put_below d' i (in_phase (Committed None None) x) h (record { rs = o.rs; ffc = o.ffc; deps = o.deps; lc = λ z j. absurd (cc j); finals = λ t j. absurd j; acks = o.acks })
+          put_below d' i (decided_as (Committed None None) x) h (record { rs = o.rs; ffc = o.ffc; deps = o.deps; lc = λ z j. absurd (cc j); finals = λ t j. absurd j; acks = o.acks })
       view_act d e (act_accept a ts d' g m) k h =
           let k' : b + 1 ≤ c = k in
           let u = view_higher b c d'.view le h in

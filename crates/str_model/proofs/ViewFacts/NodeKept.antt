@@ -2,11 +2,11 @@
 use Rattle.std.proofs.Common.{Bool, List, None, Option, Some, [], ap, arith, false, if◌then◌else◌, inl, inr, length, map, refl, slice_get, slice_set, subst, suc, sym, true, zero, ℕ, ◌-◌, ◌<◌, ◌∙◌, ◌∷◌, ◌≡◌, ◌≢◌, ◌⊎◌}
 use Rattle.std.proofs.lemmas.Option.{slice_get_within}
 use Rattle.dependency_set.specs.declared.names.Dep.{Dep}
-use Rattle.str_model.specs.Acts.{aborted, closed, in_phase}
+use Rattle.str_model.specs.Acts.{aborted, closed, decided_as}
 use Rattle.str_base.specs.declared.names.Cause.TheVariants.{Wish}
 use Rattle.str_model.specs.declared.messages.Input.{Input}
 use Rattle.str_model.specs.Gates.{DepParts, dep_parts, gate_turn, parts_of}
-use Rattle.str_model.specs.NodeFacts.{EndedAt, In, IsShut, MomentFacts, NodeFacts}
+use Rattle.str_model.specs.NodeFacts.{EndedAt, IsShut, MomentFacts, NodeFacts}
 use Rattle.str_model.specs.Owned.{Owns}
 use Rattle.str_model.specs.Pass.{gates_in, half_turn, pass_to, turn}
 use Rattle.str_model.specs.Pass
@@ -21,10 +21,11 @@ use Rattle.str_model.proofs.Principle.SingleChanges.{Act, InRule, InTurn, InWait
 use Rattle.str_model.proofs.Principle.StepPaths.{StepPath, StepTo, first-path, half_turn-path, resolved_first, step-path, turn-path}
 use Rattle.str_model.proofs.OwnFacts.TurnsBelow.{Below, UpTo, leaves}
 use Rattle.str_model.proofs.ViewFacts.GatesEnd.{Asks, OfScene, gates-end, participants_of, seats_of, to_ask-within}
-use Rattle.str_model.proofs.Lists.ListReads.{get_set}
 use Rattle.str_model.proofs.ViewFacts.MomentKept.{moment-act, moment_opening}
 use Rattle.str_model.proofs.OwnFacts.LocalOwners.{same_own}
 use Rattle.str_model.proofs.OwnFacts.DependenciesStand.{pass_length, resolved_up, same_length, step_open}
+use Rattle.str_base.proofs.Lists.{get_set}
+use Rattle.str_base.specs.Members.{In}
 
 -- ---- what a gate sees of the dependencies
 
@@ -87,8 +88,8 @@ module _ (here : Here) (ok : IsScene here.scene) (exists : has_node here here.no
       ends_as x z own f y own' o = let q : Some z ≡ Some y = sym (get_set d.view.own i x z own) ∙ own' in let is : z ≡ y = cc q in cc (ap (λ (u : Own). is_decided u.phase) is, f, o)
 
       free : (wish : Bool) (x : Own) → Owns d.view i x → EndedAt here (Pass.close_free here i wish x d).view i
-      free true x own = λ y m own' o k. absurd (ends_as x (in_phase (Aborted (lc_of x.phase) Wish) x) own refl y own' o)
-      free false x own = λ y m own' o k. absurd (ends_as x (in_phase (Committed None None) x) own refl y own' o)
+      free true x own = λ y m own' o k. absurd (ends_as x (decided_as (Aborted (lc_of x.phase) Wish) x) own refl y own' o)
+      free false x own = λ y m own' o k. absurd (ends_as x (decided_as (Committed None None) x) own refl y own' o)
 
       closing : (b wish : Bool) (x : Own) → Owns d.view i x → lc_of x.phase ≡ None → EndedAt here (if b then Pass.close_free here i wish x d else d).view i
       closing true wish x own l = free wish x own

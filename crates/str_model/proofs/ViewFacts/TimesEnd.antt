@@ -5,7 +5,7 @@ use Rattle.str_model.specs.declared.messages.Arrived.{Arrived}
 use Rattle.str_model.specs.declared.messages.Input.{Input}
 use Rattle.str_model.specs.declared.messages.Input.TheVariants.{Deliver}
 use Rattle.str_model.specs.declared.messages.Message.{Message}
-use Rattle.str_model.specs.Acts.{abort_came, aborted, accepted, acked, asked, begun, certified, closed, commit_came, committed, fresh, in_phase, marked, pre_version, refused, replied, requested, taken, waits, with_asked}
+use Rattle.str_model.specs.Acts.{abort_came, aborted, accepted, acked, asked, begun, certified, closed, commit_came, committed, decided_as, fresh, in_phase, marked, pre_version, refused, replied, requested, taken, waits, with_asked}
 use Rattle.str_model.specs.Clients.{reading_limit}
 use Rattle.str_model.specs.NodeFacts.{ViewBelow, has_lc, how_many, one_if, times_end}
 use Rattle.str_scene.specs.Scenes.{Here}
@@ -18,11 +18,11 @@ use Rattle.str_model.proofs.Principle.SingleChanges.{Act, Where, act_abort, act_
 use Rattle.str_model.proofs.ViewFacts.ChangesBelow.{view_act}
 use Rattle.str_model.proofs.ViewFacts.PartsBelow.{insert_below}
 use Rattle.str_model.proofs.ViewFacts.TimesBelow.{BodyBelow, VersionsBelow, body_higher}
-use Rattle.str_model.proofs.Lists.ListCounts.{many_append}
+use Rattle.str_model.proofs.ListCounts.{many_append}
 use Rattle.str_model.proofs.OwnFacts.EachOwn.{as_certified}
-use Rattle.str_model.proofs.Lists.Members.{in_map}
 use Rattle.str_model.proofs.Changes.VersionChanges.{still}
 use Rattle.str_model.proofs.ViewFacts.ValidMessages.{named_below, valid_named}
+use Rattle.str_base.proofs.Members.{in_map}
 
 -- ---- how many were certified
 
@@ -107,13 +107,13 @@ module _ (here : Here) (input : Input) (w : Where) where
       let m = kept_many d'.view.own i x (record x { parts = parts }) own.0 refl in
       view_act here input w (times_end d'.view) (past_readings d'.view) (comes_ d') (times_end e.view) (omega (arith, m)) d' e (act_ack i lc from tx p ts parts x d' own c q g) (omega (arith, m)) h
   times_end-act d e (act_abort i cause x d' own f y) h =
-      let m = kept_many d'.view.own i x (in_phase (Aborted (lc_of x.phase) cause) x) own.0 refl in
+      let m = kept_many d'.view.own i x (decided_as (Aborted (lc_of x.phase) cause) x) own.0 refl in
       view_act here input w (times_end d'.view) (past_readings d'.view) (comes_ d') (times_end e.view) (omega (arith, m)) d' e (act_abort i cause x d' own f y) (omega (arith, m)) h
   times_end-act d e (act_commit i lc fc x d' own l n le f g) h =
-      let m = kept_many d'.view.own i x (in_phase (Committed (Some lc) (Some fc)) x) own.0 (sym l) in
+      let m = kept_many d'.view.own i x (decided_as (Committed (Some lc) (Some fc)) x) own.0 (sym l) in
       view_act here input w (times_end d'.view) (past_readings d'.view) (comes_ d') (times_end e.view) (omega (arith, m)) d' e (act_commit i lc fc x d' own l n le f g) (omega (arith, m)) h
   times_end-act d e (act_close i x d' own p n) h =
-      let m = kept_many d'.view.own i x (in_phase (Committed None None) x) own.0 (sym (ap lc_of p)) in
+      let m = kept_many d'.view.own i x (decided_as (Committed None None) x) own.0 (sym (ap lc_of p)) in
       view_act here input w (times_end d'.view) (past_readings d'.view) (comes_ d') (times_end e.view) (omega (arith, m)) d' e (act_close i x d' own p n) (omega (arith, m)) h
   times_end-act d e (act_accept a ts d' g m) h =
       let b = times_end d'.view in
