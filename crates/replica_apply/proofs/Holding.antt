@@ -1,8 +1,5 @@
 -- Whether one of the versions passes a test, and which written key a transaction holds.
-use Rattle.std.proofs.Common.{Bool, List, None, Option, Some, [], ap, drop, false, get_or, if◌then◌else◌, is_some, length, refl, sym, true, ℕ, ◌&&◌, ◌++◌, ◌+◌, ◌<◌, ◌∙◌, ◌∷◌, ◌≡◌, ◌||◌, slice_get}
-use Rattle.std.proofs.lemmas.List.Folds.{list_any-append}
-use Rattle.std.proofs.lemmas.List.{drop_more}
-use Rattle.str_base.proofs.Lists.{drop_none}
+use Rattle.std.proofs.Common.{Bool, List, None, Option, Some, [], ap, drop, false, get_or, if◌then◌else◌, is_some, length, refl, sym, true, ℕ, ◌&&◌, ◌++◌, ◌+◌, ◌<◌, ◌∙◌, ◌∷◌, ◌≡◌, ◌||◌}
 use Rattle.std.specs.List.{list_any}
 use Rattle.replica_apply.specs.Slaves.{is_local_of}
 use Rattle.str_base.specs.declared.names.KeyId.{KeyId}
