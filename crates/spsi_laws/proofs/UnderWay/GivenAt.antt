@@ -24,8 +24,8 @@ use Rattle.str_scene.specs.SceneLimits.{IsScene}
 use Rattle.str_scene.specs.Scenes.{Here, Scene, nth}
 use Rattle.str_scene.specs.declared.names.Event.{Event}
 use Rattle.str_scene.specs.declared.names.Event.TheVariants.{Deliver as DeliverEvent}
-use Rattle.str_base.proofs.Lists.{get_set, get_set_other, got_set, slice_get_there}
-use Rattle.str_scene.proofs.Each.{get_left}
+use Rattle.str_base.proofs.Lists.{get_append_left, get_set, get_set_other, got_set, slice_get_there}
+use Rattle.std.proofs.lemmas.Option.{slice_get_within}
 
 -- the event by which the j-th message was given to the n-th node, both counted from 0
 pub record Given (scene : Scene) (es : List Event) (j : ℕ) (m : Message) (n : ℕ) : Type 0 where
@@ -38,7 +38,7 @@ pub record Given (scene : Scene) (es : List Event) (j : ℕ) (m : Message) (n : 
 
 -- what was sent stays
 sent_stays : (scene : Scene) (w : World) (es : List Event) (j : ℕ) (m : Message) → slice_get w.sent j ≡ Some m → slice_get (run_from scene w es).sent j ≡ Some m
-sent_stays scene w es j m h = by_steps scene (λ s. slice_get s.sent j ≡ Some m) (λ s i v input e is seen q k. get_left s.sent e.sent j m k) w es h
+sent_stays scene w es j m h = by_steps scene (λ s. slice_get s.sent j ≡ Some m) (λ s i v input e is seen q k. get_append_left s.sent e.sent j (slice_get_within s.sent j m k) ∙ k) w es h
 
 -- the event is a step at the receiver
 event_is : (scene : Scene) (w : World) (j n : ℕ) (m : Message) (v : View) → slice_get w.sent j ≡ Some m → m.receiver ≡ record { 0 = n + 1 } → slice_get w.nodes n ≡ Some v
