@@ -88,7 +88,7 @@ asks_same (Commit tx r fc ms) t u p q a b = absurd a
 asks_same (Abort tx r) t u p q a b = absurd a
 
 -- who asks is certified
-pub asks_certified : (scene : Scene) (s : Stage) (from to : NodeId) (b : Body) (tx : TxId) (p : PartId) → Asks tx p b → Told scene s from to b → (rs : ℕ) × (lc : ℕ) × (all : List Write) × IsCertified scene s tx rs lc all
+asks_certified : (scene : Scene) (s : Stage) (from to : NodeId) (b : Body) (tx : TxId) (p : PartId) → Asks tx p b → Told scene s from to b → (rs : ℕ) × (lc : ℕ) × (all : List Write) × IsCertified scene s tx rs lc all
 asks_certified scene s from to (Prepare t r rs lc ws) tx p a k = (rs.0, lc.0, k.0, subst (λ (z : TxId). IsCertified scene s z rs.0 lc.0 k.0) a.0 k.1)
 asks_certified scene s from to (Replicate t r rs lc ws) tx p a k = (rs.0, lc.0, k.0, subst (λ (z : TxId). IsCertified scene s z rs.0 lc.0 k.0) a.0 k.1)
 asks_certified scene s from to (ReadReq t k rs) tx p a z = absurd a
