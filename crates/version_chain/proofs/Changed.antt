@@ -1,26 +1,26 @@
 -- What taking a slot out, and settling one, do to the versions in order.
-use Rattle.std.proofs.Common.{Bool, IsSome, List, None, Option, Some, [], ap, arith, false, if◌then◌else◌, inl, inr, is_some, not, option_map, refl, subst, sym, true, ℕ, ◌&&◌, ◌==◌, ◌||◌, ◌∙◌, ◌∷◌, ◌≡◌, ◌⊎◌}
+use Rattle.std.proofs.Common.{Bool, IsSome, List, None, Option, Some, [], ap, arith, false, if◌then◌else◌, inl, inr, is_some, not, option_map, refl, subst, sym, true, ℕ, ◌&&◌, ◌==◌, ◌||◌, ◌∙◌, ◌∷◌, ◌≡◌}
 use Rattle.std.proofs.lemmas.Bool.Decides.{nat_tests}
 use Rattle.str_base.specs.declared.names.KeyId.{KeyId}
 use Rattle.str_base.specs.declared.names.Kind.TheVariants.{Final}
 use Rattle.str_base.specs.declared.names.Ts.{Ts}
 use Rattle.str_base.specs.declared.names.Version.{Version}
-use Rattle.str_base.specs.Versions.{finalise, insert_version, is_before, settled, without}
+use Rattle.str_base.specs.Versions.{finalise, is_before, settled, without}
 use Rattle.link_arena.specs.Arenas.{AreLists, ArenaView, at, dated, key_list, next_of}
 use Rattle.link_arena.specs.HeadLists.{key_names, key_one}
 use Rattle.link_arena.specs.OneSide.{is_named}
-use Rattle.link_arena.specs.Rows.{IsPlace, Once, first_or, is_at, is_in, put_before, taken}
+use Rattle.link_arena.specs.Rows.{Once, first_or, is_at, is_in, put_before, taken}
 use Rattle.link_arena.proofs.ArenaLemmas.{has_key}
 use Rattle.link_arena.proofs.RowLemmas.{in_taken}
 use Rattle.version_chain.specs.ChainLists.{Apart, Each, IsOrdered, Precedes}
 use Rattle.version_chain.specs.Flat.{IsChains, flat, goes_before, picked, spot}
 use Rattle.version_chain.specs.Walks.{with_version}
 use Rattle.version_chain.proofs.Each.{each_so}
-use Rattle.version_chain.proofs.Flats.{flat_found, flat_has, flat_ordered, picked_found, picked_has, there}
+use Rattle.version_chain.proofs.Flats.{flat_found, flat_has, flat_ordered, picked_has, there}
 use Rattle.version_chain.proofs.Keeping.{ordered_filter, ordered_finalise, ordered_insert}
 use Rattle.std.proofs.lemmas.Bool.{not-true}
 use Rattle.str_base.proofs.Members.{In, filter_in, in_filter}
-use Rattle.version_chain.proofs.Telling.{Comes, each_from, each_in, finalise_keeps, finalise_settles, in_finalise, ordered_tells}
+use Rattle.version_chain.proofs.Telling.{each_in, finalise_keeps, finalise_settles, in_finalise, ordered_tells}
 use Rattle.str_base.proofs.Order.{apart_back, before_trans}
 use Rattle.version_chain.proofs.Spots.{deeper, here, picked_alike, put_picked, spot_in}
 

@@ -1,5 +1,5 @@
 -- The undecided versions of a list.
-use Rattle.std.proofs.Common.{Bool, List, None, Option, Some, [], ap, arith, false, filter, if◌then◌else◌, inl, inr, nat_le, not, refl, slice_get, subst, sym, true, ℕ, ◌&&◌, ◌++◌, ◌==◌, ◌∙◌, ◌∷◌, ◌≡◌, ◌⊎◌, ◌≤◌}
+use Rattle.std.proofs.Common.{Bool, List, None, [], ap, arith, false, if◌then◌else◌, inl, inr, nat_le, not, refl, slice_get, subst, sym, true, ℕ, ◌&&◌, ◌++◌, ◌==◌, ◌∙◌, ◌∷◌, ◌≡◌, ◌⊎◌, ◌≤◌}
 use Rattle.std.proofs.lemmas.Bool.Decides.{nat_tests}
 use Rattle.std.specs.List.{last_or}
 use Rattle.str_base.specs.declared.names.KeyId.{KeyId}
@@ -15,7 +15,7 @@ use Rattle.version_chain.proofs.Keeping.{ordered_filter, ordered_finalise, order
 use Rattle.version_chain.proofs.Lists.{filter_alike, filter_twice}
 use Rattle.std.proofs.lemmas.Bool.{not-true}
 use Rattle.str_base.proofs.Members.{In, filter_in, in_append, in_filter, in_insert, in_left}
-use Rattle.version_chain.proofs.Telling.{Comes, each_from, each_in, finalise_keeps, in_finalise, insert_in, ordered_tells}
+use Rattle.version_chain.proofs.Telling.{each_from, each_in, finalise_keeps, in_finalise, insert_in, ordered_tells}
 use Rattle.str_base.proofs.Order.{before_not, before_time, before_trans, not_before_self}
 
 -- the test

@@ -1,6 +1,5 @@
 -- What holds of each version of a list.
-use Rattle.std.proofs.Common.{Bool, List, [], arith, false, filter, if◌then◌else◌, length, map, not, refl, suc, take, true, zero, ℕ, ◌<◌, ◌∷◌, ◌≡◌}
-use Rattle.std.specs.List.{slice_index_or}
+use Rattle.std.proofs.Common.{Bool, List, [], false, filter, if◌then◌else◌, map, not, refl, true, ℕ, ◌∷◌, ◌≡◌}
 use Rattle.str_base.specs.declared.names.Version.{Version}
 use Rattle.str_base.specs.Versions.{finalise, insert_all, insert_version, is_before, settled, without}
 use Rattle.version_chain.specs.ChainLists.{Each}

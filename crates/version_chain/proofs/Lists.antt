@@ -1,5 +1,5 @@
 -- Lists that are parted at a place, and lists that a test runs over.
-use Rattle.std.proofs.Common.{Bool, List, None, Option, Some, [], ap, arith, drop, false, filter, if◌then◌else◌, length, refl, slice_get, suc, take, true, zero, ℕ, ◌&&◌, ◌++◌, ◌+◌, ◌-◌, ◌<◌, ◌∙◌, ◌∷◌, ◌≡◌, ◌≤◌}
+use Rattle.std.proofs.Common.{Bool, List, Option, Some, [], ap, arith, drop, false, filter, if◌then◌else◌, length, refl, suc, true, zero, ℕ, ◌&&◌, ◌++◌, ◌+◌, ◌<◌, ◌∷◌, ◌≡◌}
 use Rattle.std.specs.List.{last_or, slice_index_or}
 
 -- the first number of a list of at least one more

@@ -7,7 +7,7 @@ use Rattle.str_base.specs.declared.names.KeyId.{KeyId}
 use Rattle.str_base.specs.declared.names.Version.{Version}
 use Rattle.link_arena.specs.Arenas.{ArenaView, at, key_list, next_of, prev_of}
 use Rattle.link_arena.specs.Rows.{IsPlace, Once, first_or, is_in}
-use Rattle.version_chain.specs.Flat.{IsChains, IsWalk, beyond, picked, up_to}
+use Rattle.version_chain.specs.Flat.{beyond, picked, up_to}
 use Rattle.version_chain.specs.Walks.{with_version}
 use Rattle.version_chain.proofs.Spots.{beyond_last, beyond_prev, deeper, differs, here, prev_place}
 

@@ -1,17 +1,13 @@
-use Rattle.std.proofs.Common.{List, None, Option, Some, ap, false, inl, inr, refl, subst, sym, true, ℕ, ◌==◌, ◌∙◌, ◌∷◌, ◌≡◌}
-use Rattle.std.specs.List.{list_any}
+use Rattle.std.proofs.Common.{List, Option, ap, refl, subst, sym, true, ℕ, ◌∙◌, ◌≡◌}
 use Rattle.str_base.specs.declared.names.TxId.{TxId}
-use Rattle.str_base.specs.declared.names.Version.{Version}
-use Rattle.str_base.specs.Versions.{finalise, of_pair, of_tx, settled, without}
+use Rattle.str_base.specs.Versions.{of_pair}
 use Rattle.link_arena.specs.Arenas.{at, next_of, number_of, tx_list}
 use Rattle.link_arena.specs.declared.nodes.Slot.{Slot}
 use Rattle.link_arena.specs.Rows.{IsPlace, is_in, taken}
-use Rattle.version_chain.specs.Flat.{beyond, flat, from_slot}
-use Rattle.version_chain.proofs.Changed.{finalise_none, finalise_same, gone, settled_chains, stays, unlinked_chains, without_same}
-use Rattle.version_chain.proofs.Flats.{flat_has, flat_ordered}
-use Rattle.str_base.proofs.Members.{any_in}
-use Rattle.version_chain.proofs.Telling.{any_none, without_none}
-use Rattle.version_chain.proofs.Pending.{one_list, unfit, vacant_at, IsPending, all_done, from_next, from_taken, next_place, next_place_taken, none_fits, one_less, pending_first, pending_step, rest_is, first_place, tx_is, tx_there}
+use Rattle.version_chain.specs.Flat.{flat, from_slot}
+use Rattle.version_chain.proofs.Changed.{gone, stays, unlinked_chains, without_same}
+use Rattle.version_chain.proofs.Telling.{without_none}
+use Rattle.version_chain.proofs.Pending.{one_list, unfit, vacant_at, from_next, from_taken, next_place, next_place_taken, none_fits, one_less, pending_first, pending_step, rest_is, first_place, tx_is, tx_there}
 use Rattle.version_chain.proofs.pairs.remove_pair.Goals as goal
 
 pub slots-init : goal.slots-init

@@ -1,4 +1,4 @@
-use Rattle.std.proofs.Common.{IfNone, List, Option, Some, [], ap, slice_get, subst, sym, true, ◌++◌, ◌∙◌, ◌∷◌, ◌≡◌}
+use Rattle.std.proofs.Common.{IfNone, List, [], ap, subst, sym, ◌++◌, ◌∙◌, ◌≡◌}
 use Rattle.std.proofs.lemmas.Map.Keys.{le_from_is_le}
 use Rattle.str_base.specs.declared.names.Version.{Version}
 use Rattle.str_base.specs.Versions.{chain}

@@ -1,5 +1,5 @@
 use Rattle.str_base.specs.declared.names.Version.{Version}
-use Rattle.std.proofs.Common.{List, None, Option, Some, [], ap, subst, sym, true, ℕ, ◌++◌, ◌∙◌, ◌∷◌, ◌≡◌}
+use Rattle.std.proofs.Common.{List, None, Option, [], ap, subst, sym, true, ℕ, ◌++◌, ◌∙◌, ◌∷◌, ◌≡◌}
 use Rattle.std.specs.List.{last_or}
 use Rattle.str_base.specs.declared.names.KeyId.{KeyId}
 use Rattle.link_arena.specs.Arenas.{at, key_list, number_of, prev_of}
@@ -8,7 +8,7 @@ use Rattle.link_arena.specs.Rows.{IsPlace, first_or, is_in}
 use Rattle.version_chain.specs.Flat.{beyond, picked, up_to}
 use Rattle.version_chain.proofs.Flats.{there}
 use Rattle.version_chain.proofs.Spots.{key_there, prev_place}
-use Rattle.version_chain.proofs.Walking.{IsNext, ahead_is, behind_is, last_more, next_back}
+use Rattle.version_chain.proofs.Walking.{ahead_is, behind_is, last_more, next_back}
 use Rattle.version_chain.proofs.walks.Walk.older.Goals as goal
 
 pub get-version-requires : goal.get-version-requires
