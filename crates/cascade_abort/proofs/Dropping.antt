@@ -1,5 +1,5 @@
 -- All versions of a transaction are out once those in each partition that it wrote in are.
-use Rattle.std.proofs.Common.{Bool, List, [], ap, arith, drop, eqb-true, false, if◌then◌else◌, length, not, refl, rules, subst, suc, sym, tests, true, zero, ℕ, ◌&&◌, ◌++◌, ◌+◌, ◌<◌, ◌==◌, ◌||◌, ◌∙◌, ◌∷◌, ◌≡◌, ◌≤◌}
+use Rattle.std.proofs.Common.{Bool, List, [], ap, arith, drop, eqb-true, false, if◌then◌else◌, length, not, refl, rules, subst, suc, sym, tests, true, zero, ℕ, ◌&&◌, ◌+◌, ◌<◌, ◌==◌, ◌||◌, ◌∙◌, ◌∷◌, ◌≡◌, ◌≤◌}
 use Rattle.std.proofs.lemmas.List.{drop_all, drop_more}
 use Rattle.std.specs.Prelude.{slice_index_or}
 use Rattle.cache_partition.specs.CacheLists.{IsCached}
@@ -102,53 +102,3 @@ shed_at tx part vs us start e h = rw e (shed tx part vs ∙ h)
 pub out_at : (parts : List PartId) (i : ℕ) (tx : TxId) (vs start : List Version) → length parts ≤ i → AllIn (drop i parts) tx vs → without (of_tx tx) vs ≡ without (of_tx tx) start
     → vs ≡ without (of_tx tx) start
 out_at parts i tx vs start l h e = sym (all_out tx vs (subst (λ (xs : List PartId). AllIn xs tx vs) (drop_all i parts l) h)) ∙ e
-
--- ---- the written partitions
-
--- one more is among them
-among_more : (parts : List PartId) (part p : PartId) → is_among (parts ++ part ∷ []) p ≡ (is_among parts p || same_part part p)
-among_more [] part p = by_test (same_part part p)
-  where
-    by_test : (b : Bool) → (b || false) ≡ b
-    by_test true = refl
-    by_test false = refl
-among_more (q ∷ parts) part p = by_test (same_part q p) (among_more parts part p)
-  where
-    by_test : (b : Bool) → is_among (parts ++ part ∷ []) p ≡ (is_among parts p || same_part part p) → (b || is_among (parts ++ part ∷ []) p) ≡ ((b || is_among parts p) || same_part part p)
-    by_test true e = refl
-    by_test false e = e
-
-or_assoc : (a b c : Bool) → ((a || b) || c) ≡ (a || (b || c))
-or_assoc true b c = refl
-or_assoc false b c = refl
-
--- what is among them already changes nothing
-among_same : (parts : List PartId) (part p : PartId) → is_among parts part ≡ true → (is_among parts p || same_part part p) ≡ is_among parts p
-among_same parts part p e = by_test (same_part part p) refl
-  where
-    by_or : (a : Bool) → (a || false) ≡ a
-    by_or true = refl
-    by_or false = refl
-
-    is_there : same_part part p ≡ true → is_among parts p ≡ true
-    is_there f = ap (λ (n : ℕ). is_among parts (record { 0 = n })) (sym (eqb-true part.0 p.0 f)) ∙ e
-
-    by_test : (b : Bool) → same_part part p ≡ b → (is_among parts p || b) ≡ is_among parts p
-    by_test true f = ap (λ a. a || true) (is_there f) ∙ sym (is_there f)
-    by_test false f = by_or (is_among parts p)
-
-module _ (map : PartitionMap) (ws : List Write) (i : ℕ) (d : Write) (part : PartId) (l : i < length ws) (q : part ≡ part_of map (slice_index_or ws i d).key) where
-  rest : (p : PartId) → is_written (part_of map) (drop i ws) p ≡ (same_part part p || is_written (part_of map) (drop (i + 1) ws) p)
-  rest p = ap (λ us. is_written (part_of map) us p) (drop_more ws i d l) ∙ ap (λ (r : PartId). same_part r p || is_written (part_of map) (drop (i + 1) ws) p) (sym q)
-
-  -- a partition that is not among them is appended
-  pub one_written : (parts : List PartId) (p : PartId) (b : Bool) → (is_among parts p || is_written (part_of map) (drop i ws) p) ≡ b
-      → (is_among (parts ++ part ∷ []) p || is_written (part_of map) (drop (i + 1) ws) p) ≡ b
-  one_written parts p b h =
-      ap (λ a. a || is_written (part_of map) (drop (i + 1) ws) p) (among_more parts part p) ∙ or_assoc (is_among parts p) (same_part part p) _ ∙ ap (λ a. is_among parts p || a) (sym (rest p)) ∙ h
-
-  -- one that is among them is not
-  pub none_written : (parts : List PartId) (p : PartId) (b : Bool) → is_among parts part ≡ true → (is_among parts p || is_written (part_of map) (drop i ws) p) ≡ b
-      → (is_among parts p || is_written (part_of map) (drop (i + 1) ws) p) ≡ b
-  none_written parts p b e h =
-      ap (λ a. a || is_written (part_of map) (drop (i + 1) ws) p) (sym (among_same parts part p e)) ∙ or_assoc (is_among parts p) (same_part part p) _ ∙ ap (λ a. is_among parts p || a) (sym (rest p)) ∙ h

@@ -55,10 +55,6 @@ waits_gated here snap turn by g = rw (g.shut, g.least, g.named) refl
 pub same_waits : (node : NodeId) (s t : Snap) (by : TxId) → s ≡ t → GateWaits node s by → GateWaits node t by
 same_waits node s t by e g = rw (← e) g
 
--- the same at an equal node
-pub waits_at : (n m : NodeId) (s : Snap) (by : TxId) → n ≡ m → GateWaits m s by → GateWaits n s by
-waits_at n m s by e g = rw e g
-
 -- a reply at the node of a view
 pub reply_at : (here : Here) (node : NodeId) (snap raised : Snap) (value : Value) (by : Option TxId) (fc : ℕ) → here.node ≡ node → raised ≡ accept_final snap fc
     → gated_at node raised (Plain value by fc raised) ≡ reply_turn here snap value by fc
