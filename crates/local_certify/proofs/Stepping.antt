@@ -5,6 +5,7 @@ use Rattle.dependency_set.specs.Snapshots.{Snap}
 use Rattle.local_certify.specs.Judging.{after, join_one, judged, judged_all}
 use Rattle.snapshot_read.proofs.Finding.{each_of}
 use Rattle.snapshot_read.specs.Shown.{AreTold, IsTold, OthersNamed, of_key, taken_over, told}
+use Rattle.str_base.proofs.Tests.{or_false_right}
 use Rattle.str_base.specs.declared.names.KeyId.{KeyId}
 use Rattle.str_base.specs.declared.names.Kind.{Kind}
 use Rattle.str_base.specs.declared.names.Kind.TheVariants.{Final, Local, Pre}
@@ -17,10 +18,6 @@ use Rattle.version_chain.specs.ChainLists.{Each}
 use Rattle.version_chain.specs.Walks.{IsSettled}
 
 -- ---- versions of a key
-
-second_false : (p q : Bool) → (p || q) ≡ false → q ≡ false
-second_false true q e = absurd (cc e)
-second_false false q e = e
 
 -- a settled version is no conflict, and brings nothing
 settled_one : (own : List OwnSnap) (rs : ℕ) (v : Version) (snap : Snap) → IsSettled rs v → (conflicts rs v ≡ false) × (join_one own v v.kind snap ≡ snap)
@@ -63,7 +60,7 @@ pub told_of : (own : List OwnSnap) (rs : ℕ) (v : Version) (xs ys : List Versio
     → OthersNamed own v.tx.seq
 told_of own rs v xs ys a e c l =
     let t = subst (λ zs. Each (IsTold own rs) zs) e a in
-    t.0.others l (ltb-false rs v.ts.0 (second_false (is_pre v.kind) (nat_lt rs v.ts.0) c))
+    t.0.others l (ltb-false rs v.ts.0 (or_false_right (is_pre v.kind) (nat_lt rs v.ts.0) c))
 
 -- and of those after it
 pub told_later : (own : List OwnSnap) (rs : ℕ) (v : Version) (xs ys : List Version) → Each (IsTold own rs) xs → xs ≡ v ∷ ys → Each (IsTold own rs) ys
