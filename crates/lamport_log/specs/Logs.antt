@@ -31,18 +31,18 @@ abbrev pub items : Log → List Item
 items l = cut l.node l.entries l.messages l.released
 
 -- all messages of these entries
-abbrev pub letters : List Item → List Message
-letters its = flat_map (λ it. it.sent) its
+abbrev pub messages_in : List Item → List Message
+messages_in its = flat_map (λ it. it.sent) its
 
 -- all answers of these entries
-abbrev pub replies : List Item → List Answer
-replies its = flat_map (λ it. it.released) its
+abbrev pub answers_in : List Item → List Answer
+answers_in its = flat_map (λ it. it.released) its
 
 -- the message with a number in a log, where there is such a log
-abbrev pub letter_in : Option Log → ℕ → Option Message
-letter_in None k = None
-letter_in (Some l) k = nth l.messages k
+abbrev pub message_in : Option Log → ℕ → Option Message
+message_in None k = None
+message_in (Some l) k = nth l.messages k
 
 -- the message of a node with a number, counted from 1
-abbrev pub letter_of : List Log → NodeId → ℕ → Option Message
-letter_of logs n k = letter_in (nth logs n.0) k
+abbrev pub message_of : List Log → NodeId → ℕ → Option Message
+message_of logs n k = message_in (nth logs n.0) k
