@@ -1,17 +1,25 @@
 -- Logs of nodes as plain lists, and their entries with the messages and answers that are theirs.
-use Rattle.std.specs.Prelude.{List, None, Option, Some, [], drop, flat_map, take, ℕ, ◌∷◌}
+use Rattle.std.specs.Prelude.{List, None, Option, Some, [], drop, flat_map, take, ℕ, ◌∷◌, ◌≡◌}
 use Rattle.lamport_log.specs.declared.logs.LogEntry.{LogEntry}
 use Rattle.str_base.specs.declared.names.NodeId.{NodeId}
 use Rattle.str_model.specs.declared.messages.Answer.{Answer}
 use Rattle.str_model.specs.declared.messages.Message.{Message}
 use Rattle.str_scene.specs.Scenes.{nth}
 
--- the log of a node: its entries, and all messages and answers of its steps
+-- the log of a node: its entries, all messages and answers of its steps, and how many more of each take no memory
 pub record Log : Type 0 where
   pub node : NodeId
   pub entries : List LogEntry
   pub messages : List Message
   pub released : List Answer
+  pub space : ℕ
+
+-- the logs differ in their space alone
+pub record IsSameLog (old new : Log) : Type 0 where
+  pub node : new.node ≡ old.node
+  pub entries : new.entries ≡ old.entries
+  pub messages : new.messages ≡ old.messages
+  pub released : new.released ≡ old.released
 
 -- an entry with its node, and with the messages and answers of its step
 pub record Item : Type 0 where

@@ -74,7 +74,7 @@ sent_to_more n i (m ∷ ms) more =
 
 -- a log with one entry more, with the messages and answers of its step
 abbrev pub grown : Log → LogEntry → List Message → List Answer → Log
-grown l e ms rs = record { node = l.node; entries = l.entries ++ e ∷ []; messages = l.messages ++ ms; released = l.released ++ rs }
+grown l e ms rs = record { node = l.node; entries = l.entries ++ e ∷ []; messages = l.messages ++ ms; released = l.released ++ rs; space = l.space }
 
 -- the counts of these entries come to the lists
 abbrev pub Exact : List LogEntry → List Message → List Answer → Type 0

@@ -65,6 +65,7 @@ first =
           record { stamp = 5; input = ClientEntry (record { 0 = 1 }) 0; idle = false; sent = 0; answers = 1 } ∷ [];
       messages = request ∷ [];
       released = answer ∷ [];
+      space = 0;
     }
 
 abbrev pub second : Log
@@ -74,6 +75,7 @@ second =
       entries = record { stamp = 3; input = Taken (record { 0 = 1 }) 1; idle = false; sent = 1; answers = 0 } ∷ [];
       messages = reply ∷ [];
       released = [];
+      space = 0;
     }
 
 abbrev pub logs : List Log
