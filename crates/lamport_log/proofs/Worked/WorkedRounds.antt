@@ -1,8 +1,8 @@
 -- The logs of the two nodes are four rounds: a begin, a read, a round of waiting, and the reply with the commit.
-use Rattle.std.proofs.Common.{List, None, Some, [], arith, false, inl, inr, length, min, refl, slice_get, subst, suc, take, true, zero, ℕ, ◌++◌, ◌∷◌, ◌≡◌, ◌≤◌}
+use Rattle.std.proofs.Common.{List, Some, [], arith, false, inl, inr, length, min, refl, slice_get, subst, suc, take, zero, ℕ, ◌∷◌, ◌≡◌, ◌≤◌}
 use Rattle.lamport_log.proofs.Worked.WorkedLogs.{answer, at, both, first, logs, reply, request, scene, second, then_}
-use Rattle.lamport_log.specs.Logs.{Item, Log, items}
-use Rattle.lamport_log.specs.Replays.{Says, StepsLead, came}
+use Rattle.lamport_log.specs.Logs.{Item}
+use Rattle.lamport_log.specs.Replays.{Says, came}
 use Rattle.lamport_log.specs.Rounds.{AreRounds, IsRound, Piece, Rounds, from_node, is_from, waiting}
 use Rattle.lamport_log.specs.declared.logs.LogInput.TheVariants.{Client as ClientEntry, Taken}
 use Rattle.str_base.proofs.Lists.{length-filter-le}
