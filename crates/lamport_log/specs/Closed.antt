@@ -38,7 +38,7 @@ abbrev pub stamp_in : Option Log → ℕ → Option ℕ
 stamp_in None k = None
 stamp_in (Some l) k = sent_under l.entries k
 
--- a stamp is one more than the stamp before it, and than the stamp under which the message that is taken was sent
+-- a stamp is one more than the stamp before it; where a message is taken, one more than the greater of the stamp before it and the stamp under which the taken message was sent
 abbrev pub IsStamp : List Log → ℕ → LogInput → ℕ → Type 0
 IsStamp logs before (Client s t) stamp = stamp ≡ before + 1
 IsStamp logs before (Taken n k) stamp = (sent : ℕ) × (stamp_in (nth logs n.0) k ≡ Some sent) × (stamp ≡ max before sent + 1)
@@ -53,6 +53,7 @@ abbrev pub IsOfOther : NodeId → LogInput → Type 0
 IsOfOther n (Client s t) = Unit {0}
 IsOfOther n (Taken m k) = m ≢ n
 
+-- what is taken is another node's and comes in the order in which it was sent, without a gap and once; the stamps are Lamport's, from 1
 pub record Closed (logs : List Log) : Type 0 where
   pub others : (n : NodeId) (log : Log) (i : ℕ) (e : LogEntry) → nth logs n.0 ≡ Some log → nth log.entries i ≡ Some e → IsOfOther n e.input
   pub orders : (n m : NodeId) (log from : Log) → nth logs n.0 ≡ Some log → nth logs m.0 ≡ Some from

@@ -1,17 +1,25 @@
 -- Logs of nodes as plain lists, and their entries with the messages and answers that are theirs.
-use Rattle.std.specs.Prelude.{List, None, Option, Some, [], drop, flat_map, take, ℕ, ◌∷◌}
+use Rattle.std.specs.Prelude.{List, None, Option, Some, [], drop, flat_map, take, ℕ, ◌∷◌, ◌≡◌}
 use Rattle.lamport_log.specs.declared.logs.LogEntry.{LogEntry}
 use Rattle.str_base.specs.declared.names.NodeId.{NodeId}
 use Rattle.str_model.specs.declared.messages.Answer.{Answer}
 use Rattle.str_model.specs.declared.messages.Message.{Message}
 use Rattle.str_scene.specs.Scenes.{nth}
 
--- the log of a node: its entries, and all messages and answers of its steps
+-- the log of a node: its entries, all messages and answers of its steps, and how many more of each take no memory
 pub record Log : Type 0 where
   pub node : NodeId
   pub entries : List LogEntry
   pub messages : List Message
   pub released : List Answer
+  pub space : ℕ
+
+-- the logs differ in their space alone
+pub record IsSameLog (old new : Log) : Type 0 where
+  pub node : new.node ≡ old.node
+  pub entries : new.entries ≡ old.entries
+  pub messages : new.messages ≡ old.messages
+  pub released : new.released ≡ old.released
 
 -- an entry with its node, and with the messages and answers of its step
 pub record Item : Type 0 where
@@ -31,18 +39,18 @@ abbrev pub items : Log → List Item
 items l = cut l.node l.entries l.messages l.released
 
 -- all messages of these entries
-abbrev pub letters : List Item → List Message
-letters its = flat_map (λ it. it.sent) its
+abbrev pub messages_in : List Item → List Message
+messages_in its = flat_map (λ it. it.sent) its
 
 -- all answers of these entries
-abbrev pub replies : List Item → List Answer
-replies its = flat_map (λ it. it.released) its
+abbrev pub answers_in : List Item → List Answer
+answers_in its = flat_map (λ it. it.released) its
 
 -- the message with a number in a log, where there is such a log
-abbrev pub letter_in : Option Log → ℕ → Option Message
-letter_in None k = None
-letter_in (Some l) k = nth l.messages k
+abbrev pub message_in : Option Log → ℕ → Option Message
+message_in None k = None
+message_in (Some l) k = nth l.messages k
 
 -- the message of a node with a number, counted from 1
-abbrev pub letter_of : List Log → NodeId → ℕ → Option Message
-letter_of logs n k = letter_in (nth logs n.0) k
+abbrev pub message_of : List Log → NodeId → ℕ → Option Message
+message_of logs n k = message_in (nth logs n.0) k

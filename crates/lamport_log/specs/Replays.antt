@@ -1,6 +1,6 @@
 -- A log replays: its entries are the steps of its node, one after the other, from the opening view.
 use Rattle.std.specs.Prelude.{Bool, List, None, Option, Some, [], false, length, option_map, true, ◌∷◌, ◌≡◌}
-use Rattle.lamport_log.specs.Logs.{Item, Log, items, letter_of, letters, replies}
+use Rattle.lamport_log.specs.Logs.{Item, Log, items, message_of, messages_in, answers_in}
 use Rattle.lamport_log.specs.declared.logs.LogInput.{LogInput}
 use Rattle.lamport_log.specs.declared.logs.LogInput.TheVariants.{Client as ClientEntry, Taken}
 use Rattle.str_base.specs.declared.names.NodeId.{NodeId}
@@ -16,7 +16,7 @@ use Rattle.str_scene.specs.Scenes.{Here, Scene, nth}
 -- what a node steps on by an entry; nothing where the message that it names is missing
 abbrev pub input_of : List Log → LogInput → Option Input
 input_of logs (ClientEntry s t) = Some (Client s t)
-input_of logs (Taken n k) = option_map (λ m. Deliver m) (letter_of logs n k)
+input_of logs (Taken n k) = option_map (λ m. Deliver m) (message_of logs n k)
 
 -- what a step at a view came to
 pub record Came : Type 0 where
@@ -45,17 +45,17 @@ pub record Says (it : Item) (c : Came) : Type 0 where
   pub answers : it.entry.answers ≡ length c.released
 
 -- from the first view the steps of these entries lead to the last one
-abbrev pub Leads : Here → List Log → View → List Item → View → Type 0
-Leads here logs v [] u = v ≡ u
-Leads here logs v (it ∷ its) u =
+abbrev pub StepsLead : Here → List Log → View → List Item → View → Type 0
+StepsLead here logs v [] u = v ≡ u
+StepsLead here logs v (it ∷ its) u =
     (input : Input) × (input_of logs it.entry.input ≡ Some input) × (Says it (came v (step here input v)))
-    × (Leads here logs (came v (step here input v)).view its u)
+    × (StepsLead here logs (came v (step here input v)).view its u)
 
 -- the log of a node of the scene replays to the view, and has no message and no answer of no entry
 pub record Replays (scene : Scene) (logs : List Log) (log : Log) (view : View) : Type 0 where
-  pub steps : Leads (record { scene = scene; node = log.node }) logs (opening_view scene) (items log) view
-  pub messages : letters (items log) ≡ log.messages
-  pub released : replies (items log) ≡ log.released
+  pub steps : StepsLead (record { scene = scene; node = log.node }) logs (opening_view scene) (items log) view
+  pub messages : messages_in (items log) ≡ log.messages
+  pub released : answers_in (items log) ≡ log.released
 
 -- there is one log for each node of the scene, in order of node
 abbrev pub AreLogs : Scene → List Log → Type 0

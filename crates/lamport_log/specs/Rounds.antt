@@ -1,8 +1,8 @@
 -- Logs are rounds: each is so many pieces, first what is taken, then a client step of each session that can make one.
 use Rattle.std.specs.List.{range_with_len}
-use Rattle.std.specs.Prelude.{Bool, List, Some, [], false, filter, flat_map, length, map, min, slice_get, take, ℕ, ◌++◌, ◌-◌, ◌∷◌, ◌≡◌, ◌≤◌, ◌⊎◌}
-use Rattle.lamport_log.specs.Logs.{Item, Log, items, letters}
-use Rattle.lamport_log.specs.Replays.{Leads, came}
+use Rattle.std.specs.Prelude.{Bool, List, Some, [], false, filter, flat_map, length, map, min, slice_get, take, true, ℕ, ◌++◌, ◌-◌, ◌∷◌, ◌≡◌, ◌≤◌, ◌⊎◌}
+use Rattle.lamport_log.specs.Logs.{Item, Log, items, messages_in}
+use Rattle.lamport_log.specs.Replays.{StepsLead, came}
 use Rattle.lamport_log.specs.declared.logs.LogInput.{LogInput}
 use Rattle.lamport_log.specs.declared.logs.LogInput.TheVariants.{Client as ClientEntry, Taken}
 use Rattle.str_base.specs.Versions.{same_node}
@@ -36,7 +36,7 @@ from_node n its = filter (λ it. is_from n it.entry.input) its
 
 -- the messages to the node
 abbrev pub to_node : NodeId → List Item → List Message
-to_node n its = filter (λ m. same_node m.receiver n) (letters its)
+to_node n its = filter (λ m. same_node m.receiver n) (messages_in its)
 
 -- the nodes of a scene, upwards
 abbrev pub nodes_of : Scene → List NodeId
@@ -46,16 +46,16 @@ nodes_of scene = map (λ n. record { 0 = n }) (range_with_len 1 scene.nodes)
 abbrev pub sessions_of : Scene → List SessionId
 sessions_of scene = map (λ s. record { 0 = s }) (range_with_len 1 (length scene.sessions))
 
--- for each of these sessions in turn an entry where its client step isn't idle, and no entry more
-abbrev pub Moves : Here → View → List SessionId → List Item → Type 0
-Moves here v [] its = its ≡ []
-Moves here v (s ∷ ss) its =
-    ((view_moves here s (Some v) ≡ false) × Moves here v ss its)
-    ⊎ ((it : Item) × (rest : List Item) × (t : ℕ) × (its ≡ it ∷ rest) × (it.entry.input ≡ ClientEntry s t) × (Moves here (came v (step here (Client s t) v)).view ss rest))
+-- these are the client steps of these sessions in turn: one of each whose step isn't idle at its turn, and none of another
+abbrev pub SessionsMove : Here → View → List SessionId → List Item → Type 0
+SessionsMove here v [] its = its ≡ []
+SessionsMove here v (s ∷ ss) its =
+    ((view_moves here s (Some v) ≡ false) × SessionsMove here v ss its)
+    ⊎ ((view_moves here s (Some v) ≡ true) × (it : Item) × (rest : List Item) × (t : ℕ) × (its ≡ it ∷ rest) × (it.entry.input ≡ ClientEntry s t) × (SessionsMove here (came v (step here (Client s t) v)).view ss rest))
 
--- how many messages of the node lay before this one, sent and not taken in the rounds before
+-- how many messages to this node the sender sent by its pieces and this node didn't take by its own
 abbrev pub waiting : NodeId → List Piece → NodeId → List Piece → ℕ
-waiting here mine n theirs = length (to_node here (entries_of theirs)) - length (from_node n (entries_of mine))
+waiting here mine sender theirs = length (to_node here (entries_of theirs)) - length (from_node sender (entries_of mine))
 
 -- a round of a node: before it the node did the first pieces
 pub record IsRound (scene : Scene) (logs : List Log) (pieces : List (List Piece)) (r : ℕ) (here : NodeId) (before : List Piece) (p : Piece) : Type 0 where
@@ -64,8 +64,8 @@ pub record IsRound (scene : Scene) (logs : List Log) (pieces : List (List Piece)
   pub least : (n : NodeId) (theirs : List Piece) → nth pieces n.0 ≡ Some theirs
       → min 8 (waiting here before n (take r theirs)) ≤ length (from_node n p.taken)
   pub view : View
-  pub leads : Leads (record { scene = scene; node = here }) logs (opening_view scene) (entries_of before ++ p.taken) view
-  pub moves : Moves (record { scene = scene; node = here }) view (sessions_of scene) p.moved
+  pub reached : StepsLead (record { scene = scene; node = here }) logs (opening_view scene) (entries_of before ++ p.taken) view
+  pub clients : SessionsMove (record { scene = scene; node = here }) view (sessions_of scene) p.moved
 
 -- the pieces of a log
 pub record AreRounds (scene : Scene) (logs : List Log) (pieces : List (List Piece)) (number : ℕ) (here : NodeId) (log : Log) (ps : List Piece) : Type 0 where

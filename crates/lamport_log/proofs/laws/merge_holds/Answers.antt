@@ -1,5 +1,5 @@
 use Rattle.lamport_log.proofs.laws.merge_holds.Goals as goal
-use Rattle.lamport_log.proofs.MergeLaw.{merge_holds}
+use Rattle.lamport_log.proofs.MergeRuns.MergeHolds.{merge_holds}
 
 pub returns : goal.returns
 returns c = merge_holds

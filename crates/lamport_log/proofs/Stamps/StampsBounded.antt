@@ -1,11 +1,11 @@
 -- In closed logs the i-th entry of the merge has a stamp of at most i.
 use Rattle.std.proofs.Common.{List, None, Option, Some, [], ap, arith, flat_map, inl, inr, lt_of_not-le, refl, slice_get, subst, suc, sym, zero, ℕ, ◌<◌, ◌∙◌, ◌∷◌, ◌≡◌, ◌≤◌}
-use Rattle.lamport_log.proofs.Lists.{nth_get, nth_within}
-use Rattle.lamport_log.proofs.Ordered.{Rising, entries_cut, in_order_in}
-use Rattle.lamport_log.proofs.Sending.{IsStamped, entry_in, in_merged, merged_rising, stamped_in, under_in}
+use Rattle.lamport_log.proofs.NodeLogs.EntryPlaces.{nth_get, nth_within}
+use Rattle.lamport_log.proofs.Stamps.StampOrder.{Rising, entries_cut, in_order_in}
+use Rattle.lamport_log.proofs.MergeRuns.TakenSent.{IsStamped, entry_in, in_merged, merged_rising, stamped_in, under_in}
 use Rattle.lamport_log.specs.Closed.{Closed, IsStamp, stamp_in}
 use Rattle.lamport_log.specs.Logs.{Item, Log, items}
-use Rattle.lamport_log.specs.Merge.{StampsBounded, merged}
+use Rattle.lamport_log.specs.Merge.{StampsBounded, merge_of}
 use Rattle.lamport_log.specs.declared.logs.LogEntry.{LogEntry}
 use Rattle.lamport_log.specs.declared.logs.LogInput.{LogInput}
 use Rattle.lamport_log.specs.declared.logs.LogInput.TheVariants.{Client, Taken}
@@ -45,15 +45,15 @@ flat_map_in f (z ∷ xs) x y (inl e) k = in_left (f z) (flat_map f xs) y (subst 
 flat_map_in f (z ∷ xs) x y (inr h) k = in_right (f z) (flat_map f xs) y (flat_map_in f xs x y h k)
 
 -- an entry of a log stands in the merge
-entry_merged : (logs : List Log) (n : NodeId) (log : Log) (e : LogEntry) → nth logs n.0 ≡ Some log → In e log.entries → HasStamp (merged logs) e.stamp
-unfolding merged
+entry_merged : (logs : List Log) (n : NodeId) (log : Log) (e : LogEntry) → nth logs n.0 ≡ Some log → In e log.entries → HasStamp (merge_of logs) e.stamp
+unfolding merge_of
 entry_merged logs n log e q k =
     let p = nth_get logs n.0 log q in
     let r = in_map (λ (y : Item). y.entry) (items log) e (subst (λ es. In e es) (sym (entries_cut log.node log.entries log.messages log.released)) k) in
     (r.0, in_order_in (flat_map items logs) r.0 (flat_map_in items logs log r.0 (in_at logs p.0 log p.1) r.1), ap (λ (z : LogEntry). z.stamp) r.2)
 
 -- of each stamp above 1 there is one before it
-before_it : (logs : List Log) → Closed logs → (y : Item) (s : ℕ) → In y (merged logs) → y.entry.stamp ≡ suc (suc s) → HasStamp (merged logs) (suc s)
+before_it : (logs : List Log) → Closed logs → (y : Item) (s : ℕ) → In y (merge_of logs) → y.entry.stamp ≡ suc (suc s) → HasStamp (merge_of logs) (suc s)
 before_it logs closed y s h e =
     let r = in_flat_map items logs y (in_merged logs y h) in
     let g = at_in logs r.0 r.1 in
@@ -61,21 +61,21 @@ before_it logs closed y s h e =
     let st = stamped_in logs 0 r.0.entries y.entry (closed.stamps n r.0 g.1) (entry_in r.0 y r.2) in
     by_input n r.0 g.1 st y.entry.input st.stamp
   where
-    own : (n : NodeId) (log : Log) → nth logs n.0 ≡ Some log → (st : IsStamped logs 0 log.entries y.entry) → st.before ≡ suc s → HasStamp (merged logs) (suc s)
+    own : (n : NodeId) (log : Log) → nth logs n.0 ≡ Some log → (st : IsStamped logs 0 log.entries y.entry) → st.before ≡ suc s → HasStamp (merge_of logs) (suc s)
     own n log q st same =
         elim st.from [
           | inl z ↦ absurd (omega (arith, z, same))
           | inr f ↦ (let r = entry_merged logs n log f.0 q f.1 in (r.0, r.1, r.2 ∙ f.2 ∙ same))
         ]
 
-    other : (n : NodeId) (k : ℕ) (o : Option Log) → nth logs n.0 ≡ o → stamp_in o k ≡ Some (suc s) → HasStamp (merged logs) (suc s)
+    other : (n : NodeId) (k : ℕ) (o : Option Log) → nth logs n.0 ≡ o → stamp_in o k ≡ Some (suc s) → HasStamp (merge_of logs) (suc s)
     other n k None q u = absurd cc
     other n k (Some from) q u =
         let f = under_in from.entries k (suc s) u in
         let r = entry_merged logs n from f.0 q f.1 in
         (r.0, r.1, r.2 ∙ f.2)
 
-    by_input : (n : NodeId) (log : Log) → nth logs n.0 ≡ Some log → (st : IsStamped logs 0 log.entries y.entry) → (x : LogInput) → IsStamp logs st.before x y.entry.stamp → HasStamp (merged logs) (suc s)
+    by_input : (n : NodeId) (log : Log) → nth logs n.0 ≡ Some log → (st : IsStamped logs 0 log.entries y.entry) → (x : LogInput) → IsStamp logs st.before x y.entry.stamp → HasStamp (merge_of logs) (suc s)
     by_input n log q st (Client t r) is = own n log q st (omega (arith, is, e))
     by_input n log q st (Taken m k) is =
         elim (cases_eq st.before (suc s)) [
@@ -87,4 +87,4 @@ before_it logs closed y s h e =
         ]
 
 pub stamps_bounded : StampsBounded
-stamps_bounded logs closed i it q = bounded (merged logs) (merged_rising logs) (before_it logs closed) it.entry.stamp i it q refl
+stamps_bounded logs closed i it q = bounded (merge_of logs) (merged_rising logs) (before_it logs closed) it.entry.stamp i it q refl

@@ -1,7 +1,7 @@
 use Rattle.std.proofs.Common.{[], ap, append_assoc, sym, ◌++◌, ◌+◌, ◌∙◌, ◌∷◌}
 use Rattle.std.specs.List.{range_with_len}
-use Rattle.lamport_log.proofs.Numbers.{range_more}
-use Rattle.lamport_log.proofs.places.append_numbers.Goals as goal
+use Rattle.lamport_log.proofs.Renumbering.NodeNumbers.{range_more}
+use Rattle.lamport_log.proofs.cursors.append_numbers.Goals as goal
 
 pub loop-i-preserved : goal.loop-i-preserved
 loop-i-preserved c =

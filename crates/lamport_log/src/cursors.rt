@@ -9,27 +9,27 @@ use std::marker::Model;
 
 /// How many of a log's entries, messages and answers are merged, and the new numbers of these messages.
 #[derive(Drop)]
-pub(crate) struct Place {
+pub(crate) struct Cursor {
     entry: usize,
     message: usize,
     answer: usize,
     numbers: Vec<u64>,
 }
 
-impl Model for Place {
-    ghost use Rattle.lamport_log.specs.Merging.{Spot};
+impl Model for Cursor {
+    ghost use Rattle.lamport_log.specs.Merging.{Cursor};
 
-    ghost Value = { Spot };
+    ghost Value = { Cursor };
 
-    ghost view = { λ p. record { entry = p.entry; message = p.message; answer = p.answer; numbers = p.numbers.items } };
+    ghost view = { λ c. record { entry = c.entry; message = c.message; answer = c.answer; numbers = c.numbers.items } };
 }
 
-impl Place {
+impl Cursor {
     /// The beginning of a log.
-    pub fn new(alloc: Global) -> Place
+    pub fn new(alloc: Global) -> Cursor
         ensures { result ≡ record { entry = 0; message = 0; answer = 0; numbers = [] } }
     {
-        Place {
+        Cursor {
             entry: 0,
             message: 0,
             answer: 0,
@@ -66,7 +66,7 @@ impl Place {
         self.numbers[number as usize - 1]
     }
 
-    /// One entry more is merged: its messages, with the numbers from `first` on, and its answers up to these places.
+    /// One entry more is merged: its messages have the numbers from `first` on, and the first `message` messages and `answer` answers are merged.
     pub fn advance(
         &mut self,
         first: u64,

@@ -2,14 +2,14 @@
 use Rattle.std.proofs.Common.{Bool, flat_map, eq-eqb, List, None, Option, Some, [], ap, arith, eqb-true, false, if◌then◌else◌, inl, inr, leb-false, leb-true, length, map, nat_le, option_map, refl, slice_get, subst, suc, sym, true, ℕ, ◌++◌, ◌+◌, ◌-◌, ◌<◌, ◌∙◌, ◌∷◌, ◌≡◌, ◌≤◌, ◌⊎◌, add-one}
 use Rattle.std.specs.List.{cons_option}
 use Rattle.std.proofs.lemmas.List.Elements.{filter-append}
-use Rattle.lamport_log.proofs.Lists.{nth_get, nth_left}
-use Rattle.lamport_log.proofs.Numbering.{mine, past}
-use Rattle.lamport_log.proofs.Ordered.{NodesFrom, cut_ahead, entries_cut, in_in_order, Ahead, Rising, in_order_mine, in_order_rising, items_node, mine_of_all, rising_after}
-use Rattle.lamport_log.proofs.Running.{Fits, IsThere}
+use Rattle.lamport_log.proofs.NodeLogs.EntryPlaces.{nth_get, nth_left}
+use Rattle.lamport_log.proofs.Renumbering.MessageNumbers.{mine, past}
+use Rattle.lamport_log.proofs.Stamps.StampOrder.{NodesFrom, cut_ahead, entries_cut, in_in_order, Ahead, Rising, in_order_mine, in_order_rising, items_node, mine_of_all, rising_after}
+use Rattle.lamport_log.proofs.MergeRuns.EventsRun.{Fits, IsThere}
 use Rattle.lamport_log.specs.Closed.{Closed, IsStamp, Stamped, sent_to, sent_under, stamp_in, taken_from, taken_of}
-use Rattle.lamport_log.specs.Logs.{Item, Log, items, letter_in, letters}
-use Rattle.lamport_log.specs.Merge.{merged}
-use Rattle.lamport_log.specs.Replays.{AllReplay, AreLogs, Came, Leads, Replays, Says, came, input_of}
+use Rattle.lamport_log.specs.Logs.{Item, Log, items, message_in, messages_in}
+use Rattle.lamport_log.specs.Merge.{merge_of}
+use Rattle.lamport_log.specs.Replays.{AllReplay, AreLogs, Came, StepsLead, Replays, Says, came, input_of}
 use Rattle.lamport_log.specs.declared.logs.LogEntry.{LogEntry}
 use Rattle.lamport_log.specs.declared.logs.LogInput.{LogInput}
 use Rattle.lamport_log.specs.declared.logs.LogInput.TheVariants.{Client, Taken}
@@ -60,7 +60,7 @@ stamped_in logs first (x ∷ es) e h (inr k) =
 
 -- the message was sent by the first of the entries, where all others have a greater stamp
 sent_before : (xs ys : List Item) (k s : ℕ) (m : Message) → ((y : Item) → In y (xs ++ ys) → y.entry.sent ≡ length y.sent) → sent_under (map (λ y. y.entry) (xs ++ ys)) k ≡ Some s
-    → ((y : Item) → In y ys → s < y.entry.stamp) → nth (letters (xs ++ ys)) k ≡ Some m → nth (letters xs) k ≡ Some m
+    → ((y : Item) → In y ys → s < y.entry.stamp) → nth (messages_in (xs ++ ys)) k ≡ Some m → nth (messages_in xs) k ≡ Some m
 sent_before [] ys k s m count under above e =
     let r = under_in (map (λ y. y.entry) ys) k s under in
     let y = in_map (λ y. y.entry) ys r.0 r.1 in
@@ -73,29 +73,29 @@ sent_before (x ∷ xs) ys k s m count under above e =
     long : x.entry.sent ≡ length x.sent
     long = count x (inl refl)
 
-    by_size : ((j : ℕ) → sent_under (map (λ y. y.entry) (xs ++ ys)) j ≡ Some s → nth (letters (xs ++ ys)) j ≡ Some m → nth (letters xs) j ≡ Some m) → (b : Bool) → nat_le k x.entry.sent ≡ b
-        → (if b then Some x.entry.stamp else sent_under (map (λ y. y.entry) (xs ++ ys)) (k - x.entry.sent)) ≡ Some s → nth (x.sent ++ letters xs) k ≡ Some m
+    by_size : ((j : ℕ) → sent_under (map (λ y. y.entry) (xs ++ ys)) j ≡ Some s → nth (messages_in (xs ++ ys)) j ≡ Some m → nth (messages_in xs) j ≡ Some m) → (b : Bool) → nat_le k x.entry.sent ≡ b
+        → (if b then Some x.entry.stamp else sent_under (map (λ y. y.entry) (xs ++ ys)) (k - x.entry.sent)) ≡ Some s → nth (x.sent ++ messages_in xs) k ≡ Some m
     by_size rec true q g =
         let le : k ≤ length x.sent = (let l = leb-true k x.entry.sent q in omega (arith, l, long)) in
-        nth_left x.sent (letters xs) k le ∙ sym (nth_left x.sent (letters (xs ++ ys)) k le) ∙ e
+        nth_left x.sent (messages_in xs) k le ∙ sym (nth_left x.sent (messages_in (xs ++ ys)) k le) ∙ e
     by_size rec false q g =
         let less : length x.sent < k = (let l = leb-false k x.entry.sent q in omega (arith, l, long)) in
-        past x.sent (letters xs) k less
-        ∙ rec (k - length x.sent) (subst (λ n. sent_under (map (λ y. y.entry) (xs ++ ys)) (k - n) ≡ Some s) long g) (sym (past x.sent (letters (xs ++ ys)) k less) ∙ e)
+        past x.sent (messages_in xs) k less
+        ∙ rec (k - length x.sent) (subst (λ n. sent_under (map (λ y. y.entry) (xs ++ ys)) (k - n) ≡ Some s) long g) (sym (past x.sent (messages_in (xs ++ ys)) k less) ∙ e)
 
 -- an entry of a log that replays says what its step came to
-pub leads_says : (here : Here) (logs : List Log) (v : View) (its : List Item) (u : View) → Leads here logs v its u → (y : Item) → In y its → (c : Came) × (Says y c)
-leads_says here logs v [] u h y k = absurd k
-leads_says here logs v (it ∷ its) u h y (inl q) = (came v (step here h.0 v), subst (λ z. Says z (came v (step here h.0 v))) q h.2)
-leads_says here logs v (it ∷ its) u h y (inr k) = leads_says here logs (came v (step here h.0 v)).view its u h.3 y k
+pub steps_say : (here : Here) (logs : List Log) (v : View) (its : List Item) (u : View) → StepsLead here logs v its u → (y : Item) → In y its → (c : Came) × (Says y c)
+steps_say here logs v [] u h y k = absurd k
+steps_say here logs v (it ∷ its) u h y (inl q) = (came v (step here h.0 v), subst (λ z. Says z (came v (step here h.0 v))) q h.2)
+steps_say here logs v (it ∷ its) u h y (inr k) = steps_say here logs (came v (step here h.0 v)).view its u h.3 y k
 
 -- what a log that replays says of an entry
-leads_in : (here : Here) (logs : List Log) (v : View) (its : List Item) (u : View) → Leads here logs v its u → (y : Item) → In y its
+steps_in : (here : Here) (logs : List Log) (v : View) (its : List Item) (u : View) → StepsLead here logs v its u → (y : Item) → In y its
     → (input : Input) × (input_of logs y.entry.input ≡ Some input) × (y.entry.sent ≡ length y.sent)
-leads_in here logs v [] u h y k = absurd k
-leads_in here logs v (it ∷ its) u h y (inl q) =
+steps_in here logs v [] u h y k = absurd k
+steps_in here logs v (it ∷ its) u h y (inl q) =
     subst (λ (z : Item). (input : Input) × (input_of logs z.entry.input ≡ Some input) × (z.entry.sent ≡ length z.sent)) q (h.0, h.1, h.2.count ∙ ap length (sym h.2.sent))
-leads_in here logs v (it ∷ its) u h y (inr k) = leads_in here logs (came v (step here h.0 v)).view its u h.3 y k
+steps_in here logs v (it ∷ its) u h y (inr k) = steps_in here logs (came v (step here h.0 v)).view its u h.3 y k
 
 -- ---- receivers
 
@@ -132,7 +132,7 @@ pub letter_there : (logs : List Log) (n : NodeId) (k : ℕ) (input : Input) → 
     → (from : Log) × (m : Message) × (nth logs n.0 ≡ Some from) × (nth from.messages k ≡ Some m)
 letter_there logs n k input h = by_log (nth logs n.0) refl h
   where
-    by_log : (o : Option Log) → nth logs n.0 ≡ o → option_map (λ m. Deliver m) (letter_in o k) ≡ Some input → (from : Log) × (m : Message) × (nth logs n.0 ≡ Some from) × (nth from.messages k ≡ Some m)
+    by_log : (o : Option Log) → nth logs n.0 ≡ o → option_map (λ m. Deliver m) (message_in o k) ≡ Some input → (from : Log) × (m : Message) × (nth logs n.0 ≡ Some from) × (nth from.messages k ≡ Some m)
     by_log None q g = absurd cc
     by_log (Some from) q g = by_letter (nth from.messages k) refl g
       where
@@ -143,12 +143,12 @@ letter_there logs n k input h = by_log (nth logs n.0) refl h
 pub entry_in : (log : Log) (it : Item) → In it (items log) → In it.entry log.entries
 entry_in log it k = subst (λ es. In it.entry es) (entries_cut log.node log.entries log.messages log.released) (map_in (λ y. y.entry) (items log) it k)
 
-pub in_merged : (logs : List Log) (y : Item) → In y (merged logs) → In y (flat_map items logs)
-unfolding merged
+pub in_merged : (logs : List Log) (y : Item) → In y (merge_of logs) → In y (flat_map items logs)
+unfolding merge_of
 in_merged logs y h = in_in_order (flat_map items logs) y h
 
-pub merged_rising : (logs : List Log) → Rising (merged logs)
-unfolding merged
+pub merged_rising : (logs : List Log) → Rising (merge_of logs)
+unfolding merge_of
 merged_rising logs = in_order_rising (flat_map items logs)
 
 module _ (scene : Scene) (logs : List Log) (views : List View) (are : AreLogs scene logs) (replay : AllReplay scene logs views) (closed : Closed logs) where
@@ -156,8 +156,8 @@ module _ (scene : Scene) (logs : List Log) (views : List View) (are : AreLogs sc
   nodes i log q = let e = ap (λ (n : NodeId). n.0) (are.1 (record { 0 = suc i }) log q) in omega (arith, e)
 
   -- each node's entries of the merge are those of its log
-  pub mine_merged : (n : NodeId) (log : Log) → nth logs n.0 ≡ Some log → mine n (merged logs) ≡ items log
-  unfolding merged
+  pub mine_merged : (n : NodeId) (log : Log) → nth logs n.0 ≡ Some log → mine n (merge_of logs) ≡ items log
+  unfolding merge_of
   mine_merged n log q =
       let p = nth_get logs n.0 log q in
       let all : mine n (flat_map items logs) ≡ items log = subst (λ (z : NodeId). mine z (flat_map items logs) ≡ items log) (are.1 n log q) (mine_of_all 0 logs nodes p.0 log p.1) in
@@ -172,12 +172,12 @@ module _ (scene : Scene) (logs : List Log) (views : List View) (are : AreLogs sc
       let v = slice_get_there views p.0 (let w = slice_get_within logs p.0 log p.1 in omega (arith, w, replay.0)) in
       (v.0, replay.1 n log v.0 q (subst (λ k. nth views k ≡ Some v.0) (sym p.2) v.1))
 
-  there : (before : List Item) (it : Item) (rest : List Item) → before ++ it ∷ rest ≡ merged logs → (here : NodeId) (log : Log) → nth logs here.0 ≡ Some log → In it (items log)
+  there : (before : List Item) (it : Item) (rest : List Item) → before ++ it ∷ rest ≡ merge_of logs → (here : NodeId) (log : Log) → nth logs here.0 ≡ Some log → In it (items log)
       → (n : NodeId) (k : ℕ) → it.entry.input ≡ Taken n k → IsThere logs before it.node (Taken n k)
   there before it rest eq here log q k n number e =
       let rep = replays_at here log q in
       let in_log = entry_in log it k in
-      let l = leads_in (record { scene = scene; node = log.node }) logs (opening_view scene) (items log) rep.0 rep.1.steps it k in
+      let l = steps_in (record { scene = scene; node = log.node }) logs (opening_view scene) (items log) rep.0 rep.1.steps it k in
       let f = letter_there logs n number l.0 (subst (λ x. input_of logs x ≡ Some l.0) e l.1) in
       let from : Log = f.0 in
       let m : Message = f.1 in
@@ -196,12 +196,12 @@ module _ (scene : Scene) (logs : List Log) (views : List View) (are : AreLogs sc
       let same : Some sent_here.0 ≡ Some m = sym sent_here.1 ∙ ap (λ j. slice_get from.messages j) back ∙ place.1 in
       let one : sent_here.0 ≡ m = cc in (
         m,
-        ap (λ o. letter_in o number) f.2 ∙ f.3,
+        ap (λ o. message_in o number) f.2 ∙ f.3,
         sent_before (mine n before) (mine n (it ∷ rest)) number s m
-            (λ y h. (leads_in (record { scene = scene; node = from.node }) logs (opening_view scene) (items from) sender.0 sender.1.steps y (subst (λ xs. In y xs) (sym parts) h)).2)
+            (λ y h. (steps_in (record { scene = scene; node = from.node }) logs (opening_view scene) (items from) sender.0 sender.1.steps y (subst (λ xs. In y xs) (sym parts) h)).2)
             (subst (λ xs. sent_under (map (λ y. y.entry) xs) number ≡ Some s) parts (rw (entries_cut from.node from.entries from.messages from.released) sent))
             (λ y h. above y (in_filter (λ y. same_node y.node n) (it ∷ rest) y h).0 s less)
-            (subst (λ xs. nth (letters xs) number ≡ Some m) parts (rw sender.1.messages f.3)),
+            (subst (λ xs. nth (messages_in xs) number ≡ Some m) parts (rw sender.1.messages f.3)),
         ap (λ (z : Message). z.receiver) (sym one) ∙ sent_here.3 ∙ sym (items_node log it k ∙ are.1 here log q),
       )
     where
@@ -209,9 +209,9 @@ module _ (scene : Scene) (logs : List Log) (views : List View) (are : AreLogs sc
       above y (inl p) s less = subst (λ (z : Item). s < z.entry.stamp) p less
       above y (inr h) s less = let a = rising_after before it rest (subst (λ l. Rising l) (sym eq) (merged_rising logs)) y h in omega arith
 
-  pub fits : (before : List Item) (it : Item) (rest : List Item) → before ++ it ∷ rest ≡ merged logs → Fits logs (length views) before it
+  pub fits : (before : List Item) (it : Item) (rest : List Item) → before ++ it ∷ rest ≡ merge_of logs → Fits logs (length views) before it
   fits before it rest eq =
-      let h : In it (merged logs) = subst (λ l. In it l) eq (in_right before (it ∷ rest) it (inl refl)) in
+      let h : In it (merge_of logs) = subst (λ l. In it l) eq (in_right before (it ∷ rest) it (inl refl)) in
       let r = in_flat_map items logs it (in_merged logs it h) in
       let g = at_in logs r.0 r.1 in
       record {
@@ -226,9 +226,9 @@ module _ (scene : Scene) (logs : List Log) (views : List View) (are : AreLogs sc
       by_input log i q k (Taken n number) e = there before it rest eq (record { 0 = suc i }) log q k n number e
 
   -- each entry of the merge says what its step came to
-  pub says_merged : (y : Item) → In y (merged logs) → (c : Came) × (Says y c)
+  pub says_merged : (y : Item) → In y (merge_of logs) → (c : Came) × (Says y c)
   says_merged y h =
       let r = in_flat_map items logs y (in_merged logs y h) in
       let g = at_in logs r.0 r.1 in
       let rep = replays_at (record { 0 = suc g.0 }) r.0 g.1 in
-      leads_says (record { scene = scene; node = r.0.node }) logs (opening_view scene) (items r.0) rep.0 rep.1.steps y r.2
+      steps_say (record { scene = scene; node = r.0.node }) logs (opening_view scene) (items r.0) rep.0 rep.1.steps y r.2

@@ -3,8 +3,8 @@ use Rattle.std.proofs.Common.{Bool, List, None, Option, Some, [], ap, append-nil
 use Rattle.std.specs.List.{cons_option}
 use Rattle.std.proofs.lemmas.List.Concat.{flat_map-append}
 use Rattle.lamport_log.specs.Closed.{Begins, IsStamp, Stamped, sent_to, sent_under, stamp_in, taken_from, taken_of}
-use Rattle.lamport_log.specs.Logs.{Item, Log, cut, items, letter_of, letters, replies}
-use Rattle.lamport_log.specs.Replays.{Leads, Replays, Says, came, input_of}
+use Rattle.lamport_log.specs.Logs.{Item, Log, cut, items, message_of, messages_in, answers_in}
+use Rattle.lamport_log.specs.Replays.{StepsLead, Replays, Says, came, input_of}
 use Rattle.lamport_log.specs.declared.logs.LogEntry.{LogEntry}
 use Rattle.lamport_log.specs.declared.logs.LogInput.{LogInput}
 use Rattle.lamport_log.specs.declared.logs.LogInput.TheVariants.{Client, Taken}
@@ -24,7 +24,7 @@ use Rattle.str_base.proofs.Lists.{length-from_take}
 
 -- a message that was there is there
 abbrev pub Keeps : List Log → List Log → Type 0
-Keeps logs more = (n : NodeId) (k : ℕ) (m : Message) → letter_of logs n k ≡ Some m → letter_of more n k ≡ Some m
+Keeps logs more = (n : NodeId) (k : ℕ) (m : Message) → message_of logs n k ≡ Some m → message_of more n k ≡ Some m
 
 -- so is the stamp under which it was sent
 abbrev pub KeepsStamps : List Log → List Log → Type 0
@@ -32,20 +32,20 @@ KeepsStamps logs more = (n : NodeId) (k s : ℕ) → stamp_in (nth logs n.0) k �
 
 input_stays : (logs more : List Log) → Keeps logs more → (x : LogInput) (input : Input) → input_of logs x ≡ Some input → input_of more x ≡ Some input
 input_stays logs more keeps (Client s t) input e = e
-input_stays logs more keeps (Taken n k) input e = by_letter (letter_of logs n k) refl e
+input_stays logs more keeps (Taken n k) input e = by_letter (message_of logs n k) refl e
   where
-    by_letter : (o : Option Message) → letter_of logs n k ≡ o → option_map (λ m. Deliver m) o ≡ Some input → option_map (λ m. Deliver m) (letter_of more n k) ≡ Some input
+    by_letter : (o : Option Message) → message_of logs n k ≡ o → option_map (λ m. Deliver m) o ≡ Some input → option_map (λ m. Deliver m) (message_of more n k) ≡ Some input
     by_letter None q f = absurd cc
     by_letter (Some m) q f = ap (λ (o : Option Message). option_map (λ m. Deliver m) o) (keeps n k m q) ∙ f
 
-pub leads_stay : (here : Here) (logs more : List Log) → Keeps logs more → (v : View) (its : List Item) (u : View) → Leads here logs v its u → Leads here more v its u
-leads_stay here logs more keeps v [] u h = h
-leads_stay here logs more keeps v (it ∷ its) u h =
-    (h.0, input_stays logs more keeps it.entry.input h.0 h.1, h.2, leads_stay here logs more keeps (came v (step here h.0 v)).view its u h.3)
+pub steps_stay : (here : Here) (logs more : List Log) → Keeps logs more → (v : View) (its : List Item) (u : View) → StepsLead here logs v its u → StepsLead here more v its u
+steps_stay here logs more keeps v [] u h = h
+steps_stay here logs more keeps v (it ∷ its) u h =
+    (h.0, input_stays logs more keeps it.entry.input h.0 h.1, h.2, steps_stay here logs more keeps (came v (step here h.0 v)).view its u h.3)
 
 pub replays_stay : (scene : Scene) (logs more : List Log) (log : Log) (v : View) → Keeps logs more → Replays scene logs log v → Replays scene more log v
 replays_stay scene logs more log v keeps h =
-    record { steps = leads_stay (record { scene = scene; node = log.node }) logs more keeps (opening_view scene) (items log) v h.steps; messages = h.messages; released = h.released }
+    record { steps = steps_stay (record { scene = scene; node = log.node }) logs more keeps (opening_view scene) (items log) v h.steps; messages = h.messages; released = h.released }
 
 pub stamped_stays : (logs more : List Log) → KeepsStamps logs more → (before : ℕ) (es : List LogEntry) → Stamped logs before es → Stamped more before es
 stamped_stays logs more keeps before [] h = tt
@@ -74,7 +74,7 @@ sent_to_more n i (m ∷ ms) more =
 
 -- a log with one entry more, with the messages and answers of its step
 abbrev pub grown : Log → LogEntry → List Message → List Answer → Log
-grown l e ms rs = record { node = l.node; entries = l.entries ++ e ∷ []; messages = l.messages ++ ms; released = l.released ++ rs }
+grown l e ms rs = record { node = l.node; entries = l.entries ++ e ∷ []; messages = l.messages ++ ms; released = l.released ++ rs; space = l.space }
 
 -- the counts of these entries come to the lists
 abbrev pub Exact : List LogEntry → List Message → List Answer → Type 0
@@ -106,11 +106,11 @@ cut_more n (x ∷ es) ms rs e more answers h p q =
     (λ j. record { node = n; entry = x; sent = take_more x.sent ms more h.0 j; released = take_more x.answers rs answers h.1 j } ∷ cut n (es ++ e ∷ []) (drop_more x.sent ms more h.0 j) (drop_more x.answers rs answers h.1 j))
     ∙ ap (λ l. record { node = n; entry = x; sent = take x.sent ms; released = take x.answers rs } ∷ l) (cut_more n es (drop x.sent ms) (drop x.answers rs) e more answers h.2 p q)
 
-pub leads_more : (here : Here) (logs : List Log) (v : View) (its : List Item) (u : View) (it : Item) (input : Input) → Leads here logs v its u → input_of logs it.entry.input ≡ Some input
-    → Says it (came u (step here input u)) → Leads here logs v (its ++ it ∷ []) (came u (step here input u)).view
-leads_more here logs v [] u it input h e says =
-    subst (λ z. Leads here logs z (it ∷ []) (came u (step here input u)).view) (sym h) (input, e, says, refl)
-leads_more here logs v (x ∷ its) u it input h e says = (h.0, h.1, h.2, leads_more here logs (came v (step here h.0 v)).view its u it input h.3 e says)
+pub steps_more : (here : Here) (logs : List Log) (v : View) (its : List Item) (u : View) (it : Item) (input : Input) → StepsLead here logs v its u → input_of logs it.entry.input ≡ Some input
+    → Says it (came u (step here input u)) → StepsLead here logs v (its ++ it ∷ []) (came u (step here input u)).view
+steps_more here logs v [] u it input h e says =
+    subst (λ z. StepsLead here logs z (it ∷ []) (came u (step here input u)).view) (sym h) (input, e, says, refl)
+steps_more here logs v (x ∷ its) u it input h e says = (h.0, h.1, h.2, steps_more here logs (came v (step here h.0 v)).view its u it input h.3 e says)
 
 drop_after : {A : Type 0} (n : ℕ) (xs ys : List A) → n ≤ length xs → take n xs ++ ys ≡ xs → ys ≡ drop n xs
 drop_after zero xs ys h e = e
@@ -118,8 +118,8 @@ drop_after (suc n) [] ys h e = absurd (omega arith)
 drop_after (suc n) (x ∷ xs) ys h e = drop_after n xs ys (omega arith) cc
 
 -- the counts of a log that replays are exact
-exact_from : (here : Here) (logs : List Log) (v u : View) (n : NodeId) (es : List LogEntry) (ms : List Message) (rs : List Answer) → Leads here logs v (cut n es ms rs) u
-    → letters (cut n es ms rs) ≡ ms → replies (cut n es ms rs) ≡ rs → Exact es ms rs
+exact_from : (here : Here) (logs : List Log) (v u : View) (n : NodeId) (es : List LogEntry) (ms : List Message) (rs : List Answer) → StepsLead here logs v (cut n es ms rs) u
+    → messages_in (cut n es ms rs) ≡ ms → answers_in (cut n es ms rs) ≡ rs → Exact es ms rs
 exact_from here logs v u n [] ms rs h p q = (sym p, sym q)
 exact_from here logs v u n (e ∷ es) ms rs h p q =
     let sent : e.sent ≤ length ms = length-from_take e.sent ms (h.2.count ∙ ap (λ l. length l) (sym h.2.sent)) in
@@ -127,8 +127,8 @@ exact_from here logs v u n (e ∷ es) ms rs h p q =
       sent,
       answers,
       exact_from here logs (came v (step here h.0 v)).view u n es (drop e.sent ms) (drop e.answers rs) h.3
-          (drop_after e.sent ms (letters (cut n es (drop e.sent ms) (drop e.answers rs))) sent p)
-          (drop_after e.answers rs (replies (cut n es (drop e.sent ms) (drop e.answers rs))) answers q),
+          (drop_after e.sent ms (messages_in (cut n es (drop e.sent ms) (drop e.answers rs))) sent p)
+          (drop_after e.answers rs (answers_in (cut n es (drop e.sent ms) (drop e.answers rs))) answers q),
     )
 
 pub replays_more : (scene : Scene) (logs : List Log) (log : Log) (v : View) (e : LogEntry) (ms : List Message) (rs : List Answer) (input : Input) → Replays scene logs log v → input_of logs e.input ≡ Some input
@@ -136,7 +136,7 @@ pub replays_more : (scene : Scene) (logs : List Log) (log : Log) (v : View) (e :
     → Replays scene logs (grown log e ms rs) (came v (step (record { scene = scene; node = log.node }) input v)).view
 replays_more scene logs log v e ms rs input h i says =
     record {
-      steps = rw more (leads_more here logs (opening_view scene) (items log) v it input h.steps i says);
+      steps = rw more (steps_more here logs (opening_view scene) (items log) v it input h.steps i says);
       messages = rw more (flat_map-append (λ x. x.sent) (items log) (it ∷ []) ∙ (λ j. h.messages j ++ append-nil ms j));
       released = rw more (flat_map-append (λ x. x.released) (items log) (it ∷ []) ∙ (λ j. h.released j ++ append-nil rs j));
     }
