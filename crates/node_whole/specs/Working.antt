@@ -10,6 +10,7 @@ use Rattle.str_model.specs.declared.messages.Message.{Message}
 use Rattle.str_model.specs.NodeFacts.{MomentFacts, NodeFacts}
 use Rattle.str_model.specs.Strange.{has_node}
 use Rattle.str_model.specs.Views.{Doing, Own, View, is_decided}
+use Rattle.version_chain.specs.ChainLists.{IsOrdered}
 use Rattle.str_scene.specs.SceneLimits.{IsScene}
 use Rattle.str_scene.specs.Scenes.{Here, Scene}
 
@@ -27,6 +28,7 @@ pub record IsNode (here : Here) (v : View) : Type 0 where
   pub limits : IsScene here.scene
   pub exists : has_node here here.node ≡ true
   pub facts : NodeFacts here v
+  pub ordered : IsOrdered v.versions
 
 -- the place at which a node steps
 abbrev pub here_of : NodeState → Here

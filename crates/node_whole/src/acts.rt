@@ -4,7 +4,7 @@ ghost use Rattle.node_parts.specs.Phases.{phase_of};
 ghost use Rattle.node_whole.specs.Working.{Did, Fits, HasFacts, IsOpen, OwnIs, Ruled};
 ghost use Rattle.cascade_abort.specs.Fates.{turn_of as look_of};
 ghost use Rattle.dependency_set.specs.Snapshots.{Snap as ASnap};
-ghost use Rattle.std.specs.Prelude.{◌≡◌, ◌<◌, ◌≤◌, ◌+◌, ◌-◌, ◌∷◌, [], ℕ, None, Option, Some, false, length, option_map, remove, slice_get, true};
+ghost use Rattle.std.specs.Prelude.{◌≡◌, ◌<◌, ◌≤◌, ◌+◌, ◌-◌, ◌∷◌, [], ℕ, None, Option, Some, false, if◌then◌else◌, length, option_map, remove, slice_get, true};
 ghost use Rattle.str_base.specs.declared.names.Ts.{Ts as Time};
 ghost use Rattle.str_base.specs.Versions.{stamp};
 ghost use Rattle.str_model.specs.Acts.{abort_came, aborted, accepted, acked, asked, begun, certified, closed, commit_came, committed, in_phase, marked, refused, replied, requested, taken, waits, with_waiters};
@@ -131,7 +131,7 @@ impl Work {
         requires fits { Fits self.old (at_own i (closed self.old.here i) self.old.doing) }
         ensures { Did (at_own i (closed self.old.here i) self.old.doing) self.old self.new }
     {
-        let _ = (&self.site, &self.held);
+        let _ = &self.site;
         let answer = self.own.commit(i, None);
         self.out.release(answer);
     }
@@ -171,7 +171,7 @@ impl Work {
         requires { IsOpen i self.old }
         ensures { (x : Own) → slice_get self.old.doing.view.own i ≡ Some x → Ruled (option_map (λ ps. acked i ps x self.old.doing) (with_ack x.parts part node ts.0)) result self.old self.new }
     {
-        let _ = (&self.site, &self.held);
+        let _ = &self.site;
         self.own.ack(i, part, node, ts)
     }
 

@@ -8,6 +8,7 @@ ghost use Rattle.str_model.specs.Runs.{opening_view};
 ghost use Rattle.str_model.specs.Steps.{need, step};
 ghost use Rattle.str_model.specs.Strange.{has_node};
 ghost use Rattle.str_model.specs.Views.{is_decided};
+ghost use Rattle.version_chain.specs.ChainLists.{IsOrdered};
 
 use crate::work::Work;
 use node_parts::Outbox;
@@ -105,11 +106,13 @@ impl Node {
         self.work.site().scene()
     }
 
-    /// The node's number.
+    /// The node's number. What holds of its view whatever messages came: its facts, among them that every timestamp is below 2^63, and that no key has
+    /// two versions by one transaction.
     pub fn id(&self) -> NodeId
         ensures value { result ≡ self.now.id }
         ensures facts { NodeFacts (here_of self.now) self.now.view }
         ensures times { ViewBelow (2 ^ 63) self.now.view }
+        ensures apart { IsOrdered self.now.view.versions }
     {
         self.work.site().id()
     }

@@ -1,5 +1,5 @@
 //! The work of a step.
-ghost use Rattle.node_whole.specs.Working.{IsFresh};
+ghost use Rattle.node_whole.specs.Working.{HasFacts, IsFresh};
 ghost use Rattle.std.specs.Prelude.{◌≡◌, ◌<◌, ◌≤◌, ◌+◌, ◌-◌, ◌++◌, [], IfOk, MatchOption, None, OnOk, Some, length, not, slice_get, true};
 ghost use Rattle.node_parts.specs.Owning.{open_from};
 ghost use Rattle.node_parts.specs.Phases.{phase_of};
@@ -7,6 +7,8 @@ ghost use Rattle.str_model.specs.Clients.{last_index, of_session};
 ghost use Rattle.str_model.specs.Runs.{opening_view};
 ghost use Rattle.str_model.specs.Strange.{has_node, is_valid};
 ghost use Rattle.str_model.specs.Views.{Own};
+ghost use Rattle.str_scene.specs.SceneLimits.{IsScene};
+ghost use Rattle.version_chain.specs.ChainLists.{IsOrdered};
 ghost use Rattle.str_model.specs.Pass.{is_empty};
 ghost use Rattle.str_model.specs.Returns.{has_asked, own_named};
 
@@ -95,9 +97,11 @@ impl Work {
         self.out.begin(out);
     }
 
-    /// A step ends: what it has sent and released goes to the outbox.
+    /// A step ends: what it has sent and released goes to the outbox. The versions stand in order, and no key has two by one transaction.
     pub fn end_step(&mut self, out: &mut Outbox)
-        requires { (out.old.messages ≡ []) × (out.old.answers ≡ []) }
+        requires facts { HasFacts self.old }
+        requires out { (out.old.messages ≡ []) × (out.old.answers ≡ []) }
+        ensures ordered { IsOrdered self.new.doing.view.versions }
         ensures here { self.new.here ≡ self.old.here }
         ensures view { self.new.doing.view ≡ self.old.doing.view }
         ensures fresh { IsFresh self.new }
@@ -115,7 +119,9 @@ impl Work {
 
     /// The node's place in the scene.
     pub(crate) fn site(&self) -> &Site
-        ensures { result.now ≡ self.now.here }
+        ensures value { result.now ≡ self.now.here }
+        ensures exists { has_node self.now.here self.now.here.node ≡ true }
+        ensures limits { IsScene self.now.here.scene }
     {
         let _ = &self.held;
         &self.site
