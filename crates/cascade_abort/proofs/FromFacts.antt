@@ -6,12 +6,13 @@ use Rattle.str_base.specs.declared.names.Write.{Write}
 use Rattle.cascade_abort.specs.Removal.{AllWritten}
 use Rattle.partition_map.specs.Maps.{is_written}
 use Rattle.partition_map.specs.Maps
-use Rattle.str_model.specs.NodeFacts.{In, MomentFacts}
+use Rattle.str_model.specs.NodeFacts.{MomentFacts}
 use Rattle.str_model.specs.Owned.{Owns}
 use Rattle.str_model.specs.Views.{Own, View, name_of}
 use Rattle.str_scene.proofs.Mapped.{part-mapped}
 use Rattle.str_scene.specs.Scenes.{Here, map_of, part_of}
 use Rattle.str_model.proofs.ViewFacts.NodeUses.{all_written}
+use Rattle.str_base.specs.Members.{In}
 
 -- the partitions of the writes are the same by the map
 by_map : (here : Here) (ws : List Write) (p : PartId) → is_written (Maps.part_of (map_of here.scene)) ws p ≡ is_written (part_of here.scene) ws p

@@ -7,7 +7,7 @@ use Rattle.dependency_set.specs.Snapshots.{Snap}
 use Rattle.partition_map.specs.declared.rows.Asked.{Asked}
 use Rattle.str_base.specs.declared.names.PartId.{PartId}
 use Rattle.str_base.specs.Versions.{same_part}
-use Rattle.str_model.specs.Gates.{Ask, CommitAt, DepParts, GateTurn, Missing, Shut, ack_or_zero, dep_parts, gate_deps, gate_of, gate_turn, is_written, may_ask}
+use Rattle.str_model.specs.Gates.{Ask, CommitAt, DepParts, GateTurn, Missing, Shut, ack_or_zero, dep_parts, gate_deps, gate_of, gate_turn, dependency_wrote, may_ask}
 use Rattle.str_model.specs.Turns.{greatest}
 use Rattle.str_model.specs.Views.{Own, View}
 use Rattle.str_scene.specs.Scenes.{Here}
@@ -58,22 +58,22 @@ or_true : (a b : Bool) → b ≡ true → (a || b) ≡ true
 or_true true b q = refl
 or_true false b q = q
 
-written_at : (p : PartId) (vs : List DepParts) (i : ℕ) (v : DepParts) → slice_get vs i ≡ Some v → list_any (same_part p) v.parts ≡ true → is_written vs p ≡ true
+written_at : (p : PartId) (vs : List DepParts) (i : ℕ) (v : DepParts) → slice_get vs i ≡ Some v → list_any (same_part p) v.parts ≡ true → dependency_wrote vs p ≡ true
 written_at p [] i v g t = absurd cc
 written_at p (u ∷ us) zero v g t = let q : u ≡ v = cc g in rw (q, t) refl
-written_at p (u ∷ us) (suc i) v g t = or_true (list_any (same_part p) u.parts) (is_written us p) (written_at p us i v g t)
+written_at p (u ∷ us) (suc i) v g t = or_true (list_any (same_part p) u.parts) (dependency_wrote us p) (written_at p us i v g t)
 
 -- each of the first list has one in the second that wrote in the same partitions
 abbrev Meets : List DepParts → List DepParts → Type 0
 Meets ws vs = (k : ℕ) (w : DepParts) → slice_get ws k ≡ Some w → (i : ℕ) × (v : DepParts) × (slice_get vs i ≡ Some v) × ((p : PartId) → list_any (same_part p) w.parts ≡ list_any (same_part p) v.parts)
 
-written_there : (p : PartId) (ws vs : List DepParts) → Meets ws vs → is_written ws p ≡ true → is_written vs p ≡ true
+written_there : (p : PartId) (ws vs : List DepParts) → Meets ws vs → dependency_wrote ws p ≡ true → dependency_wrote vs p ≡ true
 written_there p [] vs h e = absurd (cc e)
 written_there p (w ∷ ws) vs h e = by_first (list_any (same_part p) w.parts) refl e (h 0 w refl) (written_there p ws vs (λ k u g. h (suc k) u g))
   where
-    by_first : (b : Bool) → list_any (same_part p) w.parts ≡ b → (b || is_written ws p) ≡ true
+    by_first : (b : Bool) → list_any (same_part p) w.parts ≡ b → (b || dependency_wrote ws p) ≡ true
         → (i : ℕ) × (v : DepParts) × (slice_get vs i ≡ Some v) × ((q : PartId) → list_any (same_part q) w.parts ≡ list_any (same_part q) v.parts)
-        → (is_written ws p ≡ true → is_written vs p ≡ true) → is_written vs p ≡ true
+        → (dependency_wrote ws p ≡ true → dependency_wrote vs p ≡ true) → dependency_wrote vs p ≡ true
     by_first true t q m rec = written_at p vs m.0 m.1 m.2 (sym (m.3 p) ∙ t)
     by_first false t q m rec = rec q
 
@@ -82,12 +82,12 @@ same_truth true b f g = sym (f refl)
 same_truth false true f g = g refl
 same_truth false false f g = refl
 
-written_same : (ws vs : List DepParts) → Meets ws vs → Meets vs ws → (p : PartId) → is_written ws p ≡ is_written vs p
-written_same ws vs h k p = same_truth (is_written ws p) (is_written vs p) (written_there p ws vs h) (written_there p vs ws k)
+written_same : (ws vs : List DepParts) → Meets ws vs → Meets vs ws → (p : PartId) → dependency_wrote ws p ≡ dependency_wrote vs p
+written_same ws vs h k p = same_truth (dependency_wrote ws p) (dependency_wrote vs p) (written_there p ws vs h) (written_there p vs ws k)
 
-found_same : (ws vs : List DepParts) → ((p : PartId) → is_written ws p ≡ is_written vs p) → (parts : List Asked) → find (may_ask ws) parts ≡ find (may_ask vs) parts
+found_same : (ws vs : List DepParts) → ((p : PartId) → dependency_wrote ws p ≡ dependency_wrote vs p) → (parts : List Asked) → find (may_ask ws) parts ≡ find (may_ask vs) parts
 found_same ws vs h [] = refl
-found_same ws vs h (a ∷ others) = rw (h a.part) (ap (λ r. cond (not a.asked && not (is_written vs a.part)) (Some a) r) (found_same ws vs h others))
+found_same ws vs h (a ∷ others) = rw (h a.part) (ap (λ r. cond (not a.asked && not (dependency_wrote vs a.part)) (Some a) r) (found_same ws vs h others))
 
 tells_meets : (here : Here) (own : List Own) (deps : List Dep) (wrote : List DepParts) → Tells here own deps wrote → Meets wrote (map (dep_parts here own) deps)
 tells_meets here own deps wrote t k w e = let r = t.each k w e in (r.0, dep_parts here own r.1, map_at (dep_parts here own) deps r.0 r.1 r.2, r.3.1)

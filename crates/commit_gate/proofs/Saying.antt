@@ -1,7 +1,7 @@
 -- When a gate gives each of its answers.
 use Rattle.std.proofs.Common.{Bool, List, None, Option, Some, [], ap, arith, cond, false, find, inl, inr, map, max, refl, slice_get, subst, suc, sym, true, zero, ℕ, ◌∙◌, ◌∷◌, ◌≡◌, ◌≤◌, ◌<◌, ◌⊎◌}
 use Rattle.std.specs.List.{AllByRecursion}
-use Rattle.commit_gate.specs.Answers.{IsAnswer, IsGreatest, IsLeast, IsUpwards}
+use Rattle.commit_gate.specs.Answers.{IsAcked, IsGreatest, IsLeast, IsUpwards}
 use Rattle.dependency_set.specs.declared.names.Dep.{Dep}
 use Rattle.dependency_set.specs.Snapshots.{IsRising}
 use Rattle.partition_map.specs.declared.rows.Asked.{Asked}
@@ -62,13 +62,13 @@ acked a = by_ack a.ack refl
     by_ack None e = inl (rw e refl)
     by_ack (Some t) e = inr (t, e, rw e refl)
 
-greatest_one : (parts : List Asked) → (greatest (map ack_or_zero parts) ≡ 0) ⊎ IsAnswer parts (greatest (map ack_or_zero parts))
+greatest_one : (parts : List Asked) → (greatest (map ack_or_zero parts) ≡ 0) ⊎ IsAcked parts (greatest (map ack_or_zero parts))
 greatest_one [] = inl refl
 greatest_one (a ∷ others) = by_max (greatest_one others) (acked a) (max_cases (ack_or_zero a) (greatest (map ack_or_zero others)))
   where
-    by_max : (greatest (map ack_or_zero others) ≡ 0) ⊎ IsAnswer others (greatest (map ack_or_zero others)) → (ack_or_zero a ≡ 0) ⊎ ((t : Ts) × (a.ack ≡ Some t) × (t.0 ≡ ack_or_zero a))
+    by_max : (greatest (map ack_or_zero others) ≡ 0) ⊎ IsAcked others (greatest (map ack_or_zero others)) → (ack_or_zero a ≡ 0) ⊎ ((t : Ts) × (a.ack ≡ Some t) × (t.0 ≡ ack_or_zero a))
         → (max (ack_or_zero a) (greatest (map ack_or_zero others)) ≡ ack_or_zero a) ⊎ (max (ack_or_zero a) (greatest (map ack_or_zero others)) ≡ greatest (map ack_or_zero others))
-        → (max (ack_or_zero a) (greatest (map ack_or_zero others)) ≡ 0) ⊎ IsAnswer (a ∷ others) (max (ack_or_zero a) (greatest (map ack_or_zero others)))
+        → (max (ack_or_zero a) (greatest (map ack_or_zero others)) ≡ 0) ⊎ IsAcked (a ∷ others) (max (ack_or_zero a) (greatest (map ack_or_zero others)))
     by_max r (inl z) (inl m) = inl (m ∙ z)
     by_max r (inr k) (inl m) = inr (0, a, k.0, refl, k.1, k.2 ∙ sym m)
     by_max (inl z) k (inr m) = inl (m ∙ z)
@@ -90,9 +90,9 @@ greatest_is lc parts =
       one = by_max (greatest_one parts) (max_cases lc (greatest (map ack_or_zero parts)));
     }
   where
-    by_max : (greatest (map ack_or_zero parts) ≡ 0) ⊎ IsAnswer parts (greatest (map ack_or_zero parts))
+    by_max : (greatest (map ack_or_zero parts) ≡ 0) ⊎ IsAcked parts (greatest (map ack_or_zero parts))
         → (max lc (greatest (map ack_or_zero parts)) ≡ lc) ⊎ (max lc (greatest (map ack_or_zero parts)) ≡ greatest (map ack_or_zero parts))
-        → (max lc (greatest (map ack_or_zero parts)) ≡ lc) ⊎ IsAnswer parts (max lc (greatest (map ack_or_zero parts)))
+        → (max lc (greatest (map ack_or_zero parts)) ≡ lc) ⊎ IsAcked parts (max lc (greatest (map ack_or_zero parts)))
     by_max r (inl m) = inl m
     by_max (inl z) (inr m) = inl (omega (arith, z))
     by_max (inr r) (inr m) = inr (r.0, r.1, r.2, r.3, r.4, r.5 ∙ sym m)

@@ -67,11 +67,11 @@ abbrev pub NoneMissing : List Asked → Type 0
 NoneMissing parts = find is_missing parts ≡ None
 
 -- a participant answered this
-abbrev pub IsAnswer : List Asked → ℕ → Type 0
-IsAnswer parts n = (i : ℕ) × (a : Asked) × (t : Ts) × (slice_get parts i ≡ Some a) × (a.ack ≡ Some t) × (t.0 ≡ n)
+abbrev pub IsAcked : List Asked → ℕ → Type 0
+IsAcked parts n = (i : ℕ) × (a : Asked) × (t : Ts) × (slice_get parts i ≡ Some a) × (a.ack ≡ Some t) × (t.0 ≡ n)
 
 -- the greatest of the local commit timestamp and all answers
 pub record IsGreatest (lc : ℕ) (parts : List Asked) (fc : ℕ) : Type 0 where
   pub from : lc ≤ fc
-  pub above : (n : ℕ) → IsAnswer parts n → n ≤ fc
-  pub one : (fc ≡ lc) ⊎ IsAnswer parts fc
+  pub above : (n : ℕ) → IsAcked parts n → n ≤ fc
+  pub one : (fc ≡ lc) ⊎ IsAcked parts fc

@@ -7,7 +7,7 @@ ghost use Rattle.partition_map.specs.declared.rows.Asked.{Asked as Participant};
 ghost use Rattle.std.specs.List.{list_any};
 ghost use Rattle.std.specs.Prelude.{◌≡◌, ◌↔◌, ◌≤◌, [], IsTrue, ℕ, find, map, max, slice_get};
 ghost use Rattle.str_base.specs.Versions.{same_part};
-ghost use Rattle.str_model.specs.Gates.{ack_or_zero, gate_of, gate_turn, is_written, may_ask};
+ghost use Rattle.str_model.specs.Gates.{ack_or_zero, gate_of, gate_turn, dependency_wrote, may_ask};
 ghost use Rattle.str_model.specs.Turns.{greatest};
 ghost use Rattle.str_model.specs.Views.{Own, View};
 ghost use Rattle.str_scene.specs.Scenes.{Here};
@@ -116,7 +116,7 @@ fn first_free(parts: &[Asked], wrote: &[DepParts]) -> Option<Asked>
     ensures { result ≡ find (may_ask wrote.now) parts.now }
 {
     for other in parts {
-        if !other.asked && !is_written(wrote, other.part) {
+        if !other.asked && !dependency_wrote(wrote, other.part) {
             return Some(*other);
         }
     }
@@ -124,8 +124,8 @@ fn first_free(parts: &[Asked], wrote: &[DepParts]) -> Option<Asked>
 }
 
 /// Whether one of the dependencies wrote in the partition.
-fn is_written(wrote: &[DepParts], part: PartId) -> bool
-    ensures { result ≡ is_written wrote.now part }
+fn dependency_wrote(wrote: &[DepParts], part: PartId) -> bool
+    ensures { result ≡ dependency_wrote wrote.now part }
 {
     for dep in wrote {
         if dep.wrote_in(part) {

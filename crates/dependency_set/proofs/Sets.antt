@@ -2,6 +2,7 @@
 use Rattle.std.proofs.Common.{Bool, List, [], arith, rules, tests, drop, false, if◌then◌else◌, length, ltb-true, nat_lt, refl, sub-one, suc, true, zero, ℕ, ◌-◌, ◌<◌, ◌==◌, ◌∷◌, ◌≡◌, ◌≤◌}
 use Rattle.std.specs.List.{AllByRecursion}
 use Rattle.std.specs.Prelude.{slice_index_or}
+use Rattle.str_base.specs.declared.limits.TheConstants.{DEPENDENCIES}
 use Rattle.dependency_set.specs.declared.names.Dep.{Dep}
 use Rattle.dependency_set.specs.Snapshots.{IsRising, IsSet, insert_dep, union}
 
@@ -30,15 +31,15 @@ joined-back ds es zero d p h = absurd (omega arith)
 joined-back ds es (suc i) d p h = rw sub-one (joined-at ds es i d (omega arith))
 
 -- the next one fits
-pub next-fits : (ds es items list : List Dep) (n : ℕ) (d : Dep) → length (union ds es) ≤ 15 → items ≡ ds → list ≡ union (drop n items) es → 0 < n → n ≤ length items
-    → length (insert_dep (slice_index_or items (n - 1) d) list) ≤ 15
+pub next-fits : (ds es items list : List Dep) (n : ℕ) (d : Dep) → length (union ds es) ≤ DEPENDENCIES → items ≡ ds → list ≡ union (drop n items) es → 0 < n → n ≤ length items
+    → length (insert_dep (slice_index_or items (n - 1) d) list) ≤ DEPENDENCIES
 next-fits ds es items list n d h e f p l =
     rw f
-    (let k : length (union items es) ≤ 15 = rw e h in
+    (let k : length (union items es) ≤ DEPENDENCIES = rw e h in
     omega (arith, k, joined-back items es n d p l))
 
 -- both in one fit, where they fit with one more
-pub both-fit : (d : Dep) (ds es : List Dep) → length (insert_dep d (union ds es)) ≤ 15 → length (union ds es) ≤ 15
+pub both-fit : (d : Dep) (ds es : List Dep) → length (insert_dep d (union ds es)) ≤ DEPENDENCIES → length (union ds es) ≤ DEPENDENCIES
 both-fit d ds es h = omega (arith, insert-length d (union ds es))
 
 -- ---- rising
@@ -79,6 +80,6 @@ rising-union [] es h = h
 rising-union (d ∷ ds) es h = rising-insert d (union ds es) (rising-union ds es h)
 
 -- the list that is made of both and one more is a set
-pub set-all : (d : Dep) (ds es all more : List Dep) → more ≡ insert_dep d all → all ≡ union ds es → IsSet es → length (insert_dep d (union ds es)) ≤ 15 → IsSet more
+pub set-all : (d : Dep) (ds es all more : List Dep) → more ≡ insert_dep d all → all ≡ union ds es → IsSet es → length (insert_dep d (union ds es)) ≤ DEPENDENCIES → IsSet more
 set-all d ds es all more e f is h =
     rw (e, f) (record { rising = rising-insert d (union ds es) (rising-union ds es is.rising); few = h })

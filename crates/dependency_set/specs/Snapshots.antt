@@ -2,6 +2,7 @@
 use Rattle.std.specs.List.{AllByRecursion, list_all}
 use Rattle.std.specs.Prelude.{Bool, List, None, Option, Some, [], if◌then◌else◌, length, max, nat_le, nat_lt, ℕ, ⊤, ◌<◌, ◌==◌, ◌∷◌, ◌≤◌}
 use Rattle.dependency_set.specs.declared.names.Dep.{Dep}
+use Rattle.str_base.specs.declared.limits.TheConstants.{DEPENDENCIES}
 use Rattle.str_base.specs.Versions.{stamp}
 
 -- a snapshot
@@ -18,7 +19,7 @@ IsRising (d ∷ ds) = AllByRecursion (λ e. d.seq < e.seq) ds × IsRising ds
 -- what the type of a snapshot keeps of its dependencies
 pub record IsSet (deps : List Dep) : Type 0 where
   pub rising : IsRising deps
-  pub few : length deps ≤ 15
+  pub few : length deps ≤ DEPENDENCIES
 
 -- into a list that rises by seq
 abbrev pub insert_dep : Dep → List Dep → List Dep

@@ -1,6 +1,7 @@
 //! A dependency of a transaction.
 
 use std::marker::{Send, Sync};
+use str_base::limits::NODE_SESSIONS;
 use str_base::{ShortList, Ts};
 
 /// An undecided transaction of the same node from which a transaction has read, with its snapshot timestamp.
@@ -11,7 +12,7 @@ pub struct Dep {
 }
 
 /// The dependencies of a transaction, which rise by number.
-pub type Deps = ShortList<Dep, 16>;
+pub type Deps = ShortList<Dep, NODE_SESSIONS>;
 
 fn sendable<T: Send + Sync>(_: &T) {}
 

@@ -1,6 +1,7 @@
 //! Snapshots, and how they take in what was read.
 ghost use Rattle.dependency_set.specs.Snapshots.{IsSet, accept_final, accept_local, holds, insert_dep, older, oldest, union};
 ghost use Rattle.std.specs.Prelude.{◌≡◌, ◌≤◌, length};
+ghost use Rattle.str_base.specs.declared.limits.TheConstants.{DEPENDENCIES};
 ghost use Rattle.str_base.specs.Versions.{stamp};
 
 use crate::names::{Dep, Deps};
@@ -102,7 +103,7 @@ pub fn accept_final(snap: &Snap, fc: Ts) -> Snap
 /// The snapshot after a read of what the undecided transaction with this number and snapshot wrote: it and all that
 /// it depends on are taken in.
 pub fn accept_local(snap: &Snap, seq: u32, of: &Snap) -> Snap
-    requires { length (accept_local snap.now seq of.now).deps ≤ 15 }
+    requires { length (accept_local snap.now seq of.now).deps ≤ DEPENDENCIES }
     ensures { result ≡ accept_local snap.now seq of.now }
 {
     let all = joined(&of.deps, &snap.deps);
@@ -152,7 +153,7 @@ fn older(dep: Dep, other: Option<Dep>) -> Dep
 
 /// Both lists in one that rises by number.
 fn joined(deps: &Deps, others: &Deps) -> Deps
-    requires { length (union deps.now others.now) ≤ 15 }
+    requires { length (union deps.now others.now) ≤ DEPENDENCIES }
     ensures { result ≡ union deps.now others.now }
 {
     let items = deps.as_slice();
@@ -167,7 +168,7 @@ fn joined(deps: &Deps, others: &Deps) -> Deps
 
 /// The list with one more, which rises by number. One that is there with its number stays.
 fn with_dep(dep: Dep, deps: &Deps) -> Deps
-    requires { length (insert_dep dep deps.now) ≤ 15 }
+    requires { length (insert_dep dep deps.now) ≤ DEPENDENCIES }
     ensures { result ≡ insert_dep dep deps.now }
 {
     let mut list = Deps::new();

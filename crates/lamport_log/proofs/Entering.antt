@@ -5,7 +5,6 @@ use Rattle.str_base.specs.Versions.{same_node}
 use Rattle.str_base.specs.declared.names.NodeId.{NodeId}
 use Rattle.str_base.specs.declared.names.SessionId.{SessionId}
 use Rattle.str_model.proofs.Principle.Everywhere.{at_place}
-use Rattle.str_model.proofs.Lists.ListReads.{set_got}
 use Rattle.str_model.specs.Clients.{client_rule, go_on_last, in_session, last_index, of_session}
 use Rattle.str_model.specs.Runs.{World, client_event, deliver_event, give, happens, step_at}
 use Rattle.str_model.specs.Runs
@@ -17,6 +16,7 @@ use Rattle.str_model.specs.declared.messages.Message.{Message}
 use Rattle.str_scene.specs.Scenes.{Here, Scene, Session, nth}
 use Rattle.str_scene.specs.declared.names.Event.{Event}
 use Rattle.str_scene.specs.declared.names.Event.TheVariants.{Client as ClientEvent, Deliver as DeliverEvent}
+use Rattle.str_base.proofs.Lists.{set_got}
 
 -- the cluster after what a step at the i-th node came to
 abbrev pub entered : Event → ℕ → Came → World → World

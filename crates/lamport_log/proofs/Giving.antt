@@ -11,9 +11,6 @@ use Rattle.str_scene.specs.declared.names.Event.TheVariants.{Client as ClientEve
 abbrev pub Within : List Event → ℕ → Type 0
 Within es n = (j : ℕ) → n < j → list_any (gives j) es ≡ false
 
-more_none : (es : List Event) (e : Event) (j : ℕ) → list_any (gives j) es ≡ false → gives j e ≡ false → list_any (gives j) (es ++ e ∷ []) ≡ false
-more_none es e j h g = list_any-append (gives j) es (e ∷ []) ∙ rw (h, g) refl
-
 -- whether an event gives a message, of a list to which one is added that does not
 more_same : (es : List Event) (e : Event) (j : ℕ) → gives j e ≡ false → list_any (gives j) (es ++ e ∷ []) ≡ list_any (gives j) es
 more_same [] e j g = rw g refl

@@ -18,6 +18,7 @@ use Rattle.str_model.specs.declared.messages.Input.{Input}
 use Rattle.str_model.specs.declared.messages.Input.TheVariants.{Deliver}
 use Rattle.str_model.specs.declared.messages.Message.{Message}
 use Rattle.str_scene.specs.Scenes.{Here, Scene, nth}
+use Rattle.str_base.proofs.Lists.{length-from_take}
 
 -- ---- what stays
 
@@ -111,11 +112,6 @@ leads_more here logs v [] u it input h e says =
     subst (λ z. Leads here logs z (it ∷ []) (came u (step here input u)).view) (sym h) (input, e, says, refl)
 leads_more here logs v (x ∷ its) u it input h e says = (h.0, h.1, h.2, leads_more here logs (came v (step here h.0 v)).view its u it input h.3 e says)
 
-take_within : {A : Type 0} (n : ℕ) (xs : List A) → n ≡ length (take n xs) → n ≤ length xs
-take_within zero xs h = omega arith
-take_within (suc n) [] h = absurd cc
-take_within (suc n) (x ∷ xs) h = (let k = take_within n xs cc in omega arith)
-
 drop_after : {A : Type 0} (n : ℕ) (xs ys : List A) → n ≤ length xs → take n xs ++ ys ≡ xs → ys ≡ drop n xs
 drop_after zero xs ys h e = e
 drop_after (suc n) [] ys h e = absurd (omega arith)
@@ -126,8 +122,8 @@ exact_from : (here : Here) (logs : List Log) (v u : View) (n : NodeId) (es : Lis
     → letters (cut n es ms rs) ≡ ms → replies (cut n es ms rs) ≡ rs → Exact es ms rs
 exact_from here logs v u n [] ms rs h p q = (sym p, sym q)
 exact_from here logs v u n (e ∷ es) ms rs h p q =
-    let sent : e.sent ≤ length ms = take_within e.sent ms (h.2.count ∙ ap (λ l. length l) (sym h.2.sent)) in
-    let answers : e.answers ≤ length rs = take_within e.answers rs (h.2.answers ∙ ap (λ l. length l) (sym h.2.released)) in (
+    let sent : e.sent ≤ length ms = length-from_take e.sent ms (h.2.count ∙ ap (λ l. length l) (sym h.2.sent)) in
+    let answers : e.answers ≤ length rs = length-from_take e.answers rs (h.2.answers ∙ ap (λ l. length l) (sym h.2.released)) in (
       sent,
       answers,
       exact_from here logs (came v (step here h.0 v)).view u n es (drop e.sent ms) (drop e.answers rs) h.3

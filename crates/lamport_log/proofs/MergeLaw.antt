@@ -1,7 +1,6 @@
 -- Closed logs that replay merge into the run of their events.
 use Rattle.std.proofs.Common.{List, Some, [], add-one, ap, arith, length, refl, replicate, slice_get, subst, suc, sym, ℕ, ◌<◌, ◌∙◌, ◌≡◌}
 use Rattle.std.proofs.lemmas.List.{length-replicate}
-use Rattle.lamport_log.proofs.Lists.{get_there, get_within}
 use Rattle.lamport_log.proofs.Numbering.{mine}
 use Rattle.lamport_log.proofs.Running.{node_at, runs}
 use Rattle.lamport_log.proofs.Sending.{fits, mine_merged}
@@ -11,10 +10,11 @@ use Rattle.lamport_log.specs.Merging.{CanMerge, IsMerged, IsRun, Lists}
 use Rattle.lamport_log.specs.Replays.{Leads}
 use Rattle.str_base.specs.declared.names.NodeId.{NodeId}
 use Rattle.str_model.proofs.Principle.Everywhere.{at_place}
-use Rattle.str_model.proofs.Lists.ListReads.{got_replicate}
 use Rattle.str_model.specs.Runs.{World, opening_view, run}
 use Rattle.str_model.specs.Views.{View}
 use Rattle.str_scene.specs.Scenes.{Scene}
+use Rattle.std.proofs.lemmas.Option.{slice_get_within}
+use Rattle.str_base.proofs.Lists.{got_replicate, slice_get_there}
 
 pub merge_holds : MergeHolds
 merge_holds scene logs views are replay closed =
@@ -26,9 +26,9 @@ merge_holds scene logs views are replay closed =
     go : (i : ℕ) (v : View) → slice_get (replicate scene.nodes (opening_view scene)) i ≡ Some v
         → (u : View) × (slice_get views i ≡ Some u) × (Leads (at_place scene i) logs v (mine (node_at i) (merged logs)) u)
     go i v g =
-        let within : i < length views = subst (λ n. i < n) long (get_within (replicate scene.nodes (opening_view scene)) i v g) in
-        let there = get_there views i within in
-        let log = get_there logs i (omega (arith, within, replay.0)) in
+        let within : i < length views = subst (λ n. i < n) long (slice_get_within (replicate scene.nodes (opening_view scene)) i v g) in
+        let there = slice_get_there views i within in
+        let log = slice_get_there logs i (omega (arith, within, replay.0)) in
         let at : NodeId = record { 0 = suc i } in
         let rep = replay.1 at log.0 there.0 log.1 there.1 in
         let node : log.0.node ≡ node_at i = are.1 at log.0 log.1 ∙ (λ j. record { 0 = sym (add-one i) j }) in

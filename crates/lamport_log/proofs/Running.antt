@@ -1,11 +1,11 @@
 -- Along a list of entries in which each node's entries stand in their order, and each message is sent before it is taken, the run
 -- is what the entries tell.
 use Rattle.std.proofs.Common.{List, None, Option, Some, [], ap, append-nil, append_assoc, arith, eq-eqb, length-append, ne_eqb, option_map, false, inl, inr, length, map, refl, slice_get, slice_set, subst, subst₂, sym, ℕ, ◌++◌, ◌+◌, ◌<◌, ◌∙◌, ◌∷◌, ◌≡◌, ◌≢◌}
-use Rattle.std.proofs.lemmas.List.{map-append}
+use Rattle.std.proofs.lemmas.List.{length-set, map-append}
 use Rattle.std.proofs.lemmas.List.Concat.{flat_map-append}
 use Rattle.lamport_log.proofs.Entering.{client_is, deliver_is, entered}
 use Rattle.lamport_log.proofs.Giving.{Within, given_client, given_deliver, within_client, within_deliver}
-use Rattle.lamport_log.proofs.Lists.{get_none, get_there, length_set, none_past, nth_within, same_lists}
+use Rattle.lamport_log.proofs.Lists.{nth_within}
 use Rattle.lamport_log.proofs.Numbering.{mine, number_found, number_stays}
 use Rattle.lamport_log.specs.Logs.{Item, Log, letter_of, letters, replies}
 use Rattle.lamport_log.specs.Merge.{done_of, event_of, given_by, number_of}
@@ -14,7 +14,6 @@ use Rattle.lamport_log.specs.declared.logs.LogInput.{LogInput}
 use Rattle.lamport_log.specs.declared.logs.LogInput.TheVariants.{Client as ClientEntry, Taken}
 use Rattle.str_base.specs.declared.names.NodeId.{NodeId}
 use Rattle.str_model.proofs.Principle.Everywhere.{at_place}
-use Rattle.str_model.proofs.Lists.ListReads.{got_set}
 use Rattle.str_model.specs.Runs.{World, give, happens, run_from}
 use Rattle.str_model.specs.Steps.{step}
 use Rattle.str_model.specs.Views.{View}
@@ -24,6 +23,8 @@ use Rattle.str_model.specs.declared.messages.Message.{Message}
 use Rattle.str_scene.specs.Scenes.{Scene, nth}
 use Rattle.str_scene.specs.declared.names.Event.{Event}
 use Rattle.str_scene.specs.declared.names.Event.TheVariants.{Client as ClientEvent, Deliver as DeliverEvent}
+use Rattle.std.proofs.lemmas.Option.{slice_get_past}
+use Rattle.str_base.proofs.Lists.{got_set, same_by_places, slice_get_none, slice_get_there}
 
 -- the name of the i-th node, counted from 0
 abbrev pub node_at : ℕ → NodeId
@@ -169,15 +170,15 @@ module _ (scene : Scene) (logs : List Log) (views : List View) (all : List Item)
   pub runs : (rest before : List Item) (ns : List View) → before ++ rest ≡ all → length ns ≡ length views → Go ns rest
       → Within (events_by all before) (length (letters before))
       → run_from scene (so_far all ns before) (events_by all rest) ≡ so_far all views all
-  runs [] before ns eq long go w = λ j. so_far all (same_lists ns views (λ i. at_each i (slice_get ns i) refl) j) ((sym (append-nil before) ∙ eq) j)
+  runs [] before ns eq long go w = λ j. so_far all (same_by_places ns views (λ i. at_each i (slice_get ns i) refl) j) ((sym (append-nil before) ∙ eq) j)
     where
       at_each : (i : ℕ) (o : Option View) → slice_get ns i ≡ o → slice_get ns i ≡ slice_get views i
-      at_each i None q = let far = none_past ns i q in q ∙ sym (get_none views i (omega (arith, far, long)))
+      at_each i None q = let far = slice_get_none ns i q in q ∙ sym (slice_get_past views i (omega (arith, far, long)))
       at_each i (Some v) q = let r = go i v q in q ∙ ap (λ z. Some z) r.2 ∙ sym r.1
   runs (it ∷ rest) before ns eq long go w =
       let f = fits before it rest eq in
       let i = f.place in
-      let there = get_there ns i (omega (arith, f.within, long)) in
+      let there = slice_get_there ns i (omega (arith, f.within, long)) in
       let v = there.0 in
       let r = go i v there.1 in
       let first : mine (node_at i) (it ∷ rest) ≡ it ∷ mine (node_at i) rest = rw (eq-eqb it.node.0 (i + 1) (ap (λ (n : NodeId). n.0) f.node)) refl in
@@ -185,5 +186,5 @@ module _ (scene : Scene) (logs : List Log) (views : List View) (all : List Item)
       let u = (came v (step (at_place scene i) leads.0 v)).view in
       let more = entry_more before it rest i ns v leads.0 eq f.node there.1 leads.1 leads.2 f.input w in
       ap (λ (z : World). run_from scene z (events_by all rest)) more.0
-      ∙ runs rest (before ++ it ∷ []) (slice_set ns i u) (append_assoc before (it ∷ []) rest ∙ eq) (length_set ns i u ∙ long)
+      ∙ runs rest (before ++ it ∷ []) (slice_set ns i u) (append_assoc before (it ∷ []) rest ∙ eq) (length-set ns i u ∙ long)
       (go_more ns it rest i r.0 v u f.node r.1 leads.3 go) more.1

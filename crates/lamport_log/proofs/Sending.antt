@@ -2,7 +2,7 @@
 use Rattle.std.proofs.Common.{Bool, flat_map, eq-eqb, List, None, Option, Some, [], ap, arith, eqb-true, false, if◌then◌else◌, inl, inr, leb-false, leb-true, length, map, nat_le, option_map, refl, slice_get, subst, suc, sym, true, ℕ, ◌++◌, ◌+◌, ◌-◌, ◌<◌, ◌∙◌, ◌∷◌, ◌≡◌, ◌≤◌, ◌⊎◌, add-one}
 use Rattle.std.specs.List.{cons_option}
 use Rattle.std.proofs.lemmas.List.Elements.{filter-append}
-use Rattle.lamport_log.proofs.Lists.{get_there, get_within, nth_get, nth_left}
+use Rattle.lamport_log.proofs.Lists.{nth_get, nth_left}
 use Rattle.lamport_log.proofs.Numbering.{mine, past}
 use Rattle.lamport_log.proofs.Ordered.{NodesFrom, cut_ahead, entries_cut, in_in_order, Ahead, Rising, in_order_mine, in_order_rising, items_node, mine_of_all, rising_after}
 use Rattle.lamport_log.proofs.Running.{Fits, IsThere}
@@ -15,7 +15,6 @@ use Rattle.lamport_log.specs.declared.logs.LogInput.{LogInput}
 use Rattle.lamport_log.specs.declared.logs.LogInput.TheVariants.{Client, Taken}
 use Rattle.str_base.specs.Versions.{same_node}
 use Rattle.str_base.specs.declared.names.NodeId.{NodeId}
-use Rattle.str_model.proofs.Lists.Members.{In, at_in, in_filter, in_flat_map, in_left, in_map, in_right, map_in}
 use Rattle.str_model.specs.Runs.{opening_view}
 use Rattle.str_model.specs.Steps.{step}
 use Rattle.str_model.specs.Views.{View}
@@ -23,6 +22,10 @@ use Rattle.str_model.specs.declared.messages.Input.{Input}
 use Rattle.str_model.specs.declared.messages.Input.TheVariants.{Deliver}
 use Rattle.str_model.specs.declared.messages.Message.{Message}
 use Rattle.str_scene.specs.Scenes.{Here, Scene, nth}
+use Rattle.std.proofs.lemmas.Option.{slice_get_within}
+use Rattle.str_base.proofs.Members.{at_in, in_filter, in_flat_map, in_left, in_map, in_right, map_in}
+use Rattle.str_base.proofs.Lists.{slice_get_there}
+use Rattle.str_base.specs.Members.{In}
 
 -- ---- stamps
 
@@ -166,7 +169,7 @@ module _ (scene : Scene) (logs : List Log) (views : List View) (are : AreLogs sc
   pub replays_at : (n : NodeId) (log : Log) → nth logs n.0 ≡ Some log → (view : View) × (Replays scene logs log view)
   replays_at n log q =
       let p = nth_get logs n.0 log q in
-      let v = get_there views p.0 (let w = get_within logs p.0 log p.1 in omega (arith, w, replay.0)) in
+      let v = slice_get_there views p.0 (let w = slice_get_within logs p.0 log p.1 in omega (arith, w, replay.0)) in
       (v.0, replay.1 n log v.0 q (subst (λ k. nth views k ≡ Some v.0) (sym p.2) v.1))
 
   there : (before : List Item) (it : Item) (rest : List Item) → before ++ it ∷ rest ≡ merged logs → (here : NodeId) (log : Log) → nth logs here.0 ≡ Some log → In it (items log)
@@ -213,7 +216,7 @@ module _ (scene : Scene) (logs : List Log) (views : List View) (are : AreLogs sc
       let g = at_in logs r.0 r.1 in
       record {
         place = g.0;
-        within = (let w = get_within logs g.0 r.0 g.1 in omega (arith, w, replay.0));
+        within = (let w = slice_get_within logs g.0 r.0 g.1 in omega (arith, w, replay.0));
         node = items_node r.0 it r.2 ∙ are.1 (record { 0 = suc g.0 }) r.0 g.1 ∙ (λ j. record { 0 = sym (add-one g.0) j });
         input = by_input r.0 g.0 g.1 r.2 it.entry.input refl;
       }

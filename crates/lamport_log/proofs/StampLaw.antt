@@ -10,9 +10,10 @@ use Rattle.lamport_log.specs.declared.logs.LogEntry.{LogEntry}
 use Rattle.lamport_log.specs.declared.logs.LogInput.{LogInput}
 use Rattle.lamport_log.specs.declared.logs.LogInput.TheVariants.{Client, Taken}
 use Rattle.str_base.specs.declared.names.NodeId.{NodeId}
-use Rattle.str_model.proofs.Lists.Members.{In, at_in, in_at, in_flat_map, in_left, in_map, in_right}
-use Rattle.str_model.proofs.Lists.ListReads.{same_or_not}
 use Rattle.str_scene.specs.Scenes.{nth}
+use Rattle.std.proofs.lemmas.Bool.{cases_eq}
+use Rattle.str_base.proofs.Members.{at_in, in_at, in_flat_map, in_left, in_map, in_right}
+use Rattle.str_base.specs.Members.{In}
 
 -- an entry of the list has the stamp
 abbrev pub HasStamp : List Item → ℕ → Type 0
@@ -77,7 +78,7 @@ before_it logs closed y s h e =
     by_input : (n : NodeId) (log : Log) → nth logs n.0 ≡ Some log → (st : IsStamped logs 0 log.entries y.entry) → (x : LogInput) → IsStamp logs st.before x y.entry.stamp → HasStamp (merged logs) (suc s)
     by_input n log q st (Client t r) is = own n log q st (omega (arith, is, e))
     by_input n log q st (Taken m k) is =
-        elim (same_or_not st.before (suc s)) [
+        elim (cases_eq st.before (suc s)) [
           | inl same ↦ own n log q st same
           | inr apart ↦ (
               let top = is.2 in

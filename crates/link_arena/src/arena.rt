@@ -1,5 +1,5 @@
 //! Arenas of versions.
-ghost use Rattle.std.specs.Prelude.{◌≡◌, ◌≤◌, ◌<◌, ◌+◌, ◌==◌, ℕ, [], IsSome, None, OnErr, OnOk, Some, if◌then◌else◌};
+ghost use Rattle.std.specs.Prelude.{◌≡◌, ◌≤◌, ◌<◌, ◌+◌, ◌==◌, ◌^◌, ℕ, [], IsSome, None, OnErr, OnOk, Some, length, if◌then◌else◌};
 ghost use Rattle.std.specs.List.{last_or};
 ghost use Rattle.str_base.specs.Versions.{of_tx};
 ghost use Rattle.link_arena.specs.Arenas.{AreLists, at, dated, key_list, next_of, number_of, prev_of, tx_list};
@@ -75,6 +75,14 @@ fn last_slot(ends: Option<Ends>) -> Option<Slot>
         Some(ends) => Some(Slot(ends.last)),
         None => None,
     }
+}
+
+/// How many transactions have a version.
+fn tx_count(txs: &Vec<Head<TxId>>) -> usize
+    ensures count { result ≡ length txs.now.items }
+    ensures limit { length txs.now.items < 2 ^ 63 }
+{
+    txs.as_slice().len()
 }
 
 impl Arena {
@@ -161,6 +169,7 @@ impl Arena {
         ensures at { (u : ℕ) → at self.new u ≡ (if u == slot.0 then None else at self.old u) }
         ensures key_list { (k : KeyId) → key_list self.new k ≡ (if key_names k result then taken slot.0 (key_list self.old k) else key_list self.old k) }
         ensures tx_list { (t : TxId) → tx_list self.new t ≡ (if of_tx t result then taken slot.0 (tx_list self.old t) else tx_list self.old t) }
+        ensures lists { AreLists self.new }
         ensures spare { self.new.spare ≡ self.old.spare }
     {
         let version = read(&self.nodes, slot.0).version;
@@ -189,6 +198,7 @@ impl Arena {
         ensures at { (u : ℕ) → at self.new u ≡ at self.old u }
         ensures key_list { (v : Version) → at self.old slot.0 ≡ Some v → (k : KeyId) → key_list self.new k ≡ (if key_names k v then put_before (number_of before) slot.0 (taken slot.0 (key_list self.old k)) else key_list self.old k) }
         ensures tx_list { (t : TxId) → tx_list self.new t ≡ tx_list self.old t }
+        ensures lists { AreLists self.new }
         ensures spare { self.new.spare ≡ self.old.spare }
     {
         let version = read(&self.nodes, slot.0).version;
@@ -215,6 +225,7 @@ impl Arena {
         ensures at { (u : ℕ) → at self.new u ≡ (if u == slot.0 then dated ts kind (at self.old u) else at self.old u) }
         ensures key_list { (k : KeyId) → key_list self.new k ≡ key_list self.old k }
         ensures tx_list { (t : TxId) → tx_list self.new t ≡ tx_list self.old t }
+        ensures lists { AreLists self.new }
         ensures spare { self.new.spare ≡ self.old.spare }
     {
         let node = read(&self.nodes, slot.0);
@@ -230,7 +241,9 @@ impl Arena {
     pub fn first_of_key(&self, key: KeyId) -> Option<Slot>
         ensures first { number_of result ≡ first_or None (key_list self.now key) }
         ensures lists { AreLists self.now }
+        ensures limit { length self.now.by_tx < 2 ^ 63 }
     {
+        let _ = tx_count(&self.txs);
         first_slot(find(&self.keys, key))
     }
 

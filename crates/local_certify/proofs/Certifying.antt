@@ -1,20 +1,19 @@
 -- What a certification comes to, and why.
 use Rattle.std.proofs.Common.{Bool, Err, List, None, Ok, Option, Some, [], ap, arith, drop, false, find, if◌then◌else◌, length, max, refl, slice_get, suc, sym, true, zero, ℕ, ◌+◌, ◌-◌, ◌<◌, ◌∙◌, ◌∷◌, ◌≡◌, ◌≤◌, ◌↔◌}
 use Rattle.std.specs.List.{last_or, slice_index_or}
-use Rattle.cache_partition.specs.CacheLists.{CacheList, IsCache}
 use Rattle.dependency_set.specs.declared.snaps.OwnSnap.{OwnSnap}
 use Rattle.dependency_set.specs.Snapshots.{Snap, holds, oldest}
-use Rattle.local_certify.proofs.Meeting.{judged_err, judged_ok, judged_seen, origins, passed_seen}
+use Rattle.local_certify.proofs.Meeting.{judged_err, judged_met, judged_ok}
 use Rattle.local_certify.specs.Causes.{CertWaits, FirstConflict, IsAbove, time_end}
 use Rattle.local_certify.specs.declared.certs.CertTurn.{CertTurn}
 use Rattle.local_certify.specs.declared.certs.CertTurn.TheVariants as turns
-use Rattle.local_certify.specs.Judging.{held, judged_all, passed_by}
-use Rattle.local_certify.specs.Turning.{closing, turn_of}
+use Rattle.local_certify.specs.Judging.{judged_all, passed_by}
+use Rattle.local_certify.specs.ListCerts.{cert_found, closed_at, joined_told, list_cert, met_in}
+use Rattle.local_certify.specs.Turning.{turn_of}
 use Rattle.partition_map.specs.Maps as maps
-use Rattle.replica_store.specs.StoreLists.{IsStore, StoreList}
 use Rattle.snapshot_read.proofs.Gating.{shut_names}
 use Rattle.snapshot_read.specs.Causes.{GateWaits}
-use Rattle.snapshot_read.specs.Shown.{AreTold, Shows, StandAt, of_key}
+use Rattle.snapshot_read.specs.Shown.{of_key, held}
 use Rattle.str_base.specs.declared.names.KeyId.{KeyId}
 use Rattle.str_base.specs.declared.names.Kind.{Kind}
 use Rattle.str_base.specs.declared.names.Kind.TheVariants.{Final, Local, Pre}
@@ -25,6 +24,7 @@ use Rattle.str_base.specs.declared.names.TxId.{TxId}
 use Rattle.str_base.specs.declared.names.Version.{Version}
 use Rattle.str_base.specs.declared.names.Write.{Write}
 use Rattle.str_base.specs.Versions.{chain, mark_of, newest, same_key, ts_or_zero}
+use Rattle.str_model.specs.Turns
 use Rattle.str_model.specs.Turns.{Certified, Conflict, WaitGate, cert_turn, conflicts, joined, joined_one, met, passed, take_over, waits_for}
 use Rattle.str_model.specs.Views.{Own, View}
 use Rattle.str_scene.specs.Scenes.{Here}
@@ -104,8 +104,16 @@ joined_rs xs (v ∷ vs) snap = joined_rs xs vs (joined_one xs v v.kind snap) ∙
 
 -- ---- the close
 
+-- a snapshot that met no conflict is certified above what has to be passed, where its gate lets it through
+abbrev closing : Here → ℕ → Snap → Turns.CertTurn
+closing here past snap = if holds snap then Certified (1 + max snap.rs past) snap else WaitGate (waits_for here (oldest snap.deps))
+
+-- at a node it waits where the gate does
+pub closed_waits : (node : NodeId) (past : ℕ) (snap : Snap) (by : TxId) → GateWaits node snap by → WaitGate by ≡ closed_at node past snap
+closed_waits node past snap by g = rw (g.shut, g.least, g.named) refl
+
 -- it waits where the gate does
-pub waits_close : (here : Here) (past : ℕ) (snap : Snap) (by : TxId) → GateWaits here.node snap by → WaitGate by ≡ closing here past snap
+waits_close : (here : Here) (past : ℕ) (snap : Snap) (by : TxId) → GateWaits here.node snap by → WaitGate by ≡ closing here past snap
 waits_close here past snap by g = rw (g.shut, g.least, g.named) refl
 
 close_waits : (here : Here) (past : ℕ) (snap : Snap) (by : TxId) → closing here past snap ≡ WaitGate by → GateWaits here.node snap by
@@ -201,23 +209,21 @@ module _ (here : Here) (view : View) (snap : Snap) (ws : List Write) where
 
 -- ---- by what the stores give
 
-module _ (here : Here) (view : View) (node : NodeId) (own : List OwnSnap) (store : StoreList) (cache : CacheList) (map : maps.PartitionMap) (s : Shows here view node own store cache map)
-    (at_node : StandAt node map store cache) (is : IsStore store) (ic : IsCache cache) (snap : Snap) (ws : List Write) where
+module _ (node : NodeId) (map : maps.PartitionMap) (own : List OwnSnap) (store cache : List Version) (marks : List ℕ) (snap : Snap) (ws us : List Write) (u : us ≡ ws) where
   -- a conflict
-  pub gives_conflict : (us : List Write) (v : Version) → us ≡ ws → Err v ≡ judged_all own snap.rs (held map node store.versions cache.versions) us snap → Conflict v.tx v.key ≡ cert_turn here view snap ws
-  gives_conflict us v u f =
-      let e = f ∙ ap (λ xs. judged_all own snap.rs (held map node store.versions cache.versions) xs snap) u in
-      sym (cert_conflict here view snap ws v (judged_err own snap.rs (met ws view.versions) snap v (sym (judged_seen here view node own store cache map s at_node is ic snap.rs ws snap) ∙ sym e)))
+  pub gives_conflict : (v : Version) → Err v ≡ judged_all own snap.rs (held map node store cache) us snap → Conflict v.tx v.key ≡ list_cert node map own store cache marks snap ws
+  gives_conflict v f =
+      let versions = held map node store cache in
+      let e = f ∙ ap (λ xs. judged_all own snap.rs versions xs snap) u ∙ judged_met own snap.rs versions ws snap in
+      sym (ap (λ o. cert_found node (passed_by marks versions ws) (joined_told own (met_in versions ws) snap) o) (judged_err own snap.rs (met_in versions ws) snap v (sym e)))
 
   -- none
-  pub gives_close : (us : List Write) (marks : List ℕ) (past : Ts) (turn : CertTurn) (j : Snap) → us ≡ ws → view.marks ≡ marks → AreTold own snap.rs store.versions cache.versions
-      → Ok j ≡ judged_all own snap.rs (held map node store.versions cache.versions) us snap → past.0 ≡ passed_by marks (held map node store.versions cache.versions) us
-      → ((there : Here) → there.node ≡ node → turn_of turn ≡ closing there past.0 j) → turn_of turn ≡ cert_turn here view snap ws
-  gives_close us marks past turn j u m t d q f =
-      let e = d ∙ ap (λ xs. judged_all own snap.rs (held map node store.versions cache.versions) xs snap) u in
-      let p = q ∙ ap (λ xs. passed_by marks (held map node store.versions cache.versions) xs) u in
-      let found = judged_ok view.own own snap.rs (met ws view.versions) snap j s.agree (origins here view node own store cache map s at_node is ic snap.rs ws t)
-      (sym (judged_seen here view node own store cache map s at_node is ic snap.rs ws snap) ∙ sym e) in
-      f here s.same_node ∙ ap (λ n. closing here n j) (p ∙ sym (passed_seen here view node own store cache map s at_node is ic marks ws m))
-      ∙ ap (λ (x : Snap). closing here (passed view ws) x) found.1
-      ∙ sym (cert_free here view snap ws found.0)
+  pub gives_close : (past : Ts) (turn : Turns.CertTurn) (j : Snap) → Ok j ≡ judged_all own snap.rs (held map node store cache) us snap
+      → past.0 ≡ passed_by marks (held map node store cache) us → turn ≡ closed_at node past.0 j → turn ≡ list_cert node map own store cache marks snap ws
+  gives_close past turn j d q f =
+      let versions = held map node store cache in
+      let e = d ∙ ap (λ xs. judged_all own snap.rs versions xs snap) u ∙ judged_met own snap.rs versions ws snap in
+      let p = q ∙ ap (λ xs. passed_by marks versions xs) u in
+      let found = judged_ok own snap.rs (met_in versions ws) snap j (sym e) in
+      f ∙ ap (λ n. closed_at node n j) p ∙ ap (λ (x : Snap). closed_at node (passed_by marks versions ws) x) found.1
+      ∙ sym (ap (λ o. cert_found node (passed_by marks versions ws) (joined_told own (met_in versions ws) snap) o) found.0)

@@ -6,7 +6,7 @@ use Rattle.str_base.specs.declared.names.Version.{Version}
 use Rattle.str_base.specs.declared.names.Write.{Write}
 use Rattle.local_certify.specs.Causes.{AllBelow}
 use Rattle.partition_map.specs.Maps.{HasKey}
-use Rattle.str_model.specs.NodeFacts.{In, MomentFacts, times_end}
+use Rattle.str_model.specs.NodeFacts.{MomentFacts, times_end}
 use Rattle.str_model.specs.Owned.{Owns}
 use Rattle.str_model.specs.Strange.{has_node}
 use Rattle.str_model.specs.Views.{Own, View}
@@ -14,11 +14,12 @@ use Rattle.str_scene.specs.SceneLimits.{IsScene}
 use Rattle.str_scene.specs.Scenes.{Here, map_of}
 use Rattle.str_model.proofs.ViewFacts.TimesBelow.{mark_below}
 use Rattle.str_model.proofs.OwnFacts.FewOwn.{times_low}
-use Rattle.str_model.proofs.Lists.Members.{in_all_new, in_all_old, in_at}
 use Rattle.str_model.proofs.ViewFacts.NodeUses.{have_marks}
 use Rattle.str_model.proofs.ViewFacts.VersionsKept.{write_key}
 use Rattle.snapshot_read.proofs.FromFacts.{each-of}
 use Rattle.version_chain.specs.ChainLists.{merged}
+use Rattle.str_base.proofs.Members.{in_all_new, in_all_old, in_at}
+use Rattle.str_base.specs.Members.{In}
 
 module _ (here : Here) (ok : IsScene here.scene) (exists : has_node here here.node ≡ true) (v : View) (h : MomentFacts here v) (i : ℕ) (x : Own) (own : Owns v i x) where
   -- each written key is one of the map

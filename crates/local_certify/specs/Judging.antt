@@ -2,20 +2,14 @@
 use Rattle.std.specs.Prelude.{Err, List, Ok, Result, [], if◌then◌else◌, map, max, ℕ, ◌∷◌}
 use Rattle.dependency_set.specs.declared.snaps.OwnSnap.{OwnSnap}
 use Rattle.dependency_set.specs.Snapshots.{Snap}
-use Rattle.partition_map.specs.Maps.{PartitionMap, hosts, part_of}
-use Rattle.snapshot_read.specs.Shown.{of_key, taken_over, told}
+use Rattle.snapshot_read.specs.Shown.{taken_over, told}
 use Rattle.str_base.specs.declared.names.KeyId.{KeyId}
 use Rattle.str_base.specs.declared.names.Kind.{Kind}
 use Rattle.str_base.specs.declared.names.Kind.TheVariants.{Final, Local, Pre}
-use Rattle.str_base.specs.declared.names.NodeId.{NodeId}
 use Rattle.str_base.specs.declared.names.Version.{Version}
 use Rattle.str_base.specs.declared.names.Write.{Write}
 use Rattle.str_base.specs.Versions.{chain, mark_of, newest}
 use Rattle.str_model.specs.Turns.{conflicts, greatest}
-
--- the versions of the store which holds a key
-abbrev pub held : PartitionMap → NodeId → List Version → List Version → KeyId → List Version
-held map node store cache k = of_key (hosts map node (part_of map k)) store cache
 
 -- a Local version is taken over into the snapshot
 abbrev pub join_one : List OwnSnap → Version → Kind → Snap → Snap

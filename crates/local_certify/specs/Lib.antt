@@ -1,3 +1,4 @@
 pub mod Causes
 pub mod Judging
 pub mod Turning
+pub mod ListCerts

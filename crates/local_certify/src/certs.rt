@@ -2,10 +2,11 @@
 ghost use Rattle.std.specs.Prelude.{◌≡◌, ◌↔◌, ◌<◌, ◌≤◌, ◌∷◌, IfOk, Some, [], false, length, max, slice_get, ℕ};
 ghost use Rattle.dependency_set.specs.Snapshots.{Snap as Value};
 ghost use Rattle.local_certify.specs.Causes.{AllBelow, CertWaits, FirstConflict, IsAbove, time_end};
-ghost use Rattle.local_certify.specs.Judging.{held, passed_by};
-ghost use Rattle.local_certify.specs.Turning.{closing, turn_of};
+ghost use Rattle.local_certify.specs.Judging.{passed_by};
+ghost use Rattle.local_certify.specs.ListCerts.{closed_at, list_cert};
+ghost use Rattle.local_certify.specs.Turning.{turn_of};
 ghost use Rattle.partition_map.specs.Maps.{HasKey};
-ghost use Rattle.snapshot_read.specs.Shown.{AreNamed, AreTold, Shows, StandAt, of_key};
+ghost use Rattle.snapshot_read.specs.Shown.{AreNamed, AreTold, Shows, StandAt, of_key, held};
 ghost use Rattle.str_base.specs.declared.names.KeyId.{KeyId as Key};
 ghost use Rattle.str_base.specs.declared.names.Ts.{Ts as Time};
 ghost use Rattle.str_base.specs.declared.names.TxId.{TxId as Name};
@@ -59,12 +60,35 @@ pub fn certify(
     requires deps { AreNamed own.now snap.now.deps }
     requires told { AreTold own.now snap.now.rs store.now.versions cache.now.versions }
     requires times { AllBelow snap.now.rs marks.now store.now.versions cache.now.versions }
+    ensures lists { turn_of result ≡ list_cert node map.now own.now store.now.versions cache.now.versions marks.now snap.now writes.now }
     ensures turn { (here : Here) (view : View) → Shows here view node own.now store.now cache.now map.now → view.marks ≡ marks.now → turn_of result ≡ cert_turn here view snap.now writes.now }
     ensures conflict { (here : Here) (view : View) → Shows here view node own.now store.now cache.now map.now → view.marks ≡ marks.now → (by : Name) (key : Key) → (result ≡ CertTurn.Conflict by key) ↔ FirstConflict view snap.now writes.now by key }
     ensures wait { (here : Here) (view : View) → Shows here view node own.now store.now cache.now map.now → view.marks ≡ marks.now → (by : Name) → (result ≡ CertTurn.WaitGate by) ↔ CertWaits here view snap.now writes.now by }
     ensures above { (here : Here) (view : View) → Shows here view node own.now store.now cache.now map.now → view.marks ≡ marks.now → (lc : Time) (s : Value) → result ≡ CertTurn.Certified lc s → IsAbove view snap.now writes.now lc.0 }
 {
     let _ = (store.node(), cache.node());
+    judge(node, snap, writes, own, store, cache, marks, map)
+}
+
+/// The certification, by the lists alone.
+fn judge(
+    node: NodeId,
+    snap: &Snap,
+    writes: &Writes,
+    own: &[OwnSnap],
+    store: &ReplicaStore,
+    cache: &CachePartition,
+    marks: &Marks,
+    map: &PartitionMap,
+) -> CertTurn
+    requires keys { (i : ℕ) (w : AWrite) → slice_get writes.now i ≡ Some w → HasKey map.now w.key }
+    requires marked { (i : ℕ) (w : AWrite) → slice_get writes.now i ≡ Some w → w.key.0 < length marks.now }
+    requires few { length own.now ≤ 15 }
+    requires deps { AreNamed own.now snap.now.deps }
+    requires told { AreTold own.now snap.now.rs store.now.versions cache.now.versions }
+    requires times { AllBelow snap.now.rs marks.now store.now.versions cache.now.versions }
+    ensures { turn_of result ≡ list_cert node map.now own.now store.now.versions cache.now.versions marks.now snap.now writes.now }
+{
     let items = writes.as_slice();
     let past = passed(node, items, store, cache, marks, map);
     match judge_all(node, snap, items, own, store, cache, map) {
@@ -77,7 +101,7 @@ pub fn certify(
 fn close(node: NodeId, snap: Snap, past: Ts) -> CertTurn
     requires rs { snap.rs < time_end }
     requires past { past.0 < time_end }
-    ensures { (here : Here) → here.node ≡ node → turn_of result ≡ closing here past.0 snap }
+    ensures { turn_of result ≡ closed_at node past.0 snap }
 {
     match gate_waits(node, &snap) {
         Some(by) => CertTurn::WaitGate { by },

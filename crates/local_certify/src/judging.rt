@@ -1,8 +1,8 @@
 //! How a transaction meets the versions of the keys that it wrote.
 ghost use Rattle.std.specs.Prelude.{◌≡◌, ◌<◌, ◌≤◌, ◌^◌, IfOk, Some, length, slice_get, true, ℕ};
-ghost use Rattle.local_certify.specs.Judging.{held, join_one, judged, judged_all};
+ghost use Rattle.local_certify.specs.Judging.{join_one, judged, judged_all};
 ghost use Rattle.partition_map.specs.Maps.{HasKey};
-ghost use Rattle.snapshot_read.specs.Shown.{AreNamed, AreTold, OthersNamed, of_key};
+ghost use Rattle.snapshot_read.specs.Shown.{AreNamed, AreTold, OthersNamed, of_key, held};
 ghost use Rattle.str_base.specs.declared.names.Write.{Write as AWrite};
 ghost use Rattle.str_base.specs.Versions.{chain, is_local};
 ghost use Rattle.str_model.specs.Turns.{conflicts};

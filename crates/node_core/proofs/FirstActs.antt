@@ -35,8 +35,8 @@ use Rattle.node_core.proofs.FirstScripts.{HasScript, script_op}
 use Rattle.node_core.proofs.Members.{in_last}
 use Rattle.node_core.proofs.Places.{count-cons, got_below, one_if, set_length}
 use Rattle.node_core.proofs.Writes.{in_set_write, set_write-distinct, set_write-length}
-use Rattle.str_model.proofs.Lists.Members.{at_in, in_at}
-use Rattle.str_model.proofs.Lists.ListReads.{got_set}
+use Rattle.str_base.proofs.Lists.{got_set}
+use Rattle.str_base.proofs.Members.{at_in, in_at}
 
 -- ---- the session's last transaction
 

@@ -24,8 +24,9 @@ use Rattle.node_core.proofs.FirstScripts.{key_hosted, participants_none}
 use Rattle.node_core.proofs.Ordered.{and_cases, and_true, in_order_sorted}
 use Rattle.node_core.proofs.Places.{got_below, set_length, set_set}
 use Rattle.node_core.proofs.Settling.{AllApart, Differ, filter-insert_all_other, filter-insert_all_own, filter_all, filter_none, settled_insert_all}
-use Rattle.str_model.proofs.Lists.Members.{In, at_in, in_map}
-use Rattle.str_model.proofs.Lists.ListReads.{get_set, get_set_other}
+use Rattle.str_base.proofs.Lists.{get_set, get_set_other}
+use Rattle.str_base.proofs.Members.{at_in, in_map}
+use Rattle.str_base.specs.Members.{In}
 
 -- a map of a map
 map_map : {A B C : Type 0} (g : B → C) (k : A → B) (xs : List A) → map g (map k xs) ≡ map (λ x. g (k x)) xs

@@ -11,7 +11,7 @@ use Rattle.str_scene.specs.declared.names.TxPlace.{TxPlace}
 use Rattle.node_core.specs.FirstSteps.{committed_at_once, final_version, first_step}
 use Rattle.node_core.specs.FirstViews.{IsDecidedOwn, IsFirstOwn, IsFirstVersion, IsFirstView, IsInOrder, decided_count, is_settled, times_limit}
 use Rattle.str_base.specs.Versions.{chain, insert_all, mark_of, newest, same_key, ts_or_zero}
-use Rattle.str_model.specs.Acts.{begun, closed, decided_as, fresh, in_phase}
+use Rattle.str_model.specs.Acts.{begun, closed, decided_as, fresh}
 use Rattle.str_model.specs.Clients.{of_session, reading_limit}
 use Rattle.str_model.specs.Strange.{distinct_keys}
 use Rattle.str_model.specs.Turns.{greatest, passed}
@@ -27,8 +27,9 @@ use Rattle.node_core.proofs.Ordered.{Apart, and_cases, in_order_sorted, sorted_i
 use Rattle.node_core.proofs.Places.{count_push, count_set, count_take_set, got_below, one_if, take_push, take_whole}
 use Rattle.node_core.proofs.Settling.{AllApart, Differ, insert_all_sorted}
 use Rattle.node_core.proofs.Writes.{not_false, or_neither}
-use Rattle.str_model.proofs.Lists.Members.{In, at_in, in_at, in_insert_all, in_map}
-use Rattle.str_model.proofs.Lists.ListReads.{get_set, get_set_other, got_push, got_set}
+use Rattle.str_base.proofs.Lists.{get_set, get_set_other, got_push, got_set}
+use Rattle.str_base.proofs.Members.{at_in, in_at, in_insert_all, in_map}
+use Rattle.str_base.specs.Members.{In}
 
 -- ---- what is carried over to another view
 
@@ -53,9 +54,9 @@ own_carried scene v u i x t c o =
       ffc = (let a = o.ffc in omega arith);
     }
 
--- a transaction in another settled phase
-phase_kept : (scene : Scene) (v : View) (i : ℕ) (x : Own) (p : Phase) → is_settled p ≡ true → IsFirstOwn scene v i x → IsFirstOwn scene v i (in_phase p x)
-phase_kept scene v i x p e o =
+-- a transaction that is decided, in a settled phase
+settled_kept : (scene : Scene) (v : View) (i : ℕ) (x : Own) (p : Phase) → is_settled p ≡ true → IsFirstOwn scene v i x → IsFirstOwn scene v i (decided_as p x)
+settled_kept scene v i x p e o =
     record {
       settled_ = e;
       deps = o.deps;
@@ -66,7 +67,7 @@ phase_kept scene v i x p e o =
       next = o.next;
       writes = o.writes;
       reads = o.reads;
-      gets = o.gets;
+      gets = omega arith;
       keys = o.keys;
       distinct = o.distinct;
       rs = o.rs;
@@ -213,11 +214,11 @@ module _ (scene : Scene) (v : View) (is : IsScene scene) (f : IsFirst scene) (h 
   unmarked = record { same_length = refl; times = h.mark_times }
 
   -- a transaction is decided without a new version
-  decided_kept : (i : ℕ) (x : Own) (p : Phase) → Goes v i x → is_settled p ≡ true → is_decided p ≡ true → IsFirstView scene (record v { own = slice_set v.own i (in_phase p x) })
+  decided_kept : (i : ℕ) (x : Own) (p : Phase) → Goes v i x → is_settled p ≡ true → is_decided p ≡ true → IsFirstView scene (record v { own = slice_set v.own i (decided_as p x) })
   decided_kept i x p g e d =
-      set_kept (record v { own = slice_set v.own i (in_phase p x) }) i x (in_phase p x) g refl refl
-      (let c = count_decided v.own i x (in_phase p x) g.at_ g.active d in omega arith)
-      (phase_kept scene v i x p e (h.own i x g.at_)) refl unmarked refl refl refl
+      set_kept (record v { own = slice_set v.own i (decided_as p x) }) i x (decided_as p x) g refl refl
+      (let c = count_decided v.own i x (decided_as p x) g.at_ g.active d in omega arith)
+      (settled_kept scene v i x p e (h.own i x g.at_)) refl unmarked refl refl refl
 
   -- a transaction begins
   begun_kept : (place : TxPlace) (rs : ℕ) (ops : List Op) → HasScript scene place ops → place.index ≡ 1 + count_by (of_session place.session) v.own → rs ≤ times_limit v
@@ -281,7 +282,7 @@ module _ (scene : Scene) (v : View) (is : IsScene scene) (f : IsFirst scene) (h 
         marks = h.marks;
         mark_times = λ j t e. (let a = h.mark_times j t e in let b = more_times in omega arith);
         floor = (let a = h.floor in let b = more_times in let c = next_time_within scene v i x h g.at_ in omega arith);
-        own = own_set u i x y g refl refl (let b = more_times in omega arith) (phase_kept scene v i x (Committed (Some lc) (Some lc)) refl (h.own i x g.at_));
+        own = own_set u i x y g refl refl (let b = more_times in omega arith) (settled_kept scene v i x (Committed (Some lc) (Some lc)) refl (h.own i x g.at_));
         waiters = h.waiters;
         done = h.done;
       }

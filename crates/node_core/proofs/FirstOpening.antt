@@ -6,7 +6,7 @@ use Rattle.str_model.specs.Runs.{opening_view}
 use Rattle.str_scene.specs.FirstScenes.{IsFirst}
 use Rattle.str_scene.specs.SceneLimits.{IsScene}
 use Rattle.str_scene.specs.Scenes.{Scene}
-use Rattle.str_model.proofs.Lists.ListReads.{got_replicate}
+use Rattle.str_base.proofs.Lists.{got_replicate}
 
 -- the opening view of a first scene
 pub opening_first : (scene : Scene) → IsScene scene → IsFirst scene → IsFirstView scene (opening_view scene)

@@ -11,7 +11,7 @@ use Rattle.str_model.specs.Views.{Aborted, Active, CertWait, Closing, Committed,
 use Rattle.str_model.specs.Waiters.{wait_turns}
 use Rattle.str_scene.specs.Scenes.{Here}
 use Rattle.node_core.proofs.Ordered.{Compared, compared, less, more, same}
-use Rattle.str_model.proofs.Lists.ListReads.{set_got}
+use Rattle.str_base.proofs.Lists.{set_got}
 
 -- a transaction at which the pass does nothing
 pub record Rests (x : Own) : Type 0 where

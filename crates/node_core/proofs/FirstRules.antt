@@ -36,7 +36,8 @@ use Rattle.node_core.proofs.FirstKept.{first_kept}
 use Rattle.node_core.proofs.FirstScripts.{key_hosted, script_op}
 use Rattle.node_core.proofs.Members.{in_last}
 use Rattle.node_core.proofs.Settling.{filter_none}
-use Rattle.str_model.proofs.Lists.Members.{In, at_in, in_filter, in_flat_map}
+use Rattle.str_base.proofs.Members.{at_in, in_filter, in_flat_map}
+use Rattle.str_base.specs.Members.{In}
 
 -- ---- Final versions
 

@@ -14,7 +14,8 @@ use Rattle.str_scene.specs.SceneLimits.{IsOp, IsScene, IsScript, all_ops}
 use Rattle.str_scene.specs.Scenes.{Scene, Session, hosts, hosts_key, named_part, nth, ops_at, or_none, others, participants, replicas, script_at, unasked, written_parts}
 use Rattle.node_core.proofs.FirstHere.{first_here}
 use Rattle.node_core.proofs.Ordered.{and_cases}
-use Rattle.str_model.proofs.Lists.Members.{In, in_at, in_left, in_right}
+use Rattle.str_base.proofs.Members.{in_at, in_left, in_right}
+use Rattle.str_base.specs.Members.{In}
 
 -- ---- lists
 

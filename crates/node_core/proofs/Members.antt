@@ -1,7 +1,8 @@
 -- What is in a list that was made by the operations of the definitions.
 use Rattle.std.proofs.Common.{Bool, List, None, Option, Some, [], filter, inl, inr, ◌∷◌, ◌≡◌, ◌⊎◌}
 use Rattle.std.specs.List.{last_or}
-use Rattle.str_model.proofs.Lists.Members.{In, in_filter}
+use Rattle.str_base.proofs.Members.{in_filter}
+use Rattle.str_base.specs.Members.{In}
 
 -- the last of a list, or what stands for it
 in_last_or : {A : Type 0} (o : Option A) (xs : List A) (x : A) → last_or o xs ≡ Some x → (o ≡ Some x) ⊎ In x xs

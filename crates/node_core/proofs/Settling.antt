@@ -3,7 +3,8 @@ use Rattle.std.proofs.Common.{Bool, List, [], ap, false, filter, if◌then◌els
 use Rattle.str_base.specs.declared.names.Version.{Version}
 use Rattle.str_base.specs.Versions.{insert_all, insert_version, is_before}
 use Rattle.node_core.proofs.Ordered.{Apart, Sorted, apart_back, before_one, before_or, before_trans, filter-insert_other, filter-insert_own, insert_sorted}
-use Rattle.str_model.proofs.Lists.Members.{In, in_insert, in_map}
+use Rattle.str_base.proofs.Members.{in_insert, in_map}
+use Rattle.str_base.specs.Members.{In}
 
 -- ---- insertions in another order
 

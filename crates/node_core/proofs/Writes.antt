@@ -7,7 +7,7 @@ use Rattle.str_base.specs.Values.{set_write}
 use Rattle.str_base.specs.Versions.{same_key}
 use Rattle.str_model.specs.Strange.{distinct_keys}
 use Rattle.node_core.proofs.Ordered.{and_cases, and_true}
-use Rattle.str_model.proofs.Lists.Members.{In}
+use Rattle.str_base.specs.Members.{In}
 
 -- one more at most
 pub set_write-length : (w : Write) (us : List Write) → length (set_write w us) ≤ length us + 1

@@ -5,7 +5,7 @@ ghost use Rattle.node_core.specs.Meaning.{phase_of};
 ghost use Rattle.str_base.specs.declared.names.Value.TheVariants.{Num};
 ghost use Rattle.str_base.specs.Values.{set_write};
 ghost use Rattle.str_base.specs.Versions.{same_key, stamp};
-ghost use Rattle.str_model.specs.Acts.{fresh, in_phase};
+ghost use Rattle.str_model.specs.Acts.{decided_as, fresh};
 ghost use Rattle.str_model.specs.Clients.{of_session};
 ghost use Rattle.str_model.specs.Scripts.{finish, found_read, found_write, known, wrote};
 ghost use Rattle.str_model.specs.Views.{is_decided};
@@ -124,10 +124,11 @@ impl OwnTx {
         }
     }
 
-    /// It comes to this stage.
-    pub fn set_stage(&mut self, stage: Stage)
-        ensures { self.new ≡ in_phase (phase_of stage) self.old }
+    /// It is decided. What its gets gave was handed out with its answer.
+    pub fn decide(&mut self, stage: Stage)
+        ensures { self.new ≡ decided_as (phase_of stage) self.old }
     {
+        self.gets = Gets::new();
         self.stage = stage;
     }
 

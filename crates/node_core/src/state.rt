@@ -6,7 +6,7 @@ ghost use Rattle.node_core.specs.NodeTurns.{CanDo, CanGet, CanPut, Does, IsWithi
 ghost use Rattle.str_base.specs.declared.names.Value.TheVariants.{Num};
 ghost use Rattle.str_base.specs.declared.names.Write.{Write};
 ghost use Rattle.str_base.specs.Versions.{insert_all, insert_version};
-ghost use Rattle.str_model.specs.Acts.{fresh, in_phase};
+ghost use Rattle.str_model.specs.Acts.{decided_as, fresh};
 ghost use Rattle.str_model.specs.Clients.{last_index, of_session};
 ghost use Rattle.str_model.specs.Scripts.{finish, known, wrote};
 ghost use Rattle.str_model.specs.Turns.{passed};
@@ -210,14 +210,14 @@ impl State {
         self.marks[k] = self.marks[k].max(rs.0);
     }
 
-    /// An own transaction comes to this stage.
-    fn set_stage(&mut self, i: usize, stage: Stage)
+    /// An own transaction is decided.
+    fn decide(&mut self, i: usize, stage: Stage)
         requires { i < length self.old.view.own }
-        ensures view { (x : Own) → slice_get self.old.view.own i ≡ Some x → self.new.view ≡ with_own i (in_phase (phase_of stage) x) self.old.view }
+        ensures view { (x : Own) → slice_get self.old.view.own i ≡ Some x → self.new.view ≡ with_own i (decided_as (phase_of stage) x) self.old.view }
         ensures room { self.new.room ≡ self.old.room }
     {
         let own = &mut self.own[i];
-        own.set_stage(stage);
+        own.decide(stage);
     }
 
     /// The answer of an own transaction.
@@ -272,7 +272,7 @@ impl State {
     {
         let gets = self.gets(i);
         out.push(self.answer(node, i, Outcome::Committed { fc: None, gets }));
-        self.set_stage(i, Stage::Committed { lc: None, fc: None });
+        self.decide(i, Stage::Committed { lc: None, fc: None });
     }
 
     /// A transaction aborts by a conflict.
@@ -284,7 +284,7 @@ impl State {
     {
         let cause = Cause::Conflict { by, key, node };
         out.push(self.answer(node, i, Outcome::Aborted { cause }));
-        self.set_stage(i, Stage::Aborted { lc: None, cause });
+        self.decide(i, Stage::Aborted { lc: None, cause });
     }
 
     /// A transaction with writes commits.
@@ -299,7 +299,7 @@ impl State {
         let writes = self.writes(i);
         self.insert_all(node, i, lc, &writes);
         self.raise_floor(lc);
-        self.set_stage(
+        self.decide(
             i,
             Stage::Committed {
                 lc: Some(lc),

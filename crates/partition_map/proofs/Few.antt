@@ -1,11 +1,13 @@
 -- How many participants there can be.
-use Rattle.std.proofs.Common.{Bool, List, None, Option, Some, [], ap, arith, eq-eqb, eqb, eqb-true, subst, false, filter, flat_map, if◌then◌else◌, length, length-append, map, not, refl, slice_get, suc, sym, true, zero, ℕ, ◌*◌, ◌+◌, ◌<◌, ◌||◌, ◌∷◌, ◌≡◌, ◌≤◌}
+use Rattle.std.proofs.Common.{Bool, List, None, Option, Some, [], ap, arith, eq-eqb, eqb, eqb-true, subst, false, filter, flat_map, if◌then◌else◌, length, length-append, map, not, refl, slice_get, suc, sym, true, zero, ℕ, ◌*◌, ◌+◌, ◌<◌, ◌||◌, ◌∙◌, ◌∷◌, ◌≡◌, ◌≤◌}
 use Rattle.std.specs.List.{AllByRecursion, IsDistinct, list_any, range_with_len}
 use Rattle.std.proofs.lemmas.Map.Steps.{length-le_from_distinct_below}
 use Rattle.std.proofs.lemmas.Map.Made.{length-le_from_is_member}
+use Rattle.std.proofs.lemmas.Bool.{false≢true, ne_eqb, or_right}
 use Rattle.std.proofs.lemmas.List.{length-map}
 use Rattle.std.specs.Cmp.{nat_eq_equiv}
 use Rattle.partition_map.specs.declared.rows.Asked.{Asked}
+use Rattle.str_base.specs.declared.limits.TheConstants.{NODES, OPERATIONS, PARTICIPANTS}
 use Rattle.str_base.specs.declared.names.KeyId.{KeyId}
 use Rattle.str_base.specs.declared.names.NodeId.{NodeId}
 use Rattle.str_base.specs.declared.names.PartId.{PartId}
@@ -30,23 +32,11 @@ all_others P o (r ∷ rs) h = by_test (all_others P o rs (λ i n e. h (suc i) n 
     by_test rec true e = rec
     by_test rec false e = (h 0 r refl e, rec)
 
--- a test of numbers that differ
-differ : (a b : ℕ) → ((a ≡ b) → ⊥) → eqb a b ≡ false
-differ a b h = by_test (eqb a b) refl
-  where
-    by_test : (c : Bool) → eqb a b ≡ c → c ≡ false
-    by_test true e = absurd (h (eqb-true a b e))
-    by_test false e = refl
-
--- a number is not unlike itself
-not_unlike : (n : ℕ) → eqb n n ≡ false → ⊥
-not_unlike n e = let g : eqb n n ≡ true = eq-eqb n n refl in cc (e, g)
-
 -- the first of a row differs from each other one
 first_apart : (r : NodeId) (rs : List NodeId) → ((i j : ℕ) (n : NodeId) → slice_get (r ∷ rs) i ≡ Some n → slice_get (r ∷ rs) j ≡ Some n → i ≡ j)
     → (i : ℕ) (n : NodeId) → slice_get rs i ≡ Some n → eqb r.0 n.0 ≡ false
 first_apart r rs h i n e =
-    differ r.0 n.0 (λ q. let same : r ≡ n = ap (λ k. record { 0 = k }) q in let g : 0 ≡ suc i = h 0 (suc i) n (ap (λ m. Some m) same) e in omega arith)
+    ne_eqb r.0 n.0 (λ q. let same : r ≡ n = ap (λ k. record { 0 = k }) q in let g : 0 ≡ suc i = h 0 (suc i) n (ap (λ m. Some m) same) e in omega arith)
 
 -- the others are distinct, by whether the first of the row is this one
 distinct_by : (o r : NodeId) (rs : List NodeId) → AllByRecursion (λ y. eqb r.0 y ≡ false) (other_numbers o rs) → IsDistinct eqb (other_numbers o rs)
@@ -74,15 +64,15 @@ found P (x ∷ xs) h q e = by_test (found P xs h.1 q) (eqb q x) refl e
     by_test rec false f g = rec g
 
 -- 0, the number of this node and those of the others are distinct
-ten_distinct : (o : NodeId) (row : List NodeId) → Exists o.0 8 → IsRow 8 row → IsDistinct eqb (0 ∷ o.0 ∷ other_numbers o row)
+ten_distinct : (o : NodeId) (row : List NodeId) → Exists o.0 NODES → IsRow NODES row → IsDistinct eqb (0 ∷ o.0 ∷ other_numbers o row)
 unfolding IsDistinct
 ten_distinct o row there is =
-    let zero_apart = all_others (λ y. eqb 0 y ≡ false) o row (λ i n e _. differ 0 n.0 (λ q. let k = is.exist i n e in omega (arith, k.0))) in
-    let origin_apart = all_others (λ y. eqb o.0 y ≡ false) o row (λ i n e f. differ o.0 n.0 (λ q. not_unlike n.0 (subst (λ k. eqb n.0 k ≡ false) q f))) in
-    ((differ 0 o.0 (λ q. omega (arith, there.0)), zero_apart), (origin_apart, others_distinct o row is.distinct))
+    let zero_apart = all_others (λ y. eqb 0 y ≡ false) o row (λ i n e _. ne_eqb 0 n.0 (λ q. let k = is.exist i n e in omega (arith, k.0))) in
+    let origin_apart = all_others (λ y. eqb o.0 y ≡ false) o row (λ i n e f. ne_eqb o.0 n.0 (λ q. false≢true (sym (subst (λ k. eqb n.0 k ≡ false) q f) ∙ eq-eqb n.0 n.0 refl))) in
+    ((ne_eqb 0 o.0 (λ q. omega (arith, there.0)), zero_apart), (origin_apart, others_distinct o row is.distinct))
 
 -- at most 7 nodes of a row but this one
-pub others_few : (o : NodeId) (row : List NodeId) → Exists o.0 8 → IsRow 8 row → length (others o row) ≤ 7
+pub others_few : (o : NodeId) (row : List NodeId) → Exists o.0 NODES → IsRow NODES row → length (others o row) ≤ 7
 others_few o row there is =
     let below : AllByRecursion (λ n. n < 9) (0 ∷ o.0 ∷ other_numbers o row) = (omega arith, (omega (arith, there.1), all_others (λ n. n < 9) o row (λ i n e _. let k = is.exist i n e in omega (arith, k.1)))) in
     let nine : length (0 ∷ o.0 ∷ other_numbers o row) ≤ 9 =
@@ -102,7 +92,7 @@ passing_above test b a (suc n) h = by_test (passing_above test b (a + 1) n (omeg
   where
     by_test : AllByRecursion (λ y. eqb b y ≡ false) (passing test (a + 1) n) → (c : Bool)
         → AllByRecursion (λ y. eqb b y ≡ false) (map (λ p. p.0) (if c then record { 0 = a } ∷ filter test (map (λ k. record { 0 = k }) (range_with_len (a + 1) n)) else filter test (map (λ k. record { 0 = k }) (range_with_len (a + 1) n))))
-    by_test rec true = (differ b a (λ q. omega arith), rec)
+    by_test rec true = (ne_eqb b a (λ q. omega arith), rec)
     by_test rec false = rec
 
 -- they are distinct, by whether the first one passes
@@ -128,11 +118,6 @@ passing_pass test (p ∷ ps) = by_test (passing_pass test ps) (test p) refl
     by_test rec true e = (e, rec)
     by_test rec false e = rec
 
--- the second of two tests holds
-or_true : (b c : Bool) → c ≡ true → (b || c) ≡ true
-or_true true c e = refl
-or_true false c e = e
-
 -- a partition that is written is one of the partitions of the writes
 among : (part_of : KeyId → PartId) (ws : List Write) (q : ℕ) → is_written part_of ws (record { 0 = q }) ≡ true → list_any (eqb q) (map (λ w. (part_of w.key).0) ws) ≡ true
 among part_of [] q e = absurd (cc e)
@@ -141,7 +126,7 @@ among part_of (w ∷ ws) q e = by_test (among part_of ws q) (eqb (part_of w.key)
     by_test : (is_written part_of ws (record { 0 = q }) ≡ true → list_any (eqb q) (map (λ w. (part_of w.key).0) ws) ≡ true) → (b : Bool) → eqb (part_of w.key).0 q ≡ b
         → (b || is_written part_of ws (record { 0 = q })) ≡ true → (eqb q (part_of w.key).0 || list_any (eqb q) (map (λ w. (part_of w.key).0) ws)) ≡ true
     by_test rec true f g = let s : q ≡ (part_of w.key).0 = sym (eqb-true (part_of w.key).0 q f) in rw (eq-eqb q (part_of w.key).0 s) refl
-    by_test rec false f g = or_true (eqb q (part_of w.key).0) (list_any (eqb q) (map (λ w. (part_of w.key).0) ws)) (rec g)
+    by_test rec false f g = or_right (eqb q (part_of w.key).0) (list_any (eqb q) (map (λ w. (part_of w.key).0) ws)) (rec g)
 
 -- no more partitions are written than there are writes
 pub written_few : (part_of : KeyId → PartId) (rows : List (List NodeId)) (ws : List Write) → length (written part_of rows ws) ≤ length ws
@@ -162,15 +147,15 @@ flat_few f n [] h = omega arith
 flat_few f n (p ∷ ps) h = omega (arith, flat_few f n ps h, h p, length-append (f p) (flat_map f ps))
 
 -- a row has at most 7 nodes but this one, also where it does not exist
-pub row_few : (m : PartitionMap) (o : NodeId) (p : PartId) → IsMap m → Exists o.0 8 → length (others o (row_at m.rows p)) ≤ 7
+pub row_few : (m : PartitionMap) (o : NodeId) (p : PartId) → IsMap m → Exists o.0 NODES → length (others o (row_at m.rows p)) ≤ 7
 row_few m o p is there = by_row (nth m.rows p.0) (λ row e. is.rows _ row (at_nth m.rows p.0 row e))
   where
-    by_row : (r : Option (List NodeId)) → ((row : List NodeId) → r ≡ Some row → IsRow 8 row) → length (others o (or_none r)) ≤ 7
+    by_row : (r : Option (List NodeId)) → ((row : List NodeId) → r ≡ Some row → IsRow NODES row) → length (others o (or_none r)) ≤ 7
     by_row None h = omega arith
     by_row (Some row) h = others_few o row there (h row refl)
 
 -- at most 112 participants
-pub participants_few : (m : PartitionMap) (o : NodeId) (ws : List Write) → IsMap m → Exists o.0 8 → length ws ≤ 16 → length (participants m o ws) ≤ 112
+pub participants_few : (m : PartitionMap) (o : NodeId) (ws : List Write) → IsMap m → Exists o.0 NODES → length ws ≤ OPERATIONS → length (participants m o ws) ≤ PARTICIPANTS
 participants_few m o ws is there h =
     let f : PartId → List Asked = λ p. map (unasked p) (others o (row_at m.rows p)) in
     let a : length (participants m o ws) ≤ length (written (part_of m) m.rows ws) * 7 =

@@ -2,6 +2,7 @@
 use Rattle.std.proofs.Common.{Bool, List, [], add-one, ap, append-nil, append_assoc, arith, drop, false, filter, flat_map, if◌then◌else◌, length, length-append, map, refl, slice_get, suc, sym, true, zero, ℕ, ◌+◌, ◌++◌, ◌<◌, ◌∙◌, ◌∷◌, ◌≡◌, ◌≤◌}
 use Rattle.std.specs.List.{range_with_len}
 use Rattle.std.proofs.lemmas.List.{length-map}
+use Rattle.str_base.specs.declared.limits.TheConstants.{PARTICIPANTS}
 use Rattle.str_base.specs.declared.names.KeyId.{KeyId}
 use Rattle.str_base.specs.declared.names.NodeId.{NodeId}
 use Rattle.str_base.specs.declared.names.PartId.{PartId}
@@ -79,10 +80,10 @@ kept_else list m o ws i h e w = kept list list m o ws i h e (rw w (sym (append-n
 
 -- those of the next partition fit
 pub fits : (list : List Asked) (m : PartitionMap) (o : NodeId) (ws : List Write) (i : ℕ) → i < length m.rows
-    → length (participants m o ws) ≤ 112
+    → length (participants m o ws) ≤ PARTICIPANTS
     → list ++ taking (part_of m) o ws (i + 1) (drop i m.rows) ≡ participants m o ws
     → is_written (part_of m) ws (record { 0 = i + 1 }) ≡ true
-    → length list + length (others o (replicas m (record { 0 = i + 1 }))) ≤ 112
+    → length list + length (others o (replicas m (record { 0 = i + 1 }))) ≤ PARTICIPANTS
 fits list m o ws i h few e w =
     let row = replicas m (record { 0 = i + 1 }) in
     let rest = taking (part_of m) o ws (i + 1 + 1) (drop (i + 1) m.rows) in

@@ -2,6 +2,7 @@
 use Rattle.std.specs.List.{list_any, range_with_len}
 use Rattle.std.specs.Prelude.{Bool, List, None, Option, Some, [], false, filter, flat_map, length, map, not, slice_get, suc, zero, ℕ, ◌<◌, ◌∷◌, ◌≡◌, ◌≤◌}
 use Rattle.partition_map.specs.declared.rows.Asked.{Asked}
+use Rattle.str_base.specs.declared.limits.TheConstants.{NODES, REPLICAS}
 use Rattle.str_base.specs.declared.names.KeyId.{KeyId}
 use Rattle.str_base.specs.declared.names.NodeId.{NodeId}
 use Rattle.str_base.specs.declared.names.PartId.{PartId}
@@ -49,7 +50,7 @@ Exists n last = (1 ≤ n) × (n ≤ last)
 -- a partition's row: nodes of the scene, one at least, none twice
 pub record IsRow (nodes : ℕ) (row : List NodeId) : Type 0 where
   pub some : 1 ≤ length row
-  pub few : length row ≤ 8
+  pub few : length row ≤ REPLICAS
   pub exist : (i : ℕ) (n : NodeId) → slice_get row i ≡ Some n → Exists n.0 nodes
   pub distinct : (i j : ℕ) (n : NodeId) → slice_get row i ≡ Some n → slice_get row j ≡ Some n → i ≡ j
 
@@ -86,7 +87,7 @@ pub record PartitionMap : Type 0 where
 -- what the type of a map keeps: proper rows, no more of them than a partition can name, and keys of partitions that exist
 pub record IsMap (map : PartitionMap) : Type 0 where
   pub few : length map.rows ≤ 255
-  pub rows : (i : ℕ) (row : List NodeId) → slice_get map.rows i ≡ Some row → IsRow 8 row
+  pub rows : (i : ℕ) (row : List NodeId) → slice_get map.rows i ≡ Some row → IsRow NODES row
   pub keys : (i : ℕ) (part : PartId) → slice_get map.keys i ≡ Some part → Exists part.0 (length map.rows)
 
 -- the key is one of the map

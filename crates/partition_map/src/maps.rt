@@ -1,6 +1,7 @@
 //! The replicas of each partition, and the partition of each key.
 ghost use Rattle.partition_map.specs.Maps.{Exists, HasKey, HasPart, IsMap, IsRow, first_or, has_node, hosts, is_written, others, part_of, participants, replicas, unasked};
 ghost use Rattle.std.specs.Prelude.{◌≡◌, ◌+◌, ◌≤◌, ◌++◌, ◌∷◌, [], ℕ, IfOk, Some, length, map, slice_get};
+ghost use Rattle.str_base.specs.declared.limits.TheConstants.{NODES, OPERATIONS, PARTICIPANTS};
 ghost use Rattle.str_base.specs.declared.names.NodeId.{NodeId as Node};
 ghost use Rattle.str_base.specs.declared.names.Write.{Write as AWrite};
 
@@ -74,7 +75,7 @@ impl PartitionMap {
     pub fn replicas(&self, part: PartId) -> PartRow
         requires { HasPart self.now part }
         ensures value { result ≡ replicas self.now part }
-        ensures proper { IsRow 8 result }
+        ensures proper { IsRow NODES result }
     {
         let row = &self.rows[part.0 as usize - 1];
         row.copy()
@@ -97,7 +98,7 @@ impl PartitionMap {
     fn is_written(&self, writes: &Writes, part: PartId) -> bool
         requires { (i : ℕ) (w : AWrite) → slice_get writes.now i ≡ Some w → HasKey self.now w.key }
         ensures value { result ≡ is_written (part_of self.now) writes.now part }
-        ensures limit { length writes.now ≤ 16 }
+        ensures limit { length writes.now ≤ OPERATIONS }
     {
         for write in writes.as_slice() {
             if self.part_of(write.key) == part {
@@ -110,7 +111,7 @@ impl PartitionMap {
     /// The participants of a transaction with this origin and these writes: the written partitions upwards, and for each
     /// its replicas in order without the origin. None is asked and none has answered.
     pub fn participants(&self, origin: NodeId, writes: &Writes) -> Participants
-        requires origin { Exists origin.0 8 }
+        requires origin { Exists origin.0 NODES }
         requires keys { (i : ℕ) (w : AWrite) → slice_get writes.now i ≡ Some w → HasKey self.now w.key }
         ensures { result ≡ participants self.now origin writes.now }
     {
@@ -127,7 +128,7 @@ impl PartitionMap {
 
 /// Appends the nodes of a row but the origin as participants that are not asked.
 fn push_others(row: &[NodeId], origin: NodeId, part: PartId, list: &mut Participants)
-    requires { length list.old + length (others origin row.now) ≤ 112 }
+    requires { length list.old + length (others origin row.now) ≤ PARTICIPANTS }
     ensures { list.new ≡ list.old ++ map (unasked part) (others origin row.now) }
 {
     for node in row {

@@ -2,7 +2,7 @@
 use Rattle.std.proofs.Common.{Bool, List, None, Option, Some, [], ap, false, find, if◌then◌else◌, map, max, not, refl, sym, true, ℕ, ◌&&◌, ◌++◌, ◌+◌, ◌∙◌, ◌∷◌, ◌≡◌, ◌||◌}
 use Rattle.std.specs.List.{last_or, list_any}
 use Rattle.partition_map.specs.Maps.{PartitionMap, first_or, leads, replicas}
-use Rattle.prepare_master.specs.MasterTurns.{IsAt, IsBeside, Shows, by_reasons, is_fresh, judged, proposal, to_pass}
+use Rattle.prepare_master.specs.MasterTurns.{IsAt, IsBeside, ShowsReplica, by_reasons, is_fresh, judged, proposal, to_pass}
 use Rattle.replica_store.proofs.Merging.{merged_unseen}
 use Rattle.str_base.specs.declared.names.KeyId.{KeyId}
 use Rattle.str_base.specs.declared.names.NodeId.{NodeId}
@@ -94,7 +94,7 @@ judged_by view a = by_refusal (find (refuses a) (met a.writes view.versions))
     by_refusal None = by_park (find (parks a) (met a.writes view.versions))
     by_refusal (Some v) = refl
 
-module _ (view : View) (a : Arrived) (vs : List Version) (marks : List ℕ) (s : Shows view a vs marks) where
+module _ (view : View) (a : Arrived) (vs : List Version) (marks : List ℕ) (s : ShowsReplica view a vs marks) where
   pub unwritten : Each (IsUnwritten a.writes) s.cache
   unwritten = each_so (IsBeside a) (IsUnwritten a.writes) s.cache (λ v h. h.1) s.beside
 
@@ -143,7 +143,7 @@ not_false true e = refl
 not_false false e = absurd cc
 
 module _ (here : Here) (node : NodeId) (map : PartitionMap) (view : View) (a : Arrived) (vs : List Version) (marks : List ℕ) (done : List (TxId × PartId)) (ws : List Waiter)
-    (at : IsAt here node map) (s : Shows view a vs marks) (d : view.done ≡ done) (w : view.waiters ≡ ws) where
+    (at : IsAt here node map) (s : ShowsReplica view a vs marks) (d : view.done ≡ done) (w : view.waiters ≡ ws) where
   -- the view has it as new where the lists do
   shown_new : is_fresh (map_of here.scene) here.node view.versions view.done view.waiters a ≡ is_fresh map node vs done ws a
   shown_new =

@@ -54,7 +54,7 @@ abbrev pub IsBeside : Arrived → Version → Type 0
 IsBeside a v = (same_part v.part a.part ≡ false) × (list_any (λ w. same_key v.key w.key) a.writes ≡ false)
 
 -- a view of which these versions and marks are a part: all other versions are beside what arrived
-pub record Shows (view : View) (a : Arrived) (vs : List Version) (ms : List ℕ) : Type 0 where
+pub record ShowsReplica (view : View) (a : Arrived) (vs : List Version) (ms : List ℕ) : Type 0 where
   pub cache : List Version
   pub versions : view.versions ≡ merged cache vs
   pub beside : Each (IsBeside a) cache

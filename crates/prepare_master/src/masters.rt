@@ -1,7 +1,7 @@
 //! A Prepare is refused, parked, accepted or left alone.
 ghost use Rattle.std.specs.Prelude.{◌≡◌, ◌∷◌, [], ℕ, IfOk, List, false, find, length, true};
 ghost use Rattle.partition_map.specs.Maps.{HasPart, leads, replicas};
-ghost use Rattle.prepare_master.specs.MasterTurns.{HaveMarks, IsAt, IsJudged, Shows, first_reason, gives, is_fresh, judged, turn_of};
+ghost use Rattle.prepare_master.specs.MasterTurns.{HaveMarks, IsAt, IsJudged, ShowsReplica, first_reason, gives, is_fresh, judged, turn_of};
 ghost use Rattle.str_base.specs.Versions.{chain};
 ghost use Rattle.str_model.specs.Proposals.{master_turn, prepare_turn};
 ghost use Rattle.str_model.specs.Views.{View};
@@ -136,7 +136,7 @@ pub fn prepare(
 ) -> MasterTurn
     requires part { HasPart map.now a.now.part }
     requires keys { HaveMarks a.now.writes marks.now }
-    ensures turn { (here : Here) (view : View) → IsAt here node map.now → Shows view a.now store.now.versions marks.now → view.done ≡ done.now.pairs → view.waiters ≡ parked.now.waiters → turn_of result ≡ prepare_turn here view a.now }
+    ensures turn { (here : Here) (view : View) → IsAt here node map.now → ShowsReplica view a.now store.now.versions marks.now → view.done ≡ done.now.pairs → view.waiters ≡ parked.now.waiters → turn_of result ≡ prepare_turn here view a.now }
     ensures causes { IsJudged (is_fresh map.now node store.now.versions done.now.pairs parked.now.waiters a.now) a.now store.now.versions marks.now (turn_of result) }
 {
     if is_new(a, node, store, done, parked, map) {
@@ -156,7 +156,7 @@ pub fn retry(
     map: &PartitionMap,
 ) -> MasterTurn
     requires keys { HaveMarks a.now.writes marks.now }
-    ensures turn { (view : View) → Shows view a.now store.now.versions marks.now → turn_of result ≡ master_turn view a.now }
+    ensures turn { (view : View) → ShowsReplica view a.now store.now.versions marks.now → turn_of result ≡ master_turn view a.now }
     ensures causes { IsJudged true a.now store.now.versions marks.now (turn_of result) }
 {
     judge(a, store, marks)

@@ -3,7 +3,7 @@ use Rattle.std.proofs.Common.{Bool, List, None, Some, [], ap, filter, if◌then�
 use Rattle.std.specs.List.{last_or, list_any}
 use Rattle.partition_map.specs.Maps
 use Rattle.partition_map.specs.Maps.{PartitionMap, leads, replicas}
-use Rattle.prepare_master.specs.MasterTurns.{IsAt, Shows, proposal, to_pass}
+use Rattle.prepare_master.specs.MasterTurns.{IsAt, ShowsReplica, proposal, to_pass}
 use Rattle.prepare_master.proofs.Showing.{IsUnwritten, chain_alone, first_key, other_keys, shown_pair, unwritten}
 use Rattle.replica_apply.specs.Slaves.{evicted_to, evicts, is_local_of, is_taken, named}
 use Rattle.replica_apply.proofs.Holding.{any_chain}
@@ -45,7 +45,7 @@ evicted_alone node ws cache vs (suc n) e =
     ap (λ es. es ++ evicts (suc n) (held_key (merged cache vs) (named node (suc n)) ws)) (evicted_alone node ws cache vs n e)
     ∙ ap (λ o. evicted_to node vs ws n ++ evicts (suc n) o) (held_alone (named node (suc n)) ws cache vs e)
 
-module _ (view : View) (a : Arrived) (vs : List Version) (marks : List ℕ) (s : Shows view a vs marks) where
+module _ (view : View) (a : Arrived) (vs : List Version) (marks : List ℕ) (s : ShowsReplica view a vs marks) where
   -- whom it evicts
   pub shown_evicted : (node : NodeId) (n : ℕ) → evicted_to node view.versions a.writes n ≡ evicted_to node vs a.writes n
   shown_evicted node n = ap (λ us. evicted_to node us a.writes n) s.versions ∙ evicted_alone node a.writes s.cache vs n (unwritten view a vs marks s)

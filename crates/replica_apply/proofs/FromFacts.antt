@@ -17,19 +17,21 @@ use Rattle.replica_apply.specs.Changes.{AreMarked, CanInsert}
 use Rattle.replica_apply.specs.Slaves.{HeldByOpen, locals_to}
 use Rattle.str_base.specs.Versions.{insert_version, of_pair, same_key, same_part, same_tx}
 use Rattle.str_model.specs.Acts.{pre_version}
-use Rattle.str_model.specs.NodeFacts.{AreDistinct, In, MomentFacts}
+use Rattle.str_model.specs.NodeFacts.{AreDistinct, MomentFacts}
 use Rattle.str_model.specs.Strange.{below_limit, distinct_keys, has_key, has_node, has_part, keys_in}
 use Rattle.str_model.specs.Views.{View}
 use Rattle.str_scene.specs.SceneLimits.{IsScene}
 use Rattle.str_scene.specs.Scenes.{Here, hosts, part_of}
-use Rattle.str_model.proofs.Changes.SnapshotsGain.{and_left, and_right}
-use Rattle.str_model.proofs.Lists.Members.{in_at, in_insert, map_in}
 use Rattle.str_model.proofs.Room.SmallNumbers.{locals_few}
 use Rattle.str_model.proofs.ViewFacts.NodeUses.{have_marks, held_open, is_beside, none_of_key}
-use Rattle.str_model.proofs.Changes.PairWords.{has_at, not_both, pair-is}
-use Rattle.str_model.proofs.ViewFacts.ValidMessages.{NamedWrites, all_in, came_named}
+use Rattle.str_model.proofs.Changes.PairWords.{pair-is}
+use Rattle.str_model.proofs.ViewFacts.ValidMessages.{NamedWrites, came_named}
 use Rattle.str_model.proofs.Principle.SingleChanges.{Comes}
 use Rattle.version_chain.specs.ChainLists.{Apart, Each}
+use Rattle.std.proofs.lemmas.Bool.{false_from_ne_true}
+use Rattle.str_base.proofs.Members.{all_in, any_in, in_at, in_insert, map_in}
+use Rattle.str_base.proofs.Tests.{and_true_left, and_true_right}
+use Rattle.str_base.specs.Members.{In}
 
 module _ (here : Here) (v : View) (h : MomentFacts here v) where
   -- who is evicted is an undecided own transaction
@@ -63,8 +65,8 @@ each-apart a ts w (u ∷ vs) f =
 -- a write and those after it are of different keys
 other-key : (w : Write) (ws : List Write) → AreDistinct (w ∷ ws) → (z : Write) → In z ws → same_key w.key z.key ≡ true → ⊥
 other-key w ws d z j e =
-    let a = has_at (same_key w.key) (map (λ (u : Write). u.key) ws) z.key (map_in (λ (u : Write). u.key) ws z j) e in
-    let b = and_left (not (list_any (same_key w.key) (map (λ (u : Write). u.key) ws))) (distinct_keys (map (λ (u : Write). u.key) ws)) d in
+    let a = any_in (same_key w.key) (map (λ (u : Write). u.key) ws) z.key (map_in (λ (u : Write). u.key) ws z j) e in
+    let b = and_true_left (not (list_any (same_key w.key) (map (λ (u : Write). u.key) ws))) (distinct_keys (map (λ (u : Write). u.key) ws)) d in
     cc (ap not a, b)
 
 can-insert : (a : Arrived) (ts : ℕ) (ws : List Write) (vs : List Version) → AreDistinct ws → ((u : Version) → In u vs → (w : Write) → In w ws → same_tx u.tx a.tx ≡ true → same_key u.key w.key ≡ true → ⊥)
@@ -72,7 +74,7 @@ can-insert : (a : Arrived) (ts : ℕ) (ws : List Write) (vs : List Version) → 
 can-insert a ts [] vs d f = tt
 can-insert a ts (w ∷ ws) vs d f = (
   each-apart a ts w vs (λ u j t k. f u j w (inl refl) t k),
-  can-insert a ts ws (insert_version (pre_version a ts w) vs) (and_right (not (list_any (same_key w.key) (map (λ (u : Write). u.key) ws))) (distinct_keys (map (λ (u : Write). u.key) ws)) d)
+  can-insert a ts ws (insert_version (pre_version a ts w) vs) (and_true_right (not (list_any (same_key w.key) (map (λ (u : Write). u.key) ws))) (distinct_keys (map (λ (u : Write). u.key) ws)) d)
       (λ u j z m t k. elim (in_insert (pre_version a ts w) vs u j) [ inl e ↦ other-key w ws d z m (ap (λ (q : Version). same_key q.key z.key) e ∙ k) | inr i ↦ f u i z (inr m) t k ]),
 )
 
@@ -106,7 +108,7 @@ pub cache_other : (here : Here) (tx : TxId) (p : PartId) → hosts here.scene he
     → Each (λ u. of_pair tx p u ≡ false) cache
 cache_other here tx p hs [] f = tt
 cache_other here tx p hs (u ∷ us) f = (
-  not_both (of_pair tx p u) (λ e. let q : u.part ≡ p = (pair-is tx p u e).1 in cc (sym (f u (inl refl)) ∙ ap (λ z. hosts here.scene here.node z) q, hs)),
+  false_from_ne_true (of_pair tx p u) (λ e. let q : u.part ≡ p = (pair-is tx p u e).1 in cc (sym (f u (inl refl)) ∙ ap (λ z. hosts here.scene here.node z) q, hs)),
   cache_other here tx p hs us (λ z k. f z (inr k)),
 )
 
@@ -114,10 +116,10 @@ cache_other here tx p hs (u ∷ us) f = (
 pub marks_there : (here : Here) (v : View) → MomentFacts here v → (input : Input) (from : NodeId) (tx : TxId) (p : PartId) (fc : Ts) (ms : List KeyMark) → Comes here input from (Commit tx p fc ms) → AreMarked ms v.marks
 marks_there here v h input from tx p fc ms c i m e =
     let n = came_named here input from (Commit tx p fc ms) c in
-    let a = and_right (has_node here tx.node) _ n in
-    let b = and_right (has_part here p) _ a in
-    let d = and_right (below_limit fc) _ b in
-    let k = and_left (keys_in here p (map (λ (z : KeyMark). z.key) ms)) _ d in
-    let l = and_right (distinct_keys (map (λ (z : KeyMark). z.key) ms)) _ k in
+    let a = and_true_right (has_node here tx.node) _ n in
+    let b = and_true_right (has_part here p) _ a in
+    let d = and_true_right (below_limit fc) _ b in
+    let k = and_true_left (keys_in here p (map (λ (z : KeyMark). z.key) ms)) _ d in
+    let l = and_true_right (distinct_keys (map (λ (z : KeyMark). z.key) ms)) _ k in
     let q = all_in (λ (z : KeyId). has_key here z && same_part (part_of here.scene z) p) (map (λ (z : KeyMark). z.key) ms) m.key l (map_in (λ (z : KeyMark). z.key) ms m (in_at ms i m e)) in
-    have_marks here v h m.key (and_left (has_key here m.key) (same_part (part_of here.scene m.key) p) q)
+    have_marks here v h m.key (and_true_left (has_key here m.key) (same_part (part_of here.scene m.key) p) q)

@@ -1,7 +1,7 @@
 -- What a view that shows the store becomes where versions are placed.
 use Rattle.std.proofs.Common.{List, [], ap, drop, eq-eqb, false, length, map, sym, true, ℕ, ◌∙◌, ◌∷◌, ◌≡◌, ◌≤◌}
 use Rattle.std.proofs.lemmas.List.{drop_all}
-use Rattle.prepare_master.specs.MasterTurns.{Shows}
+use Rattle.prepare_master.specs.MasterTurns.{ShowsReplica}
 use Rattle.prepare_master.proofs.Showing.{IsUnwritten, first_key, other_keys, unwritten}
 use Rattle.replica_apply.specs.Changes.{with_versions}
 use Rattle.replica_store.proofs.MergedChanges.{insert_all_in_store}
@@ -29,7 +29,7 @@ placed_apart a ts (w ∷ ws) cache e =
 pub all_placed : (f : Write → Version) (items : List Write) (i : ℕ) (us vs : List Version) → length items ≤ i → insert_all (map f (drop i items)) us ≡ vs → us ≡ vs
 all_placed f items i us vs l e = ap (λ ws. insert_all (map f ws) us) (sym (drop_all i items l)) ∙ e
 
-pub placed_shown : (a : Arrived) (ts : ℕ) (d : Doing) (vs us : List Version) (marks : List ℕ) (s : Shows d.view a vs marks) → us ≡ insert_all (map (pre_version a ts) a.writes) vs
+pub placed_shown : (a : Arrived) (ts : ℕ) (d : Doing) (vs us : List Version) (marks : List ℕ) (s : ShowsReplica d.view a vs marks) → us ≡ insert_all (map (pre_version a ts) a.writes) vs
     → (placed a ts d).view ≡ with_versions d.view (merged s.cache us)
 placed_shown a ts d vs us marks s q =
     ap (λ xs. with_versions d.view xs)

@@ -93,7 +93,7 @@ IsNext node vs ws after e = (after < e.seq) × (evicted_to node vs ws e.seq ≡ 
 
 -- what a Replicate comes to: a new one is taken with these evictions where the timestamp after them is below the limit; all else is
 -- left alone
-pub record IsDecided (new : Bool) (node : NodeId) (vs : List Version) (marks : List ℕ) (a : Arrived) (es : List Evicted) (turn : SlaveTurn) : Type 0 where
+pub record IsSlaveTurn (new : Bool) (node : NodeId) (vs : List Version) (marks : List ℕ) (a : Arrived) (es : List Evicted) (turn : SlaveTurn) : Type 0 where
   pub taken : taken_at turn ≡ (if new then after_evictions node vs marks a es else None)
   pub evicted : evicted_by turn ≡ (if is_some (taken_at turn) then es else [])
 

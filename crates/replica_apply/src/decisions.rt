@@ -1,6 +1,6 @@
 //! Versions are placed, committed and taken out.
 ghost use Rattle.std.specs.Prelude.{◌≡◌, ◌<◌, ◌≤◌, ◌+◌, ◌∷◌, [], ℕ, List, false, length, map, not, true};
-ghost use Rattle.prepare_master.specs.MasterTurns.{Shows};
+ghost use Rattle.prepare_master.specs.MasterTurns.{ShowsReplica};
 ghost use Rattle.replica_apply.specs.Changes.{AreMarked, Becomes, CanInsert, IsAdded, Rests, was_done, with_parts, with_versions};
 ghost use Rattle.replica_store.specs.StoreLists.{StaysHere};
 ghost use Rattle.str_base.specs.declared.names.Write.{Write as AWrite};
@@ -38,7 +38,7 @@ pub fn place(store: &mut ReplicaStore, a: &Arrived, ts: Ts)
     ensures versions { store.new.versions ≡ insert_all (map (pre_version_of a.now ts.0) a.now.writes) store.old.versions }
     ensures here { StaysHere store.old store.new }
     ensures spare { store.old.spare ≤ store.new.spare + length a.now.writes }
-    ensures view { (d : Doing) (marks : List ℕ) (s : Shows d.view a.now store.old.versions marks) → (placed a.now ts.0 d).view ≡ with_versions d.view (merged s.cache store.new.versions) }
+    ensures view { (d : Doing) (marks : List ℕ) (s : ShowsReplica d.view a.now store.old.versions marks) → (placed a.now ts.0 d).view ≡ with_versions d.view (merged s.cache store.new.versions) }
 {
     for write in a.writes.as_slice() {
         store.insert(pre_version(a, ts, *write));

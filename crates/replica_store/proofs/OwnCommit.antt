@@ -6,15 +6,16 @@ use Rattle.str_base.specs.declared.names.TxId.{TxId}
 use Rattle.str_base.specs.declared.names.Version.{Version}
 use Rattle.str_base.specs.Versions.{finalise, insert_all, is_before, of_pair, of_tx, same_part, settled, without}
 use Rattle.str_model.specs.Acts.{decided_versions, is_hosted_of}
-use Rattle.str_model.specs.NodeFacts.{In}
 use Rattle.str_scene.specs.Scenes.{Here, hosts}
-use Rattle.str_model.proofs.Changes.SnapshotsGain.{and_left, and_right}
-use Rattle.str_model.proofs.Changes.VersionsMet.{filter_in}
-use Rattle.str_model.proofs.Lists.Members.{in_all_new, in_all_old, in_filter, in_insert_all, in_map, map_in}
-use Rattle.str_model.proofs.Changes.PairWords.{keep_without, not_both, pair-is, same_part-is}
+use Rattle.str_model.proofs.Changes.PairWords.{keep_without, pair-is}
 use Rattle.version_chain.specs.ChainLists.{Apart, Each, IsOrdered, Precedes}
 use Rattle.version_chain.proofs.Keeping.{ordered_finalise}
 use Rattle.version_chain.proofs.Ordered.{before_one, not_before_self}
+use Rattle.std.proofs.lemmas.Bool.{false_from_ne_true}
+use Rattle.str_base.proofs.SameNames.{same_part-is}
+use Rattle.str_base.proofs.Tests.{and_true_left, and_true_right}
+use Rattle.str_base.proofs.Members.{filter_in, in_all_new, in_all_old, in_filter, in_insert_all, in_map, map_in}
+use Rattle.str_base.specs.Members.{In}
 
 -- ---- lists in order with the same members are one
 

@@ -7,10 +7,10 @@ pub mod KeyWords
 pub mod NumbersRead
 pub mod Numerals
 pub mod PartRows
-mod LinesSpelled
+pub mod LinesSpelled
 pub mod PartedBytes
-mod LinesSplit
-mod NumberTests
-mod TextsApart
+pub mod LinesSplit
+pub mod NumberTests
+pub mod TextsApart
 pub mod FirstWords
 pub mod TextParts

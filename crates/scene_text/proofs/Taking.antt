@@ -1,22 +1,22 @@
 -- How the lines of a text build a scene, one after the other.
 -- Each line that is taken keeps the limits, and adds itself to the lines that stand.
 
-mod LinesComplete
-mod LedToEnd
-mod EntryLines
-mod Finished
-mod TableNumbers
-mod TableGrows
-mod HeadLines
-mod BuildCalls
-mod StatesKept
-mod TransactionLines
-mod OperationLines
-mod LinesInOrder
-mod SectionLines
-mod SessionLines
-mod TransactionEnds
-mod LinesTaken
-mod TableRoom
-mod WholeDrafts
-mod WiderLimits
+pub mod LinesComplete
+pub mod LedToEnd
+pub mod EntryLines
+pub mod Finished
+pub mod TableNumbers
+pub mod TableGrows
+pub mod HeadLines
+pub mod BuildCalls
+pub mod StatesKept
+pub mod TransactionLines
+pub mod OperationLines
+pub mod LinesInOrder
+pub mod SectionLines
+pub mod SessionLines
+pub mod TransactionEnds
+pub mod LinesTaken
+pub mod TableRoom
+pub mod WholeDrafts
+pub mod WiderLimits

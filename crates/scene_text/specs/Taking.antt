@@ -14,7 +14,7 @@ use Rattle.str_scene.specs.declared.faults.Why.TheVariants.{Count, Form, Range}
 use Rattle.str_scene.specs.declared.names.Event.TheVariants.{Client, Deliver}
 use Rattle.str_scene.specs.declared.names.Op.{Op}
 use Rattle.str_scene.specs.declared.names.Op.TheVariants.{Abort, Add, Del, Get, Need, Put, Puts}
-use Rattle.str_scene.specs.Drafts.{drained, empty_draft, with_entry, with_key, with_nodes, with_row, with_session, with_text, with_tx}
+use Rattle.str_scene.specs.Drafts.{with_drain, empty_draft, with_entry, with_key, with_nodes, with_row, with_session, with_text, with_tx}
 use Rattle.str_scene.specs.Keys.{place_of, string_place}
 use Rattle.str_scene.specs.Scenes.{Scene, Session}
 
@@ -154,7 +154,7 @@ after place s LAbort = record { place = place; draft = s.draft; ops = s.ops ++ A
 after place s LSchedule = closed place (settled s)
 after place s (LClient c t) = drafted place (with_entry (Client c t) s.draft) s
 after place s (LDeliver i) = drafted place (with_entry (Deliver i) s.draft) s
-after place s LDrain = drafted place (drained s.draft) s
+after place s LDrain = drafted place (with_drain s.draft) s
 after place s LEnd = drafted place s.draft s
 
 -- a line that may stand here, with numbers in range or not, and with room for it or not

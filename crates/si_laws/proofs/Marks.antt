@@ -2,6 +2,7 @@
 -- At home, at the master that replied, and with the commit of whom it read from.
 
 pub mod HomeMarks
+pub mod ReadsAtMasters
 pub mod ReplyMarks
 pub mod DoneMarks
 pub mod MarksSent

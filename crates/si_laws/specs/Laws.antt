@@ -11,4 +11,5 @@ pub mod Apart
 pub mod Prefix
 pub mod Isolation
 pub mod Reasons
+pub mod Answers
 pub mod Cut

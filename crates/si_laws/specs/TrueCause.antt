@@ -1,10 +1,11 @@
 -- True causes: each abort names what really made it.
-use Rattle.std.specs.Prelude.{List, Option, Some, [], slice_get, true, ℕ, ℤ, ◌++◌, ◌+◌, ◌<◌, ◌≡◌, ◌≢◌, ◌⊎◌}
+use Rattle.std.specs.Prelude.{List, None, Option, Some, [], slice_get, true, ℕ, ℤ, ◌++◌, ◌+◌, ◌<◌, ◌≡◌, ◌≢◌, ◌⊎◌}
 use Rattle.str_base.specs.declared.names.Cause.{Cause}
 use Rattle.str_base.specs.declared.names.Cause.TheVariants.{Conflict, Late, Lost, Wish}
 use Rattle.str_base.specs.declared.names.KeyId.{KeyId}
 use Rattle.str_base.specs.declared.names.Kind.TheVariants.{Final, Local as LocalKind, Pre}
 use Rattle.str_base.specs.declared.names.NodeId.{NodeId}
+use Rattle.str_scene.specs.declared.names.Op.{Op}
 use Rattle.str_scene.specs.declared.names.Op.TheVariants.{Abort, Need}
 use Rattle.str_base.specs.declared.names.TxId.{TxId}
 use Rattle.str_base.specs.declared.names.Value.{Value}
@@ -12,7 +13,7 @@ use Rattle.str_base.specs.declared.names.Version.{Version}
 use Rattle.str_base.specs.declared.names.Write.{Write}
 use Rattle.str_model.specs.declared.messages.Body.{Body}
 use Rattle.str_model.specs.declared.messages.Body.TheVariants.{Refuse, Replicate}
-use Rattle.str_model.specs.declared.messages.Input.TheVariants.{Deliver}
+use Rattle.str_model.specs.declared.messages.Input.TheVariants.{Client, Deliver}
 use Rattle.str_model.specs.declared.messages.Message.{Message}
 use Rattle.str_model.specs.Runs.{World}
 use Rattle.str_scene.specs.Scenes.{Scene, is_master, nth, part_of}
@@ -20,7 +21,7 @@ use Rattle.str_model.specs.Scripts.{known, own_op}
 use Rattle.si_laws.specs.Standing.{Begun, DependsOn, IsAborted, IsCommitted, IsOpen, Wrote}
 use Rattle.str_model.specs.Traces.{Happening, MomentAt}
 use Rattle.str_base.specs.Values.{is_below}
-use Rattle.str_model.specs.Views.{Aborted, Closing, Doing, Own, View}
+use Rattle.str_model.specs.Views.{Aborted, Active, CertWait, Closing, Doing, Own, View}
 
 -- between two moments of event j the transaction t aborts: it stood like x at the first one, d
 pub record AbortsAt (tr : List Happening) (j : ℕ) (t : TxId) (d : Doing) (x : Own) (cause : Cause) : Type 0 where
@@ -39,13 +40,27 @@ pub record AbortsAt (tr : List Happening) (j : ℕ) (t : TxId) (d : Doing) (x : 
 abbrev pub Delivered : List Happening → ℕ → Message → Type 0
 Delivered tr j m = (h : Happening) × (slice_get tr j ≡ Some h) × (h.input ≡ Some (Deliver m))
 
+-- the event is a client step of the transaction's session
+abbrev pub IsStepOf : List Happening → ℕ → Own → Type 0
+IsStepOf tr j x = (h : Happening) × (t : ℕ) × (slice_get tr j ≡ Some h) × (h.input ≡ Some (Client x.place.session t))
+
+-- the transaction's next operation
+abbrev pub next_op : Scene → TxId → Own → Option Op
+next_op scene t x = own_op (record { scene = scene; node = t.node }) x
+
+-- it is to be certified: a step of its session finds its script at its end and has writes, or it waits for certification
+pub data AsksToCommit (scene : Scene) (tr : List Happening) (j : ℕ) (t : TxId) (x : Own) : Type 0 where
+  at_end : IsStepOf tr j x → x.phase ≡ Active → next_op scene t x ≡ None → x.writes ≢ [] → AsksToCommit scene tr j t x
+  waiting : x.phase ≡ CertWait → AsksToCommit scene tr j t x
+
 -- a version of the key by the transaction
 abbrev pub HasVersion : View → TxId → KeyId → Version → Type 0
 HasVersion v u k q = (i : ℕ) × (slice_get v.versions i ≡ Some q) × (q.tx ≡ u) × (q.key ≡ k)
 
--- found at home: at the certification the other's version stood there, Pre or above the snapshot
-abbrev pub FoundAtHome : Doing → Own → TxId → KeyId → Type 0
-FoundAtHome d x u k = (q : Version) × HasVersion d.view u k q × ((q.kind ≡ Pre) ⊎ (x.snap.rs < q.ts.0))
+-- found at home: at the moment at which it was to be certified the other's version stood there, Pre or above its snapshot
+abbrev pub FoundAtHome : Scene → List Happening → ℕ → TxId → Doing → Own → TxId → KeyId → Type 0
+FoundAtHome scene tr j t d x u k =
+    AsksToCommit scene tr j t x × ((q : Version) × HasVersion d.view u k q × ((q.kind ≡ Pre) ⊎ (x.snap.rs < q.ts.0)))
 
 -- the body is a Replicate of u with the key
 abbrev pub Brings : Body → TxId → KeyId → Type 0
@@ -96,7 +111,7 @@ BothWrote w x u k = Wrote x k × (y : Own) × Begun w u y × Wrote y k
 abbrev pub TrueConflict : Scene → World → List Happening → ℕ → TxId → Doing → Own → TxId → KeyId → NodeId → Type 0
 TrueConflict scene w tr j t d x u k n =
     BothWrote w x u k
-    × ((((n ≡ t.node) × FoundAtHome d x u k) ⊎ ((n ≡ t.node) × Evicted tr j d t u k)) ⊎ RefusedBy scene tr j t x u k n)
+    × ((((n ≡ t.node) × FoundAtHome scene tr j t d x u k) ⊎ ((n ≡ t.node) × Evicted tr j d t u k)) ⊎ RefusedBy scene tr j t x u k n)
 
 -- at this moment the transaction depended on u, which stood like y
 abbrev pub DependedOn : Doing → TxId → Own → TxId → Own → Type 0
@@ -106,12 +121,12 @@ DependedOn d t x u y = DependsOn t.node x u × (nth d.view.own u.seq ≡ Some y)
 abbrev pub HasUnmet : Scene → TxId → Own → Type 0
 HasUnmet scene t x =
     (k : KeyId) × (n : ℤ) × (v : Value)
-    × (own_op (record { scene = scene; node = t.node }) x ≡ Some (Need k n)) × (known x k ≡ Some v) × (is_below v n ≡ true)
+    × (next_op scene t x ≡ Some (Need k n)) × (known x k ≡ Some v) × (is_below v n ≡ true)
 
--- a wish: the script stands at an abort, or at a need that is not met and no dependency is left
-abbrev pub TrueWish : Scene → TxId → Own → Type 0
-TrueWish scene t x =
-    (own_op (record { scene = scene; node = t.node }) x ≡ Some Abort)
+-- a wish: a step of its session finds an abort next, or its script stands at a need that is not met and no dependency is left
+abbrev pub TrueWish : Scene → List Happening → ℕ → TxId → Own → Type 0
+TrueWish scene tr j t x =
+    (IsStepOf tr j x × (x.phase ≡ Active) × (next_op scene t x ≡ Some Abort))
     ⊎ ((x.phase ≡ Closing true) × (x.snap.deps ≡ []) × HasUnmet scene t x)
 
 -- the cause is what really happened
@@ -119,7 +134,7 @@ abbrev pub IsTrue : Scene → World → List Happening → ℕ → TxId → Doin
 IsTrue scene w tr j t d x (Conflict u k n) = TrueConflict scene w tr j t d x u k n
 IsTrue scene w tr j t d x (Lost u) = (y : Own) × DependedOn d t x u y × IsAborted y
 IsTrue scene w tr j t d x (Late u fc) = (y : Own) × DependedOn d t x u y × IsCommitted y fc.0 × (x.snap.rs < fc.0)
-IsTrue scene w tr j t d x Wish = TrueWish scene t x
+IsTrue scene w tr j t d x Wish = TrueWish scene tr j t x
 
 -- each abort of a run has the cause that its answer names
 abbrev pub TrueCause : Scene → World → List Happening → Type 0

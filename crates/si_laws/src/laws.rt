@@ -4,6 +4,7 @@ ghost use Rattle.si_laws.specs.Laws.Lasting.{AnswersGrow, DecidedStay};
 ghost use Rattle.si_laws.specs.Laws.Cut.{CutHolds};
 ghost use Rattle.si_laws.specs.Laws.Asking.{PresAsked};
 ghost use Rattle.si_laws.specs.Laws.Session.{SessionHolds};
+ghost use Rattle.si_laws.specs.Laws.Answers.{AbortsAnsweredHold, CommitsAnsweredHold};
 ghost use Rattle.si_laws.specs.Laws.Reasons.{CausesNamed, GateLawHolds, ReasonsHold};
 ghost use Rattle.si_laws.specs.Laws.Stages.{AcksKnown, StagesForward};
 ghost use Rattle.si_laws.specs.Laws.Presence.{PresenceHolds, PresenceStands};
@@ -99,6 +100,16 @@ pub fn presence_holds()
 /// partition, a dependency that aborted or came too late, or a wish of the script.
 pub fn reasons_hold()
     ensures { ReasonsHold }
+{}
+
+/// Each answer of an abort was given where its transaction aborted by the cause that the answer names, and the cause is true.
+pub fn aborts_answered()
+    ensures { AbortsAnsweredHold }
+{}
+
+/// Each answer of a commit was given where its transaction committed with that final timestamp, and its gets had given what the answer tells.
+pub fn commits_answered()
+    ensures { CommitsAnsweredHold }
 {}
 
 /// Who has read a key has left its mark: at its own node, and at the master that replied; and where it has read from a transaction that was

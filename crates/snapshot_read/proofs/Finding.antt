@@ -1,26 +1,29 @@
--- The turns of a read by what the stores give.
-use Rattle.std.proofs.Common.{Bool, List, None, Option, Some, [], ap, false, filter, leb-true, nat_le, subst, sym, true, ℕ, ◌&&◌, ◌∙◌, ◌∷◌, ◌≡◌, ◌≤◌}
+-- What a read comes to by what the stores give, and that a node's view says the same.
+use Rattle.std.proofs.Common.{Bool, List, None, Option, Some, [], ap, false, filter, if◌then◌else◌, leb-true, nat_le, refl, subst, sym, true, ℕ, ◌&&◌, ◌∙◌, ◌∷◌, ◌≡◌, ◌≤◌}
 use Rattle.std.specs.List.{last_or}
 use Rattle.cache_partition.specs.CacheLists.{CacheList, IsCache}
 use Rattle.dependency_set.specs.declared.snaps.OwnSnap.{OwnSnap}
-use Rattle.dependency_set.specs.Snapshots.{Snap}
+use Rattle.dependency_set.specs.Snapshots.{Snap, accept_final}
 use Rattle.partition_map.specs.Maps as maps
 use Rattle.replica_store.specs.StoreLists.{IsStore, StoreList}
-use Rattle.snapshot_read.proofs.Reading.{read_away, read_pre, read_seen, read_unseen}
-use Rattle.snapshot_read.proofs.Seeing.{hosted, hosted_here, master_here, pre_seen, visible_seen}
-use Rattle.snapshot_read.specs.declared.reads.ReadTurn.{ReadTurn}
-use Rattle.snapshot_read.specs.Shown.{Agree, AreTold, IsTold, Shows, StandAt, of_key}
-use Rattle.snapshot_read.specs.Turning.{turn_of}
+use Rattle.snapshot_read.proofs.Gating.{gated_here}
+use Rattle.snapshot_read.proofs.Reading.{taken_here}
+use Rattle.snapshot_read.proofs.Seeing.{hosted_here, master_here, pre_seen, visible_seen}
+use Rattle.snapshot_read.specs.ListReads.{gated_at, kind_read, list_read, read_after, visible_read}
+use Rattle.snapshot_read.specs.Shown.{Agree, AreTold, IsNamed, IsTold, Shows, StandAt, held, of_key, taken_over, told}
 use Rattle.str_base.specs.declared.names.KeyId.{KeyId}
+use Rattle.str_base.specs.declared.names.Kind.{Kind}
+use Rattle.str_base.specs.declared.names.Kind.TheVariants.{Final, Local, Pre}
 use Rattle.str_base.specs.declared.names.NodeId.{NodeId}
 use Rattle.str_base.specs.declared.names.PartId.{PartId}
 use Rattle.str_base.specs.declared.names.Ts.{Ts}
 use Rattle.str_base.specs.declared.names.Value.TheVariants.{Absent}
 use Rattle.str_base.specs.declared.names.Version.{Version}
-use Rattle.str_base.specs.Versions.{last_pre, same_key, stamp, visible}
-use Rattle.str_model.specs.Turns.{Away, Plain, Wait, gated, read_kind, read_turn}
+use Rattle.str_base.specs.Versions.{is_local, last_pre, same_key, stamp, visible}
+use Rattle.str_model.specs.Turns
+use Rattle.str_model.specs.Turns.{Away, Plain, ReadTurn, Speculative, Wait, gated, read_kind, read_turn, read_visible}
 use Rattle.str_model.specs.Views.{Own, View}
-use Rattle.str_scene.specs.Scenes.{Here, first_or}
+use Rattle.str_scene.specs.Scenes.{Here, first_or, hosts_key}
 use Rattle.version_chain.proofs.Each.{each_filter}
 use Rattle.version_chain.specs.ChainLists.{Each}
 
@@ -55,43 +58,103 @@ visible_told own rs b store cache k t v a e q =
     let same : t.0 ≡ rs = ap (λ (u : Ts). u.0) e in
     (one.0, rw (← same) one.1)
 
--- the answer of the map is that of the key
-pub hosted_is : (map : maps.PartitionMap) (node : NodeId) (part : PartId) (k : KeyId) (b : Bool) → b ≡ maps.hosts map node part → part ≡ maps.part_of map k → maps.hosts map node (maps.part_of map k) ≡ b
-hosted_is map node part k b e f = sym (e ∙ ap (λ p. maps.hosts map node p) f)
-
 -- ---- by what the stores give
 
-module _ (here : Here) (view : View) (node : NodeId) (own : List OwnSnap) (store : StoreList) (cache : CacheList) (map : maps.PartitionMap) (s : Shows here view node own store cache map)
-    (at_node : StandAt node map store cache) (is : IsStore store) (ic : IsCache cache) (snap : Snap) (k : KeyId) (b : Bool) (h : hosted here view node own store cache map s at_node is ic k ≡ b)
-    (t : Ts) (e : t ≡ stamp snap.rs) where
+module _ (node : NodeId) (map : maps.PartitionMap) (own : List OwnSnap) (store cache : List Version) (snap : Snap) (k : KeyId) (part : PartId) (b : Bool) (p : part ≡ maps.part_of map k)
+    (h : b ≡ maps.hosts map node part) (t : Ts) (e : t ≡ stamp snap.rs) where
+  -- the answer of the map is that of the key
+  hosted_is : maps.hosts map node (maps.part_of map k) ≡ b
+  hosted_is = sym (h ∙ ap (λ u. maps.hosts map node u) p)
+
   time : t.0 ≡ snap.rs
   time = ap (λ (u : Ts). u.0) e
 
-  pre_here : (p : Option Version) → p ≡ last_pre (of_key b store.versions cache.versions) k t.0 → last_pre view.versions k snap.rs ≡ p
-  pre_here p q = pre_seen here view node own store cache map s at_node is ic k snap.rs b h ∙ ap (λ r. last_pre (of_key b store.versions cache.versions) k r) (sym time) ∙ sym q
+  pre_is : (o : Option Version) → o ≡ last_pre (of_key b store cache) k t.0 → last_pre (held map node store cache k) k snap.rs ≡ o
+  pre_is o q = ap (λ c. last_pre (of_key c store cache) k snap.rs) hosted_is ∙ ap (λ r. last_pre (of_key b store cache) k r) (sym time) ∙ sym q
 
-  visible_here : (p : Option Version) → p ≡ visible (of_key b store.versions cache.versions) k t.0 → visible view.versions k snap.rs ≡ p
-  visible_here p q = visible_seen here view node own store cache map s at_node is ic k snap.rs b h ∙ ap (λ r. visible (of_key b store.versions cache.versions) k r) (sym time) ∙ sym q
+  visible_is : (o : Option Version) → o ≡ visible (of_key b store cache) k t.0 → visible (held map node store cache k) k snap.rs ≡ o
+  visible_is o q = ap (λ c. visible (of_key c store cache) k snap.rs) hosted_is ∙ ap (λ r. visible (of_key b store cache) k r) (sym time) ∙ sym q
+
+  read_by : (o : Option Version) → last_pre (held map node store cache k) k snap.rs ≡ o → list_read node map own store cache snap k ≡ read_after node map own (held map node store cache k) snap k o
+  read_by o q = ap (λ w. read_after node map own (held map node store cache k) snap k w) q
+
+  seen_by : (o w : Option Version) → None ≡ last_pre (of_key b store cache) k t.0 → w ≡ visible (of_key b store cache) k t.0
+      → list_read node map own store cache snap k ≡ visible_read node map own snap k w
+  seen_by o w n q = read_by None (pre_is None n) ∙ ap (λ x. visible_read node map own snap k x) (visible_is w q)
 
   -- a Pre version
-  pub gives_pre : (v : Version) → Some v ≡ last_pre (of_key b store.versions cache.versions) k t.0 → Wait v.tx ≡ read_turn here view snap k
-  gives_pre v q = sym (read_pre here view snap k v (pre_here (Some v) q))
+  pub gives_pre : (v : Version) → Some v ≡ last_pre (of_key b store cache) k t.0 → Wait v.tx ≡ list_read node map own store cache snap k
+  gives_pre v q = sym (read_by (Some v) (pre_is (Some v) q))
 
   -- a visible version
-  pub gives_version : (v : Version) (turn : ReadTurn) → None ≡ last_pre (of_key b store.versions cache.versions) k t.0 → Some v ≡ visible (of_key b store.versions cache.versions) k t.0
-      → ((there : Here) (xs : List Own) → there.node ≡ node → Agree xs own → turn_of turn ≡ read_kind there xs snap v v.kind) → turn_of turn ≡ read_turn here view snap k
-  gives_version v turn n q f = f here view.own s.same_node s.agree ∙ sym (read_seen here view snap k v (pre_here None n) (visible_here (Some v) q))
+  pub gives_version : (v : Version) (turn : ReadTurn) → None ≡ last_pre (of_key b store cache) k t.0 → Some v ≡ visible (of_key b store cache) k t.0
+      → turn ≡ kind_read node own snap v v.kind → turn ≡ list_read node map own store cache snap k
+  gives_version v turn n q f = f ∙ sym (seen_by None (Some v) n q)
 
   -- none, of a hosted key
-  pub gives_none : (turn : ReadTurn) (copy : Snap) → None ≡ last_pre (of_key b store.versions cache.versions) k t.0 → None ≡ visible (of_key b store.versions cache.versions) k t.0 → b ≡ true → copy ≡ snap
-      → ((there : Here) → there.node ≡ node → turn_of turn ≡ gated there copy (Plain Absent None 0 copy)) → turn_of turn ≡ read_turn here view snap k
+  pub gives_none : (turn : ReadTurn) (copy : Snap) → None ≡ last_pre (of_key b store cache) k t.0 → None ≡ visible (of_key b store cache) k t.0 → b ≡ true → copy ≡ snap
+      → turn ≡ gated_at node copy (Plain Absent None 0 copy) → turn ≡ list_read node map own store cache snap k
   gives_none turn copy n q y same f =
-      f here s.same_node ∙ ap (λ (c : Snap). gated here c (Plain Absent None 0 c)) same
-      ∙ sym (read_unseen here view snap k (pre_here None n) (visible_here None q) (hosted_here here view node own store cache map s at_node is ic k ∙ h ∙ y))
+      f ∙ ap (λ (c : Snap). gated_at node c (Plain Absent None 0 c)) same
+      ∙ sym (ap (λ c. if c then gated_at node snap (Plain Absent None 0 snap) else Away (first_or node (maps.replicas map (maps.part_of map k)))) (hosted_is ∙ y))
+      ∙ sym (seen_by None None n q)
 
   -- none, of a key that is not hosted
-  pub gives_away : (m : NodeId) (part : PartId) → None ≡ last_pre (of_key b store.versions cache.versions) k t.0 → None ≡ visible (of_key b store.versions cache.versions) k t.0 → b ≡ false
-      → part ≡ maps.part_of map k → ((n : NodeId) → m ≡ first_or n (maps.replicas map part)) → Away m ≡ read_turn here view snap k
-  gives_away m part n q y p f =
-      ap Away (f here.node ∙ ap (λ u. first_or here.node (maps.replicas map u)) p ∙ sym (master_here here view node own store cache map s at_node is ic k))
-      ∙ sym (read_away here view snap k (pre_here None n) (visible_here None q) (hosted_here here view node own store cache map s at_node is ic k ∙ h ∙ y))
+  pub gives_away : (m : NodeId) → None ≡ last_pre (of_key b store cache) k t.0 → None ≡ visible (of_key b store cache) k t.0 → b ≡ false
+      → ((n : NodeId) → m ≡ first_or n (maps.replicas map part)) → Away m ≡ list_read node map own store cache snap k
+  gives_away m n q y f =
+      ap Away (f node ∙ ap (λ u. first_or node (maps.replicas map u)) p)
+      ∙ sym (ap (λ c. if c then gated_at node snap (Plain Absent None 0 snap) else Away (first_or node (maps.replicas map (maps.part_of map k)))) (hosted_is ∙ y))
+      ∙ sym (seen_by None None n q)
+
+-- ---- by a view
+
+-- the read of a version is that of a view whose own transactions have the snapshots that are told of
+kind_same : (here : Here) (xs : List Own) (own : List OwnSnap) (snap : Snap) (v : Version) (kind : Kind) → Agree xs own → (is_local kind ≡ true → IsNamed own v.tx.seq)
+    → kind_read here.node own snap v kind ≡ read_kind here xs snap v kind
+kind_same here xs own snap v Pre a h = refl
+kind_same here xs own snap v Local a h =
+    let same = taken_here xs own v.tx.seq snap a (h refl) in
+    sym (gated_here here (taken_over (told own v.tx.seq) v.tx.seq snap) (Speculative v.value v.tx (taken_over (told own v.tx.seq) v.tx.seq snap)))
+    ∙ ap (λ (c : Snap). gated here c (Speculative v.value v.tx c)) (sym same)
+kind_same here xs own snap v Final a h = sym (gated_here here (accept_final snap v.ts.0) (Plain v.value (Some v.tx) v.ts.0 (accept_final snap v.ts.0)))
+
+module _ (here : Here) (view : View) (node : NodeId) (own : List OwnSnap) (store : StoreList) (cache : CacheList) (map : maps.PartitionMap) (s : Shows here view node own store cache map)
+    (at_node : StandAt node map store cache) (is : IsStore store) (ic : IsCache cache) (snap : Snap) (k : KeyId) (told_of : AreTold own snap.rs store.versions cache.versions) where
+  mine : List Version
+  mine = held map node store.versions cache.versions k
+
+  nothing : Turns.ReadTurn
+  nothing = Plain Absent None 0 snap
+
+  row : List NodeId
+  row = maps.replicas map (maps.part_of map k)
+
+  none_same : (if maps.hosts map node (maps.part_of map k) then gated_at node snap (Plain Absent None 0 snap) else Away (first_or node (maps.replicas map (maps.part_of map k))))
+      ≡ read_visible here view.own snap k None
+  unfolding nothing row
+  none_same =
+      ap (λ c. if c then gated_at node snap nothing else Away (first_or node row)) (sym (hosted_here here view node own store cache map s at_node is ic k))
+      ∙ ap (λ n. if hosts_key here k then gated_at n snap nothing else Away (first_or n row)) (sym s.same_node)
+      ∙ ap (λ x. if hosts_key here k then x else Away (first_or here.node row)) (sym (gated_here here snap nothing))
+      ∙ ap (λ m. if hosts_key here k then gated here snap nothing else Away m) (sym (master_here here view node own store cache map s at_node is ic k))
+
+  seen_same : (w : Option Version) → visible mine k snap.rs ≡ w → visible_read node map own snap k w ≡ read_visible here view.own snap k w
+  unfolding mine
+  seen_same None q = none_same
+  seen_same (Some v) q =
+      let one = visible_told own snap.rs (maps.hosts map node (maps.part_of map k)) store.versions cache.versions k (stamp snap.rs) v told_of refl (sym q) in
+      ap (λ n. kind_read n own snap v v.kind) (sym s.same_node) ∙ kind_same here view.own own snap v v.kind s.agree one.0.origin
+
+  -- a view that shows the lists says what the read comes to
+  pub read_shown : list_read node map own store.versions cache.versions snap k ≡ read_turn here view snap k
+  unfolding mine read_turn
+  read_shown =
+      by_pre (last_pre mine k snap.rs)
+      ∙ ap (λ o. Turns.read_after here view snap k o) (sym (pre_seen here view node own store cache map s at_node is ic k snap.rs (maps.hosts map node (maps.part_of map k)) refl))
+    where
+      by_pre : (o : Option Version) → read_after node map own mine snap k o ≡ Turns.read_after here view snap k o
+      by_pre (Some v) = refl
+      by_pre None =
+          seen_same (visible mine k snap.rs) refl
+          ∙ ap (λ w. read_visible here view.own snap k w) (sym (visible_seen here view node own store cache map s at_node is ic k snap.rs (maps.hosts map node (maps.part_of map k)) refl))

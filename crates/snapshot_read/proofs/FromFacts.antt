@@ -9,13 +9,14 @@ use Rattle.str_base.specs.declared.names.Kind.{Kind}
 use Rattle.str_base.specs.declared.names.Kind.TheVariants.{Final, Local as LocalKind, Pre}
 use Rattle.str_base.specs.declared.names.Version.{Version}
 use Rattle.str_base.specs.Versions.{is_local}
-use Rattle.str_model.specs.NodeFacts.{In, how_many, one_if}
+use Rattle.str_model.specs.NodeFacts.{how_many, one_if}
 use Rattle.str_model.specs.Views.{Own, View}
 use Rattle.str_scene.specs.Scenes.{Here}
 use Rattle.str_model.proofs.OwnFacts.FewOwn.{is_certain}
-use Rattle.str_model.proofs.Lists.Members.{in_all_new, in_all_old}
 use Rattle.str_model.proofs.ViewFacts.NodeUses.{IsCertain, ReadReady}
 use Rattle.version_chain.specs.ChainLists.{Each, merged}
+use Rattle.str_base.proofs.Members.{in_all_new, in_all_old}
+use Rattle.str_base.specs.Members.{In}
 
 pub told-length : (n : ℕ) (xs : List Own) → length (told_from n xs) ≡ how_many is_certain xs
 told-length n [] = refl

@@ -1,12 +1,27 @@
 -- Whom a gate names.
-use Rattle.std.proofs.Common.{Bool, List, None, Option, Some, [], false, if◌then◌else◌, refl, true, ◌∷◌, ◌≡◌}
+use Rattle.std.proofs.Common.{ap, Bool, List, None, Option, Some, [], false, if◌then◌else◌, refl, sym, true, ℕ, ◌∙◌, ◌∷◌, ◌≡◌}
 use Rattle.dependency_set.specs.declared.names.Dep.{Dep}
-use Rattle.dependency_set.specs.Snapshots.{Snap, holds, oldest}
+use Rattle.dependency_set.specs.Snapshots.{Snap, accept_final, holds, oldest}
 use Rattle.snapshot_read.specs.Causes.{GateWaits}
+use Rattle.snapshot_read.specs.ListReads.{gated_at, name_of}
 use Rattle.str_base.specs.declared.names.NodeId.{NodeId}
 use Rattle.str_base.specs.declared.names.TxId.{TxId}
-use Rattle.str_model.specs.Turns.{ReadTurn, Wait, gated, waits_for}
+use Rattle.str_base.specs.declared.names.Value.{Value}
+use Rattle.str_model.specs.Turns.{Plain, ReadTurn, Wait, gated, reply_turn, waits_for}
 use Rattle.str_scene.specs.Scenes.{Here}
+
+-- the name of a dependency is that of the node
+pub name_here : (here : Here) (d : Option Dep) → waits_for here d ≡ name_of here.node d
+name_here here None = refl
+name_here here (Some d) = refl
+
+-- a turn behind a gate is that at the node
+pub gated_here : (here : Here) (snap : Snap) (turn : ReadTurn) → gated here snap turn ≡ gated_at here.node snap turn
+gated_here here snap turn = ap (λ (n : TxId). if holds snap then turn else Wait n) (name_here here (oldest snap.deps))
+
+-- where the gate is shut its oldest dependency is waited for
+pub shut_waits : (node : NodeId) (snap : Snap) (turn : ReadTurn) (by : TxId) → GateWaits node snap by → Wait by ≡ gated_at node snap turn
+shut_waits node snap turn by g = rw (g.shut, g.least, g.named) refl
 
 -- where there is no dependency the gate lets the snapshot through
 pub open_without : (snap : Snap) → oldest snap.deps ≡ None → holds snap ≡ true
@@ -43,3 +58,12 @@ same_waits node s t by e g = rw (← e) g
 -- the same at an equal node
 pub waits_at : (n m : NodeId) (s : Snap) (by : TxId) → n ≡ m → GateWaits m s by → GateWaits n s by
 waits_at n m s by e g = rw e g
+
+-- a reply at the node of a view
+pub reply_at : (here : Here) (node : NodeId) (snap raised : Snap) (value : Value) (by : Option TxId) (fc : ℕ) → here.node ≡ node → raised ≡ accept_final snap fc
+    → gated_at node raised (Plain value by fc raised) ≡ reply_turn here snap value by fc
+unfolding reply_turn
+reply_at here node snap raised value by fc n e =
+    ap (λ (s : Snap). gated_at node s (Plain value by fc s)) e
+    ∙ ap (λ m. gated_at m (accept_final snap fc) (Plain value by fc (accept_final snap fc))) (sym n)
+    ∙ sym (gated_here here (accept_final snap fc) (Plain value by fc (accept_final snap fc)))

@@ -1,22 +1,24 @@
 -- The versions that a view shows are those of the store which holds the key.
-use Rattle.std.proofs.Common.{Bool, List, None, Option, Some, [], ap, false, filter, if◌then◌else◌, nat_le, refl, sym, true, ℕ, ◌&&◌, ◌∙◌, ◌∷◌, ◌≡◌}
+use Rattle.std.proofs.Common.{Bool, List, None, Option, Some, [], ap, eqb-true, false, filter, if◌then◌else◌, nat_le, refl, sym, true, ℕ, ◌&&◌, ◌∙◌, ◌∷◌, ◌≡◌}
 use Rattle.std.specs.List.{last_or}
 use Rattle.cache_partition.specs.CacheLists.{CacheList, IsCache, IsCached}
 use Rattle.dependency_set.specs.declared.snaps.OwnSnap.{OwnSnap}
 use Rattle.partition_map.specs.Maps as maps
-use Rattle.replica_store.proofs.MergedReads.{chain_in_cache, chain_in_store, newest_in_cache, newest_in_store, pre_in_cache, pre_in_store, visible_in_cache, visible_in_store}
-use Rattle.replica_store.proofs.Merging.{OfKeys}
+use Rattle.replica_store.proofs.MergedReads.{IsOfKey, chain_in_cache, chain_in_store, first_of_two, newest_in_cache, newest_in_store, pre_in_cache, pre_in_store, visible_in_cache, visible_in_store}
+use Rattle.replica_store.proofs.Merging.{OfKeys, merged_unseen}
 use Rattle.replica_store.specs.StoreLists.{IsStore, LiesIn, StoreList}
-use Rattle.snapshot_read.specs.Shown.{IsPlaced, Shows, StandAt, of_key}
+use Rattle.snapshot_read.specs.Shown.{IsPlaced, Shows, ShowsHosted, StandAt, of_key}
 use Rattle.str_base.specs.declared.names.KeyId.{KeyId}
 use Rattle.str_base.specs.declared.names.Kind.TheVariants.{Pre}
 use Rattle.str_base.specs.declared.names.NodeId.{NodeId}
 use Rattle.str_base.specs.declared.names.Version.{Version}
-use Rattle.str_base.specs.Versions.{chain, is_pre, last_pre, newest, same_key, visible}
+use Rattle.str_base.specs.Versions.{chain, is_pre, is_undecided, last_pre, last_undecided, newest, same_key, visible}
+use Rattle.str_model.specs.Turns.{serve_after, serve_turn, serve_visible}
 use Rattle.str_model.specs.Views.{View}
 use Rattle.str_scene.proofs.Mapped.{hosts-mapped, part-mapped, replicas-mapped}
 use Rattle.str_scene.specs.Scenes.{Here, first_or, hosts, hosts_key, map_of, part_of, replicas}
-use Rattle.version_chain.proofs.Each.{each_both}
+use Rattle.version_chain.proofs.Each.{each_both, each_so}
+use Rattle.version_chain.specs.ChainLists.{Each, merged}
 
 module _ (here : Here) (view : View) (node : NodeId) (own : List OwnSnap) (store : StoreList) (cache : CacheList) (map : maps.PartitionMap) (s : Shows here view node own store cache map)
     (at_node : StandAt node map store cache) (is : IsStore store) (ic : IsCache cache) where
@@ -53,6 +55,19 @@ module _ (here : Here) (view : View) (node : NodeId) (own : List OwnSnap) (store
   newest_seen k true h = ap (λ vs. newest vs k) s.versions ∙ newest_in_store hosted k cache.versions store.versions cache_keys h
   newest_seen k false h = ap (λ vs. newest vs k) s.versions ∙ newest_in_cache hosted k cache.versions store.versions ic.0 is.0 cache_keys store_keys h
 
+  -- it hosts the key, and so serves it
+  pub shows_hosted : (k : KeyId) → hosted k ≡ true → ShowsHosted view store.versions k
+  shows_hosted k h =
+      record {
+        cached = cache.versions;
+        versions = s.versions;
+        elsewhere = each_so (λ v. hosted v.key ≡ false) (λ v. same_key v.key k ≡ false) cache.versions (λ v n. other_key v n (same_key v.key k) refl) cache_keys;
+      }
+    where
+      other_key : (v : Version) → hosted v.key ≡ false → (b : Bool) → same_key v.key k ≡ b → b ≡ false
+      other_key v n false e = refl
+      other_key v n true e = let same : hosted v.key ≡ hosted k = ap (λ (m : ℕ). hosted (record { 0 = m })) (eqb-true v.key.0 k.0 e) in absurd (cc (same, n, h))
+
   -- the scene says the same of the key
   pub hosted_here : (k : KeyId) → hosts_key here k ≡ hosted k
   hosted_here k =
@@ -66,6 +81,29 @@ module _ (here : Here) (view : View) (node : NodeId) (own : List OwnSnap) (store
       sym
       (ap (λ m. first_or here.node (maps.replicas m (maps.part_of m k))) (sym s.same_map) ∙ ap (λ ns. first_or here.node ns) (replicas-mapped here.scene (maps.part_of (map_of here.scene) k))
       ∙ ap (λ p. first_or here.node (replicas here.scene p)) (part-mapped here.scene k))
+
+-- ---- a read of another node
+
+-- none of the key is seen elsewhere
+unseen_elsewhere : (k : KeyId) (test : Version → Bool) (cached store : List Version) → Each (λ v. same_key v.key k ≡ false) cached → IsOfKey k test → filter test (merged cached store) ≡ filter test store
+unseen_elsewhere k test cached store e t =
+    merged_unseen test cached store (each_so (λ v. same_key v.key k ≡ false) (λ v. test v ≡ false) cached (λ v n. by_test v (test v) refl n) e)
+  where
+    by_test : (v : Version) (b : Bool) → test v ≡ b → same_key v.key k ≡ false → b ≡ false
+    by_test v true p n = absurd (cc (t v p, n))
+    by_test v false p n = refl
+
+-- the view of a node that hosts the key serves what its store does
+pub served_seen : (view : View) (store : List Version) (k : KeyId) (r : ℕ) → ShowsHosted view store k → serve_turn store k r ≡ serve_turn view.versions k r
+unfolding serve_turn
+served_seen view store k r s =
+    let undecided = ap (λ vs. last_or None vs) (unseen_elsewhere k (λ v. same_key v.key k && (nat_le v.ts.0 r && is_undecided v.kind)) s.cached store s.elsewhere (λ v e. first_of_two _ _ e)) in
+    let seen = ap (λ vs. last_or None vs) (unseen_elsewhere k (λ v. same_key v.key k && nat_le v.ts.0 r) s.cached store s.elsewhere (λ v e. first_of_two _ _ e)) in
+    ap (λ o. serve_after store k r o) (sym undecided) ∙ by_last (last_undecided (merged s.cached store) k r) seen ∙ ap (λ vs. serve_after vs k r (last_undecided vs k r)) (sym s.versions)
+  where
+    by_last : (o : Option Version) → visible (merged s.cached store) k r ≡ visible store k r → serve_after store k r o ≡ serve_after (merged s.cached store) k r o
+    by_last (Some v) e = refl
+    by_last None e = ap (λ w. serve_visible w) (sym e)
 
 -- ---- a visible version is not Pre where no Pre version stands
 

@@ -1,3 +1,4 @@
 pub mod Shown
 pub mod Causes
 pub mod Turning
+pub mod ListReads

@@ -7,10 +7,11 @@ use Rattle.dependency_set.specs.declared.snaps.OwnSnap.{OwnSnap}
 use Rattle.dependency_set.specs.Snapshots.{Snap, accept_local}
 use Rattle.partition_map.specs.Maps.{PartitionMap, hosts, part_of}
 use Rattle.replica_store.specs.StoreLists.{StoreList}
+use Rattle.str_base.specs.declared.names.KeyId.{KeyId}
 use Rattle.str_base.specs.declared.names.NodeId.{NodeId}
 use Rattle.str_base.specs.declared.names.PartId.{PartId}
 use Rattle.str_base.specs.declared.names.Version.{Version}
-use Rattle.str_base.specs.Versions.{is_local}
+use Rattle.str_base.specs.Versions.{is_local, same_key}
 use Rattle.str_model.specs.NodeFacts.{has_lc}
 use Rattle.str_model.specs.Views.{Own, View, is_decided}
 use Rattle.str_scene.specs.Scenes.{Here, map_of}
@@ -72,6 +73,10 @@ abbrev pub of_key : Bool → List Version → List Version → List Version
 of_key true store cache = store
 of_key false store cache = cache
 
+-- the versions of the store which holds a key at the node
+abbrev pub held : PartitionMap → NodeId → List Version → List Version → KeyId → List Version
+held map node store cache k = of_key (hosts map node (part_of map k)) store cache
+
 -- the version is in the partition of its key
 abbrev pub IsPlaced : PartitionMap → Version → Type 0
 IsPlaced map v = v.part ≡ part_of map v.key
@@ -84,3 +89,9 @@ pub record Shows (here : Here) (view : View) (node : NodeId) (own : List OwnSnap
   pub versions : view.versions ≡ merged cache.versions store.versions
   pub placed : Each (IsPlaced map) store.versions × Each (IsPlaced map) cache.versions
   pub agree : Agree view.own own
+
+-- the view of a node that hosts a key shows the versions of its store, and others of a cache, none of which is of the key
+pub record ShowsHosted (view : View) (store : List Version) (k : KeyId) : Type 0 where
+  pub cached : List Version
+  pub versions : view.versions ≡ merged cached store
+  pub elsewhere : Each (λ v. same_key v.key k ≡ false) cached

@@ -3,14 +3,15 @@ ghost use Rattle.std.specs.Prelude.{◌≡◌, ◌↔◌, ◌≤◌, ◌∷◌, 
 ghost use Rattle.dependency_set.specs.Snapshots.{accept_final};
 ghost use Rattle.partition_map.specs.Maps.{HasKey};
 ghost use Rattle.snapshot_read.specs.Causes.{GateWaits, IsAway, ReadWaits, ServeWaits};
-ghost use Rattle.snapshot_read.specs.Shown.{Agree, AreNamed, AreTold, IsNamed, OthersNamed, Shows, StandAt, of_key};
+ghost use Rattle.snapshot_read.specs.ListReads.{gated_at, kind_read, list_read};
+ghost use Rattle.snapshot_read.specs.Shown.{AreNamed, AreTold, IsNamed, OthersNamed, Shows, ShowsHosted, StandAt, of_key};
 ghost use Rattle.snapshot_read.specs.Turning.{serve_of, turn_of};
 ghost use Rattle.str_base.specs.declared.names.NodeId.{NodeId as Node};
 ghost use Rattle.str_base.specs.declared.names.TxId.{TxId as Name};
 ghost use Rattle.str_base.specs.Versions.{is_local, last_pre, visible};
 ghost use Rattle.str_model.specs.Turns;
-ghost use Rattle.str_model.specs.Turns.{gated, read_kind, read_turn, reply_turn, serve_turn};
-ghost use Rattle.str_model.specs.Views.{Own, View};
+ghost use Rattle.str_model.specs.Turns.{read_turn, reply_turn, serve_turn};
+ghost use Rattle.str_model.specs.Views.{View};
 ghost use Rattle.str_scene.specs.Scenes.{Here};
 ghost use Rattle.version_chain.specs.ChainLists.{Each};
 
@@ -82,11 +83,31 @@ pub fn try_read(
     requires few { length own.now ≤ 15 }
     requires deps { AreNamed own.now snap.now.deps }
     requires told { AreTold own.now snap.now.rs store.now.versions cache.now.versions }
+    ensures lists { turn_of result ≡ list_read node map.now own.now store.now.versions cache.now.versions snap.now key }
     ensures turn { (here : Here) (view : View) → Shows here view node own.now store.now cache.now map.now → turn_of result ≡ read_turn here view snap.now key }
     ensures wait { (here : Here) (view : View) → Shows here view node own.now store.now cache.now map.now → (by : Name) → (result ≡ ReadTurn.Wait by) ↔ ReadWaits here view snap.now key by }
     ensures remote { (here : Here) (view : View) → Shows here view node own.now store.now cache.now map.now → (m : Node) → (result ≡ ReadTurn.Remote m) ↔ IsAway here view snap.now key m }
 {
     let _ = (store.node(), cache.node());
+    read(node, snap, own, store, cache, map, key)
+}
+
+/// The read, by the lists alone.
+fn read(
+    node: NodeId,
+    snap: &Snap,
+    own: &[OwnSnap],
+    store: &ReplicaStore,
+    cache: &CachePartition,
+    map: &PartitionMap,
+    key: KeyId,
+) -> ReadTurn
+    requires key { HasKey map.now key }
+    requires few { length own.now ≤ 15 }
+    requires deps { AreNamed own.now snap.now.deps }
+    requires told { AreTold own.now snap.now.rs store.now.versions cache.now.versions }
+    ensures { turn_of result ≡ list_read node map.now own.now store.now.versions cache.now.versions snap.now key }
+{
     let part = map.part_of(key);
     let is_hosted = map.hosts(node, part);
     let rs = snap.rs();
@@ -142,7 +163,7 @@ fn read_version(node: NodeId, snap: &Snap, own: &[OwnSnap], version: &Version) -
     requires deps { AreNamed own.now snap.now.deps }
     requires origin { is_local version.now.kind ≡ true → IsNamed own.now version.now.tx.seq }
     requires others { is_local version.now.kind ≡ true → OthersNamed own.now version.now.tx.seq }
-    ensures { (here : Here) (own' : List Own) → here.node ≡ node → Agree own' own.now → turn_of result ≡ read_kind here own' snap.now version.now version.now.kind }
+    ensures { turn_of result ≡ kind_read node own.now snap.now version.now version.now.kind }
 {
     let (value, by, ts) = (version.value, version.tx, version.ts);
     match version.kind {
@@ -154,7 +175,7 @@ fn read_version(node: NodeId, snap: &Snap, own: &[OwnSnap], version: &Version) -
 
 /// A read of what is final, where the gate of its new snapshot lets it through.
 fn plain(node: NodeId, value: Value, by: Option<TxId>, fc: Ts, snap: Snap) -> ReadTurn
-    ensures turn { (here : Here) → here.node ≡ node → turn_of result ≡ gated here snap (Turns.Plain value by fc.0 snap) }
+    ensures turn { turn_of result ≡ gated_at node snap (Turns.Plain value by fc.0 snap) }
     ensures wait { (who : Name) → (result ≡ ReadTurn.Wait who) ↔ GateWaits node snap who }
 {
     match gate_waits(node, &snap) {
@@ -170,7 +191,7 @@ fn plain(node: NodeId, value: Value, by: Option<TxId>, fc: Ts, snap: Snap) -> Re
 
 /// A read of what a transaction wrote that is undecided, where the gate of its new snapshot lets it through.
 fn speculative(node: NodeId, value: Value, by: TxId, snap: Snap) -> ReadTurn
-    ensures { (here : Here) → here.node ≡ node → turn_of result ≡ gated here snap (Turns.Speculative value by snap) }
+    ensures { turn_of result ≡ gated_at node snap (Turns.Speculative value by snap) }
 {
     match gate_waits(node, &snap) {
         Some(by) => ReadTurn::Wait { by },
@@ -190,8 +211,17 @@ pub fn take_reply(node: NodeId, snap: &Snap, value: Value, by: Option<TxId>, fc:
 
 /// A read of a key at a snapshot for a transaction of another node. It waits for the last undecided version at or below the
 /// snapshot, and else gives the last version.
-#[tactic(auto, unfolding(str_model::specs::Turns::serve_turn))]
 pub fn serve(store: &ReplicaStore, key: KeyId, rs: Ts) -> ServeTurn
+    ensures turn { serve_of result ≡ serve_turn store.now.versions key rs.0 }
+    ensures seen { (view : View) → ShowsHosted view store.now.versions key → serve_of result ≡ serve_turn view.versions key rs.0 }
+    ensures wait { (by : Name) → (result ≡ ServeTurn.Wait by) ↔ ServeWaits store.now.versions key rs.0 by }
+{
+    served(store, key, rs)
+}
+
+/// The read for a transaction of another node, by the versions of the store.
+#[tactic(auto, unfolding(str_model::specs::Turns::serve_turn))]
+fn served(store: &ReplicaStore, key: KeyId, rs: Ts) -> ServeTurn
     ensures turn { serve_of result ≡ serve_turn store.now.versions key rs.0 }
     ensures wait { (by : Name) → (result ≡ ServeTurn.Wait by) ↔ ServeWaits store.now.versions key rs.0 by }
 {

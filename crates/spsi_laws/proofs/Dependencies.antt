@@ -2,6 +2,7 @@
 -- One pass by rising number ends every cascade.
 
 pub mod DependenciesHold
+pub mod DependenciesBefore
 pub mod CascadesEnd
 pub mod CommittedAlone
 pub mod DependenciesLive

@@ -3,3 +3,4 @@ pub mod Rest
 pub mod Dependencies
 pub mod Speculation
 pub mod Pairs
+pub mod UnderWay

@@ -9,7 +9,6 @@ pub mod ReadsCounted
 pub mod DependenciesNested
 pub mod ReadsBefore
 pub mod RulesOnOwn
-pub mod StepsByRule
 pub mod StepsPaired
 pub mod WritersOrdered
 pub mod PairsHold

@@ -6,5 +6,6 @@ pub mod Newest
 pub mod Pairs
 pub mod Speculation
 pub mod Rest
+pub mod Valid
 pub mod Work
 pub mod Drain

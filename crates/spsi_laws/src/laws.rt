@@ -8,6 +8,7 @@ ghost use Rattle.spsi_laws.specs.Laws.Newest.{NewestHolds};
 ghost use Rattle.spsi_laws.specs.Laws.Pairs.{PairsHold, PairsHoldFurther};
 ghost use Rattle.spsi_laws.specs.Laws.Rest.{RestByUnderWay};
 ghost use Rattle.spsi_laws.specs.Laws.Speculation.{SpeculationHolds};
+ghost use Rattle.spsi_laws.specs.Laws.Valid.{MessagesValid};
 ghost use Rattle.spsi_laws.specs.Laws.Work.{DeliveryLowers, LeftAtOpening, RepeatsRaise, StepLowers, WorkBounded};
 
 /// After each event each dependency is undecided, with a local commit timestamp at or below the snapshot.
@@ -15,7 +16,7 @@ pub fn dependencies_stand()
     ensures { DependenciesStand }
 {}
 
-/// A dependency has a smaller number.
+/// A dependency has a smaller number, also where the transaction is decided.
 pub fn dependencies_earlier()
     ensures { DependenciesEarlier }
 {}
@@ -54,7 +55,8 @@ pub fn speculative_isolation_holds()
 {}
 
 /// What is promised of a run, of every one: its answers are a run of the snapshot isolation machine, after each event speculative snapshot isolation
-/// holds, nothing commits before what it depends on or has read from, and each abort has the cause that it names.
+/// holds, nothing commits before what it depends on or has read from, each abort has the cause that it names, and each answer was given where its
+/// transaction was decided so.
 pub fn headline_holds()
     ensures { HeadlineHolds }
 {}
@@ -102,6 +104,11 @@ pub fn drain_rests()
 /// A message that is given again raises what is left by less than it counts for.
 pub fn repeats_raise()
     ensures { RepeatsRaise }
+{}
+
+/// Every message of a run is valid at its receiver: no node takes it for a strange one.
+pub fn messages_valid()
+    ensures { MessagesValid }
 {}
 
 /// Where every message was given and every client step is idle, every transaction is answered, if what an undecided one waits for from other nodes is under way.

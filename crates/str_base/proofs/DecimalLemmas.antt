@@ -1,5 +1,5 @@
 -- Decimals: each number has one spelling, of digits alone.
-use Rattle.std.proofs.Common.{◌≡◌, ◌≢◌, ◌⊎◌, inl, inr, ℕ, zero, suc, ◌+◌, ◌<◌, ◌≤◌, ◌^◌, Bool, true, false, List, [], ◌∷◌, length, get_or, drop, take, take_all, length-drop, ◌-◌, Result, Ok, Err, Option, Some, None, IfSome, ℤ, pos, negsuc, FitsSigned, w64, decimal, refl, sym, ap, subst, ◌∙◌, ◌&&◌, ◌||◌, ◌==◌, not, add-one, arith}
+use Rattle.std.proofs.Common.{◌≡◌, ◌≢◌, ◌⊎◌, inl, inr, ℕ, zero, suc, ◌+◌, ◌<◌, ◌≤◌, ◌^◌, Bool, true, false, List, [], ◌∷◌, length, get_or, drop, take, take_all, length-drop, ◌-◌, Result, Ok, Err, Option, Some, None, IfSome, ℤ, pos, negsuc, FitsSigned, w64, decimal, refl, sym, ap, subst, ◌∙◌, ◌||◌, ◌==◌, not, add-one, arith}
 use Rattle.std.specs.Char.{is_ascii_digit}
 use Rattle.std.specs.Fmt.{signed_decimal}
 use Rattle.std.specs.List.{list_all}
@@ -7,7 +7,10 @@ use Rattle.std.specs.Str.{IsUtf8}
 use Rattle.std.proofs.lemmas.Str.{IsUtf8-from_ascii}
 use Rattle.std.specs.Str.Parse.{AllDigits, IsNumeral, ParsesUnsigned, digits_value}
 use Rattle.std.specs.Result.{OkIff, result_ok}
+use Rattle.std.proofs.lemmas.Bool.{and_from, or_right}
 use Rattle.std.proofs.lemmas.Bool.Decides.{nat_tests}
+use Rattle.str_base.proofs.Lists.{list_all-weaker}
+use Rattle.str_base.proofs.Tests.{other_by_test}
 use Rattle.std.proofs.lemmas.Fmt.{decimal_injective, signed_decimal_injective, decimal_nonempty, decimal_is_IsNumeral, decimal_digit, first_decimal, parse-decimal, decimal-digits_value, IsAscii-decimal}
 use Rattle.std.proofs.lemmas.Str.Parse.{digit_from_value, numerals_by_value, tells_digits, parse_plain}
 
@@ -27,30 +30,9 @@ pub signed_decimal-nonempty : (z : ℤ) → FitsSigned w64 z → 1 ≤ length (s
 signed_decimal-nonempty (pos n) f = omega (arith, decimal_nonempty n (omega (arith, f.sfits)))
 signed_decimal-nonempty (negsuc n) f = omega arith
 
-both : (a b : Bool) → a ≡ true → b ≡ true → (a && b) ≡ true
-both a b e f = rw (e, f)
-
-parts : (a b : Bool) → (a && b) ≡ true → (a ≡ true) × (b ≡ true)
-parts true b e = (refl, e)
-parts false b e = absurd (cc)
-
--- where a test holds of each byte, so does a weaker one
-pub list_all-weaker : (p q : ℕ → Bool) → ((b : ℕ) → p b ≡ true → q b ≡ true) → (bs : List ℕ) → list_all p bs ≡ true → list_all q bs ≡ true
-list_all-weaker p q h [] a = refl
-list_all-weaker p q h (b ∷ bs) a =
-    let k = parts (p b) (list_all p bs) a in
-    both (q b) (list_all q bs) (h b k.0) (list_all-weaker p q h bs k.1)
-
 -- where a test holds of each byte and not of c, no byte is c
 pub list_all-other : (p : ℕ → Bool) (c : ℕ) → p c ≡ false → (bs : List ℕ) → list_all p bs ≡ true → list_all (λ b. not (b == c)) bs ≡ true
-list_all-other p c no_c = list_all-weaker p (λ b. not (b == c)) (λ b yes_b. differs b yes_b)
-  where
-    differs : (b : ℕ) → p b ≡ true → not (b == c) ≡ true
-    differs b yes_b = by_answer (b == c) refl
-      where
-        by_answer : (a : Bool) → (b == c) ≡ a → not a ≡ true
-        by_answer true e = let same : b ≡ c = grind (arith, nat_tests) in absurd (cc (ap p same))
-        by_answer false e = refl
+list_all-other p c no_c = list_all-weaker p (λ b. not (b == c)) (λ b yes_b. other_by_test p b c yes_b no_c)
 
 digit_passes : (c : ℕ) → 48 ≤ c → c ≤ 57 → is_ascii_digit c ≡ true
 digit_passes c low high = grind (arith, nat_tests)
@@ -59,7 +41,7 @@ all_digits : (bs : List ℕ) → AllDigits 10 bs → list_all is_ascii_digit bs 
 all_digits [] h = refl
 all_digits (c ∷ cs) h =
     let first = digit_from_value c h.0 in
-    both (is_ascii_digit c) (list_all is_ascii_digit cs) (digit_passes c first.0 first.1) (all_digits cs h.1)
+    and_from (is_ascii_digit c) (list_all is_ascii_digit cs) (digit_passes c first.0 first.1) (all_digits cs h.1)
 
 -- each byte of a spelling is a digit
 pub decimal-digits : (n : ℕ) → n < 2 ^ 64 → list_all is_ascii_digit (decimal n) ≡ true
@@ -69,12 +51,8 @@ decimal-digits n h = all_digits (decimal n) (decimal_is_IsNumeral n h).0.1
 abbrev pub is_sign_or_digit : ℕ → Bool
 is_sign_or_digit b = (b == 45) || is_ascii_digit b
 
-or_true : (a : Bool) → (a || true) ≡ true
-or_true true = refl
-or_true false = refl
-
 digit_may_stand : (b : ℕ) → is_ascii_digit b ≡ true → is_sign_or_digit b ≡ true
-digit_may_stand b e = rw e (or_true (b == 45))
+digit_may_stand b e = or_right (b == 45) (is_ascii_digit b) e
 
 -- each byte of a signed spelling is a digit or the minus
 pub signed_decimal-digits : (z : ℤ) → FitsSigned w64 z → list_all is_sign_or_digit (signed_decimal z) ≡ true

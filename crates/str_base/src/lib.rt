@@ -1,7 +1,8 @@
-//! The names and plain values of the store, its versions in order, and decimals.
+//! The names and plain values of the store, its versions in order, its limits, and decimals.
 #![tactic(auto)]
 
 pub mod decimals;
+pub mod limits;
 pub mod names;
 pub mod short;
 

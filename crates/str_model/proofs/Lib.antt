@@ -1,5 +1,5 @@
 pub mod Worked
-pub mod Lists
+pub mod ListCounts
 pub mod Changes
 pub mod Principle
 pub mod OwnFacts

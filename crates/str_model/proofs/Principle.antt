@@ -14,4 +14,3 @@ pub mod TraceEvents
 pub mod OwnPaths
 pub mod RulePaths
 pub mod EvictionsClear
-pub mod DrainAtRest

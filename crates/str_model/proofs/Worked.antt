@@ -1,11 +1,9 @@
--- Worked rows.
+-- Worked scenes, computed: each text is the spelling of its scene, and each output is the rendering of its run.
+-- The words in which they are written, and a scene that meets the limits.
 
 pub mod Words
-pub mod AScene
-pub mod Rows1
-pub mod Rows2
-pub mod Rows3
-pub mod Rows4
-pub mod Rows5
-pub mod Rows6
+pub mod Commits
+pub mod Conflicts
+pub mod Dependencies
 pub mod Pruned
+pub mod AScene

@@ -24,12 +24,12 @@ pub record DepParts : Type 0 where
   pub parts : List PartId
 
 -- one of the dependencies wrote in the partition
-abbrev pub is_written : List DepParts → PartId → Bool
-is_written wrote p = list_any (λ d. list_any (same_part p) d.parts) wrote
+abbrev pub dependency_wrote : List DepParts → PartId → Bool
+dependency_wrote wrote p = list_any (λ d. list_any (same_part p) d.parts) wrote
 
 -- the partition is not asked, and no dependency wrote in it
 abbrev pub may_ask : List DepParts → Asked → Bool
-may_ask wrote a = not a.asked && not (is_written wrote a.part)
+may_ask wrote a = not a.asked && not (dependency_wrote wrote a.part)
 
 -- the timestamp of an answer, 0 where there is none
 abbrev pub ack_or_zero : Asked → ℕ

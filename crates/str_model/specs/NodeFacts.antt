@@ -33,11 +33,7 @@ use Rattle.str_base.specs.Values.{is_below}
 use Rattle.str_model.specs.Turns.{Open, own_fate}
 use Rattle.str_model.specs.Strange
 use Rattle.str_model.specs.Turns
-
--- a member of a list
-abbrev pub In : {A : Type 0} → A → List A → Type 0
-In x [] = ⊥
-In x (y ∷ ys) = (y ≡ x) ⊎ In x ys
+use Rattle.str_base.specs.Members.{In}
 
 -- 1 where the test is passed
 abbrev pub one_if : Bool → ℕ

@@ -1,8 +1,11 @@
 -- What the tests of an item say of it.
-use Rattle.std.proofs.Common.{Bool, List, None, Option, Some, [], ap, arith, false, get_or, inl, inr, length, nat_le, nat_lt, refl, slice_get, suc, sym, true, zero, ℕ, ◌&&◌, ◌==◌, ◌||◌, ◌<◌, ◌≤◌, ◌∷◌, ◌≡◌, ◌∙◌, ◌⊎◌}
+use Rattle.std.proofs.Common.{Bool, List, None, Option, Some, [], ap, arith, false, get_or, inl, inr, length, nat_le, nat_lt, refl, slice_get, suc, true, zero, ℕ, ◌==◌, ◌||◌, ◌<◌, ◌≤◌, ◌∷◌, ◌≡◌, ◌⊎◌}
+use Rattle.str_base.proofs.SameNames.{is-same_node}
+use Rattle.str_base.proofs.Lists.{passes_at, fails_at}
+use Rattle.std.proofs.lemmas.Bool.{and_parts, or_cases, not-true, leb-true, ltb-true, eqb-true}
 use Rattle.std.specs.Prelude.{not}
 use Rattle.std.specs.List.{list_all, list_any}
-use Rattle.std.proofs.lemmas.Bool.Decides.{nat_tests, Decides-eqb}
+use Rattle.std.proofs.lemmas.Bool.Decides.{nat_tests}
 use Rattle.str_base.specs.Versions.{same_node}
 use Rattle.str_base.specs.declared.names.NodeId.{NodeId}
 use Rattle.str_scene.specs.DraftLimits.{HasNumber, HasReading}
@@ -15,22 +18,6 @@ use Rattle.str_scene.specs.declared.names.Event.TheVariants.{Client, Deliver}
 use Rattle.str_scene.specs.declared.names.Op.{Op}
 use Rattle.str_scene.specs.declared.names.Op.TheVariants.{Abort, Add, Del, Get, Need, Put, Puts}
 
--- two tests that both pass
-pub both_pass : (x y : Bool) → (x && y) ≡ true → (x ≡ true) × (y ≡ true)
-both_pass true true e = (refl, refl)
-both_pass true false e = absurd cc
-both_pass false y e = absurd cc
-
--- a test that does not pass
-pub is_not : (x : Bool) → not x ≡ true → x ≡ false
-is_not true e = absurd cc
-is_not false e = refl
-
--- one of two tests passes
-pub one_passes : (x y : Bool) → (x || y) ≡ true → (x ≡ true) ⊎ (y ≡ true)
-one_passes true y e = inl refl
-one_passes false y e = inr e
-
 -- without a fault all three tests pass
 pub no_fault : (a b c : Bool) → first_fault a b c ≡ None → (a ≡ true) × (b ≡ true) × (c ≡ true)
 no_fault true true true e = (refl, refl, refl)
@@ -38,74 +25,38 @@ no_fault false b c e = absurd cc
 no_fault true false c e = absurd cc
 no_fault true true false e = absurd cc
 
--- numbers by their tests
-pub at_most : (a b : ℕ) → nat_le a b ≡ true → a ≤ b
-at_most a b e = grind (arith, nat_tests)
-
-pub is_below : (a b : ℕ) → nat_lt a b ≡ true → a < b
-is_below a b e = grind (arith, nat_tests)
-
-pub is_equal : (a b : ℕ) → (a == b) ≡ true → a ≡ b
-is_equal a b e = (Decides-eqb a b).0 e
-
 -- a number from 1 to the last
 pub up_to : (last n : ℕ) → is_up_to last n ≡ true → Exists n last
 up_to last n e =
-    let h = both_pass (nat_le 1 n) (nat_le n last) e in
-    (at_most 1 n h.0, at_most n last h.1)
+    let h = and_parts (nat_le 1 n) (nat_le n last) e in
+    (leb-true 1 n h.0, leb-true n last h.1)
 
 -- a list with members
 pub some_members : {X : Type 0} (xs : List X) → not (is_none_yet xs) ≡ true → 1 ≤ length xs
 some_members [] e = absurd cc
 some_members (x ∷ xs) e = omega arith
 
--- a test that passes at each element
-pub passes_at : {X : Type 0} (p : X → Bool) (xs : List X) (i : ℕ) (x : X) → list_all p xs ≡ true → slice_get xs i ≡ Some x → p x ≡ true
-passes_at p [] i x e g = absurd cc
-passes_at p (y ∷ ys) zero x e g = let same : y ≡ x = cc in ap p (sym same) ∙ (both_pass (p y) (list_all p ys) e).0
-passes_at p (y ∷ ys) (suc i) x e g = passes_at p ys i x (both_pass (p y) (list_all p ys) e).1 g
-
--- a test that passes at no element
-pub fails_at : {X : Type 0} (p : X → Bool) (xs : List X) (i : ℕ) (x : X) → list_any p xs ≡ false → slice_get xs i ≡ Some x → p x ≡ false
-fails_at p [] i x e g = absurd cc
-fails_at p (y ∷ ys) zero x e g = let same : y ≡ x = cc in ap p (sym same) ∙ (none_pass (p y) (list_any p ys) e).0
-  where
-    none_pass : (b c : Bool) → (b || c) ≡ false → (b ≡ false) × (c ≡ false)
-    none_pass false false e = (refl, refl)
-    none_pass true c e = absurd cc
-    none_pass false true e = absurd cc
-fails_at p (y ∷ ys) (suc i) x e g = fails_at p ys i x (none_pass (p y) (list_any p ys) e).1 g
-  where
-    none_pass : (b c : Bool) → (b || c) ≡ false → (b ≡ false) × (c ≡ false)
-    none_pass false false e = (refl, refl)
-    none_pass true c e = absurd cc
-    none_pass false true e = absurd cc
-
--- a node is one with itself
-same_self : (n m : NodeId) → n ≡ m → same_node n m ≡ true
-same_self n m e = rw e ((Decides-eqb m.0 m.0).1 refl)
-
 -- the nodes of a list without repeats
 pub distinct_at : (row : List NodeId) (i j : ℕ) (n : NodeId) → are_distinct row ≡ true → slice_get row i ≡ Some n → slice_get row j ≡ Some n → i ≡ j
 distinct_at [] i j n e g h = absurd cc
 distinct_at (m ∷ ms) zero zero n e g h = refl
 distinct_at (m ∷ ms) zero (suc j) n e g h =
-    let new = is_not (list_any (same_node m) ms) (both_pass (not (list_any (same_node m) ms)) (are_distinct ms) e).0 in
+    let new = not-true (list_any (same_node m) ms) (and_parts (not (list_any (same_node m) ms)) (are_distinct ms) e).0 in
     let other : same_node m n ≡ false = fails_at (same_node m) ms j n new h in
     let same : m ≡ n = cc in
-    absurd (let one : same_node m n ≡ true = same_self m n same in cc)
+    absurd (let one : same_node m n ≡ true = is-same_node m n same in cc)
 distinct_at (m ∷ ms) (suc i) zero n e g h =
-    let new = is_not (list_any (same_node m) ms) (both_pass (not (list_any (same_node m) ms)) (are_distinct ms) e).0 in
+    let new = not-true (list_any (same_node m) ms) (and_parts (not (list_any (same_node m) ms)) (are_distinct ms) e).0 in
     let other : same_node m n ≡ false = fails_at (same_node m) ms i n new g in
     let same : m ≡ n = cc in
-    absurd (let one : same_node m n ≡ true = same_self m n same in cc)
+    absurd (let one : same_node m n ≡ true = is-same_node m n same in cc)
 distinct_at (m ∷ ms) (suc i) (suc j) n e g h =
-    ap suc (distinct_at ms i j n (both_pass (not (list_any (same_node m) ms)) (are_distinct ms) e).1 g h)
+    ap suc (distinct_at ms i j n (and_parts (not (list_any (same_node m) ms)) (are_distinct ms) e).1 g h)
 
 -- a row by its tests
 pub row_checked : (nodes : ℕ) (row : List NodeId) → not (is_none_yet row) ≡ true → is_row nodes row ≡ true → length row ≤ 8 → IsRow nodes row
 row_checked nodes row some e few =
-    let h = both_pass (list_all (λ n. is_up_to nodes n.0) row) (are_distinct row) e in
+    let h = and_parts (list_all (λ n. is_up_to nodes n.0) row) (are_distinct row) e in
     record {
       some = some_members row some;
       few = few;
@@ -115,41 +66,41 @@ row_checked nodes row some e few =
 
 -- an operation by its tests
 pub op_checked : (version : ℕ) (table : KeyTable) (op : Op) → is_known table op ≡ true → (version ≡ 2) ⊎ (is_puts op ≡ false) → HasNumber op → IsOp version table op
-op_checked version table (Get k) e v h = is_below k.0 (length table.names) e
-op_checked version table (Put k n) e v h = (is_below k.0 (length table.names) e, h)
+op_checked version table (Get k) e v h = ltb-true k.0 (length table.names) e
+op_checked version table (Put k n) e v h = (ltb-true k.0 (length table.names) e, h)
 op_checked version table (Puts k t) e (inl v) h =
-    let b = both_pass (nat_lt k.0 (length table.names)) (nat_lt t.0 (length table.texts)) e in
-    (is_below k.0 (length table.names) b.0, is_below t.0 (length table.texts) b.1, v)
+    let b = and_parts (nat_lt k.0 (length table.names)) (nat_lt t.0 (length table.texts)) e in
+    (ltb-true k.0 (length table.names) b.0, ltb-true t.0 (length table.texts) b.1, v)
 op_checked version table (Puts k t) e (inr v) h = absurd cc
-op_checked version table (Add k n) e v h = (is_below k.0 (length table.names) e, h)
-op_checked version table (Del k) e v h = is_below k.0 (length table.names) e
-op_checked version table (Need k n) e v h = (is_below k.0 (length table.names) e, h)
+op_checked version table (Add k n) e v h = (ltb-true k.0 (length table.names) e, h)
+op_checked version table (Del k) e v h = ltb-true k.0 (length table.names) e
+op_checked version table (Need k n) e v h = (ltb-true k.0 (length table.names) e, h)
 op_checked version table Abort e v h = tt
 
 -- a script by its tests
 pub script_checked : (version : ℕ) (table : KeyTable) (ops : List Op) → is_script version ops ≡ true → list_all (is_known table) ops ≡ true
     → ((i : ℕ) (op : Op) → slice_get ops i ≡ Some op → HasNumber op) → length ops ≤ 16 → IsScript version table ops
 script_checked version table ops e known numbers few =
-    let h = both_pass (not (is_none_yet ops)) ((version == 2) || not (list_any is_puts ops)) e in
+    let h = and_parts (not (is_none_yet ops)) ((version == 2) || not (list_any is_puts ops)) e in
     record {
       some = some_members ops h.0;
       few = few;
-      ops = λ i op g. op_checked version table op (passes_at (is_known table) ops i op known g) (allowed (one_passes (version == 2) (not (list_any is_puts ops)) h.1) i op g) (numbers i op g);
+      ops = λ i op g. op_checked version table op (passes_at (is_known table) ops i op known g) (allowed (or_cases (version == 2) (not (list_any is_puts ops)) h.1) i op g) (numbers i op g);
     }
   where
     allowed : ((version == 2) ≡ true) ⊎ (not (list_any is_puts ops) ≡ true) → (i : ℕ) (op : Op) → slice_get ops i ≡ Some op → (version ≡ 2) ⊎ (is_puts op ≡ false)
-    allowed (inl v) i op g = inl (is_equal version 2 v)
-    allowed (inr v) i op g = inr (fails_at is_puts ops i op (is_not (list_any is_puts ops) v) g)
+    allowed (inl v) i op g = inl (eqb-true version 2 v)
+    allowed (inr v) i op g = inr (fails_at is_puts ops i op (not-true (list_any is_puts ops) v) g)
 
 -- an entry by its tests
 pub entry_checked : (d : Scene) (e : Event) → is_entry (length d.sessions) e ≡ true → HasReading e → IsEvent d e
 entry_checked d (Client s t) e h = (up_to (length d.sessions) s.0 e, h)
-entry_checked d (Deliver i) e h = (at_most 1 i e, h)
+entry_checked d (Deliver i) e h = (leb-true 1 i e, h)
 
 -- the numbers count to the length
 pub counts : (o : Option ℕ) (n : ℕ) → counts_to o n ≡ true → o ≡ Some n
 counts None n e = absurd cc
-counts (Some m) n e = ap Some (is_equal m n e)
+counts (Some m) n e = ap Some (eqb-true m n e)
 
 -- bytes are below 256
 pub all_bytes : (xs : List ℕ) → ((k : ℕ) → get_or xs k 0 < 256) → list_all (λ b. nat_lt b 256) xs ≡ true

@@ -1,5 +1,5 @@
 -- A fact of each element of a list, head by head.
-use Rattle.std.proofs.Common.{List, Some, [], ap, length, refl, slice_get, subst, suc, zero, ℕ, ◌++◌, ◌∷◌, ◌≡◌, ◌⊎◌, inl, inr}
+use Rattle.std.proofs.Common.{List, Some, [], length, refl, slice_get, subst, suc, zero, ℕ, ◌++◌, ◌∷◌, ◌≡◌}
 use Rattle.str_scene.specs.Lists.{Each}
 
 -- after a push
@@ -38,17 +38,3 @@ get_left (z ∷ xs) ys (suc i) x e = get_left xs ys i x e
 pub get_middle : {X : Type 0} (xs ys : List X) (y : X) → slice_get (xs ++ y ∷ ys) (length xs) ≡ Some y
 get_middle [] ys y = refl
 get_middle (x ∷ xs) ys y = get_middle xs ys y
-
--- one element more at the front
-push_more : {X : Type 0} (xs : List X) (y : X) (i : ℕ) (x : X) → (slice_get xs i ≡ Some x) ⊎ ((i ≡ length xs) × (x ≡ y)) →
-    (slice_get xs i ≡ Some x) ⊎ ((suc i ≡ suc (length xs)) × (x ≡ y))
-push_more xs y i x (inl e) = inl e
-push_more xs y i x (inr e) = inr (ap suc e.0, e.1)
-
--- an element of a list after a push
-pub get_push : {X : Type 0} (xs : List X) (y : X) (i : ℕ) (x : X) → slice_get (xs ++ y ∷ []) i ≡ Some x →
-    (slice_get xs i ≡ Some x) ⊎ ((i ≡ length xs) × (x ≡ y))
-get_push [] y zero x e = inr (refl, cc)
-get_push [] y (suc i) x e = absurd cc
-get_push (z ∷ xs) y zero x e = inl e
-get_push (z ∷ xs) y (suc i) x e = push_more xs y i x (get_push xs y i x e)

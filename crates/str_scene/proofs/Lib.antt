@@ -1,8 +1,8 @@
-mod Checked
+pub mod Checked
 pub mod Counts
 pub mod Each
 mod Drafting
-mod Filling
+pub mod Filling
 pub mod Pairs
 pub mod KeepingLemmas
 mod Put

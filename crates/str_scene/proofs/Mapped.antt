@@ -1,5 +1,7 @@
 -- The partition map of a scene: what it says of partitions and nodes is what the scene says.
-use Rattle.std.proofs.Common.{Bool, List, None, Option, Some, [], ap, subst, arith, filter, flat_map, length, map, refl, slice_get, suc, zero, ℕ, ◌∙◌, ◌∷◌, ◌≡◌, ◌≤◌}
+use Rattle.std.proofs.Common.{List, None, Option, Some, [], ap, subst, arith, flat_map, length, map, refl, slice_get, suc, zero, ℕ, ◌∙◌, ◌∷◌, ◌≡◌, ◌≤◌}
+use Rattle.str_base.specs.declared.limits.TheConstants.{NODES}
+use Rattle.std.proofs.lemmas.List.Elements.{filter_agree}
 use Rattle.std.specs.Prelude.{option_map}
 use Rattle.std.proofs.lemmas.Option.{slice_get-map}
 use Rattle.str_base.specs.declared.names.KeyId.{KeyId}
@@ -7,7 +9,7 @@ use Rattle.str_base.specs.declared.names.NodeId.{NodeId}
 use Rattle.str_base.specs.declared.names.PartId.{PartId}
 use Rattle.str_base.specs.declared.names.Write.{Write}
 use Rattle.partition_map.specs.Maps as maps
-use Rattle.partition_map.specs.Maps.{IsMap, is_written, numbered, others, part_or_none, row_at, unasked, written}
+use Rattle.partition_map.specs.Maps.{IsMap, is_written, numbered, others, part_or_none, row_at, unasked}
 use Rattle.str_scene.specs.SceneLimits.{Exists, IsRow, IsScene}
 use Rattle.str_scene.specs.Scenes.{Scene, hosts, map_of, named_part, part_of, participants, replicas}
 
@@ -33,19 +35,14 @@ same_written : (f g : KeyId → PartId) → ((k : KeyId) → f k ≡ g k) → (w
 same_written f g h [] p = refl
 same_written f g h (w ∷ ws) p = rw (h w.key, same_written f g h ws p) refl
 
--- two tests that agree
-same_filter : {X : Type 0} (p q : X → Bool) → ((x : X) → p x ≡ q x) → (xs : List X) → filter p xs ≡ filter q xs
-same_filter p q h [] = refl
-same_filter p q h (x ∷ xs) = rw (h x, same_filter p q h xs) refl
-
 -- the participants of a transaction
 pub participants-mapped : (scene : Scene) (origin : NodeId) (ws : List Write) → maps.participants (map_of scene) origin ws ≡ participants scene origin ws
 participants-mapped scene origin ws =
     ap (flat_map (λ p. map (unasked p) (others origin (row_at scene.parts p))))
-    (same_filter _ _ (same_written (maps.part_of (map_of scene)) (part_of scene) (part-mapped scene) ws) (numbered scene.parts))
+    (filter_agree _ _ (same_written (maps.part_of (map_of scene)) (part_of scene) (part-mapped scene) ws) (numbered scene.parts))
 
 -- a row of fewer nodes
-more_nodes : (n : ℕ) (row : List NodeId) → n ≤ 8 → IsRow n row → IsRow 8 row
+more_nodes : (n : ℕ) (row : List NodeId) → n ≤ NODES → IsRow n row → IsRow NODES row
 more_nodes n row l is =
     record { some = is.some; few = is.few; exist = λ i r e. (let k = is.exist i r e in k.0, let k = is.exist i r e in omega (arith, k.1)); distinct = is.distinct }
 

@@ -1,8 +1,8 @@
 -- Where a key stands in a table.
-use Rattle.std.proofs.Common.{◌≡◌, ◌≤◌, ◌<◌, ◌++◌, ◌∷◌, ◌⊎◌, ◌&&◌, inl, inr, [], ℕ, List, Some, None, eqb, length, length-append, nat_le, refl, ap, arith, slice_get, suc, zero, Bool, true, false, cond}
-use Rattle.std.proofs.lemmas.Bool.Decides.{Decides-eqb, nat_tests}
-use Rattle.std.proofs.lemmas.Slice.Eq.{bytes_eq-Decides}
-use Rattle.std.specs.Str.{bytes_eq}
+use Rattle.std.proofs.Common.{◌≡◌, ◌≤◌, ◌<◌, ◌++◌, ◌∷◌, ◌⊎◌, inl, inr, [], ℕ, List, Some, None, length, length-append, nat_le, refl, ap, arith, slice_get, suc, zero, Bool, true, false, cond}
+use Rattle.str_scene.specs.KeyLaws.{same_pair_self, same_pair_true}
+use Rattle.str_base.specs.declared.limits.TheConstants.{KEYS}
+use Rattle.std.proofs.lemmas.Bool.Decides.{nat_tests}
 use Rattle.str_base.specs.declared.names.PartId.{PartId}
 use Rattle.str_scene.specs.Keys.{number_of, place_of, same_pair, with_pair}
 
@@ -22,50 +22,29 @@ place_facts a [] = (omega arith, λ l. absurd (omega arith), λ _. refl)
 place_facts a (b ∷ bs) = place_more a b bs (same_pair a b) (place_facts a bs)
 
 -- a key that is there has its place as its number
-pub there : (a : List ℕ × PartId) (bs : List (List ℕ × PartId)) (n : ℕ) → n ≡ place_of a bs → n < length bs → length bs ≤ 16384 →
+pub there : (a : List ℕ × PartId) (bs : List (List ℕ × PartId)) (n : ℕ) → n ≡ place_of a bs → n < length bs → length bs ≤ KEYS →
     (number_of a bs ≡ Some (record { 0 = n })) × (with_pair a bs ≡ bs)
 there a bs n e l h =
     let same : with_pair a bs ≡ bs = (place_facts a bs).1 (omega arith) in
-    let few : nat_le (length (with_pair a bs)) 16384 ≡ true = rw same (grind (arith, nat_tests)) in
+    let few : nat_le (length (with_pair a bs)) KEYS ≡ true = rw same (grind (arith, nat_tests)) in
     (rw (few, ← e) refl, same)
 
 -- a key that is not there comes at the end, where there is room
-pub added : (a : List ℕ × PartId) (bs : List (List ℕ × PartId)) (n : ℕ) → n ≡ place_of a bs → length bs ≤ n → n < 16384 →
+pub added : (a : List ℕ × PartId) (bs : List (List ℕ × PartId)) (n : ℕ) → n ≡ place_of a bs → length bs ≤ n → n < KEYS →
     (number_of a bs ≡ Some (record { 0 = n })) × (with_pair a bs ≡ bs ++ a ∷ [])
 added a bs n e l h =
     let facts = place_facts a bs in
     let more : with_pair a bs ≡ bs ++ a ∷ [] = facts.2 (omega arith) in
-    let few : nat_le (length (with_pair a bs)) 16384 ≡ true = rw (more, length-append) (grind (arith, nat_tests)) in
+    let few : nat_le (length (with_pair a bs)) KEYS ≡ true = rw (more, length-append) (grind (arith, nat_tests)) in
     (rw (few, ← e) refl, more)
 
 -- and has no number where there is none
-pub refused : (a : List ℕ × PartId) (bs : List (List ℕ × PartId)) (n : ℕ) → n ≡ place_of a bs → length bs ≤ n → 16384 ≤ n → number_of a bs ≡ None
+pub refused : (a : List ℕ × PartId) (bs : List (List ℕ × PartId)) (n : ℕ) → n ≡ place_of a bs → length bs ≤ n → KEYS ≤ n → number_of a bs ≡ None
 refused a bs n e l h =
     let facts = place_facts a bs in
     let more : with_pair a bs ≡ bs ++ a ∷ [] = facts.2 (omega arith) in
-    let many : nat_le (length (with_pair a bs)) 16384 ≡ false = rw (more, length-append) (grind (arith, nat_tests)) in
+    let many : nat_le (length (with_pair a bs)) KEYS ≡ false = rw (more, length-append) (grind (arith, nat_tests)) in
     rw many refl
-
--- keys that are one
-pub same_pair_true : (a b : List ℕ × PartId) → same_pair a b ≡ true → b ≡ a
-same_pair_true a b e =
-    let both = and_true (bytes_eq b.0 a.0) (eqb b.1.0 a.1.0) e in
-    let names : b.0 ≡ a.0 = (bytes_eq-Decides b.0 a.0).0 both.0 in
-    let parts : b.1.0 ≡ a.1.0 = (Decides-eqb b.1.0 a.1.0).0 both.1 in
-    pair_same b.0 a.0 b.1.0 a.1.0 names parts
-  where
-    and_true : (x y : Bool) → (x && y) ≡ true → (x ≡ true) × (y ≡ true)
-    and_true true true e = (refl, refl)
-    and_true true false e = absurd cc
-    and_true false y e = absurd cc
-
-    pair_same : (n m : List ℕ) (p q : ℕ) → n ≡ m → p ≡ q → ◌≡◌ {A = List ℕ × PartId} (n, record { 0 = p }) (m, record { 0 = q })
-    pair_same n m p q e f = rw (e, f) refl
-
--- a key is one with itself
-pub same_pair_self : (a b : List ℕ × PartId) → b ≡ a → same_pair a b ≡ true
-same_pair_self a b e =
-    rw (e, (bytes_eq-Decides a.0 a.0).1 refl, (Decides-eqb a.1.0 a.1.0).1 refl) refl
 
 -- a key is in its place, and the table stays, or it is not there, and comes at the end
 abbrev pub Interned : List ℕ × PartId → List (List ℕ × PartId) → Type 0

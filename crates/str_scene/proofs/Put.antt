@@ -1,9 +1,8 @@
 -- A list with an item, at its end where it is not there.
 use Rattle.std.proofs.Common.{Bool, List, Some, [], arith, false, inl, inr, length, length-append, refl, slice_get, sym, true, ℕ, ◌++◌, ◌∷◌, ◌≡◌, ◌≤◌, ◌∙◌, ◌⊎◌}
+use Rattle.str_base.proofs.Lists.{fails_at, got_push}
 use Rattle.std.specs.List.{list_any}
 use Rattle.indexmap.specs.IndexSet.{insert_key}
-use Rattle.str_scene.proofs.Checked.{fails_at}
-use Rattle.str_scene.proofs.Each.{get_push}
 
 -- no item stands twice
 abbrev pub IsUnique : {X : Type 0} → List X → Type 0
@@ -11,13 +10,13 @@ IsUnique {X} xs = (i j : ℕ) (x : X) → slice_get xs i ≡ Some x → slice_ge
 
 -- after a push of a new item
 pub unique_push : {X : Type 0} (xs : List X) (y : X) → IsUnique xs → ((i : ℕ) → slice_get xs i ≡ Some y → ⊥) → IsUnique (xs ++ y ∷ [])
-unique_push {X = X} xs y u new i j x e f = places (get_push xs y i x e) (get_push xs y j x f)
+unique_push {X = X} xs y u new i j x e f = places (got_push xs i y x e) (got_push xs j y x f)
   where
-    places : (slice_get xs i ≡ Some x) ⊎ ((i ≡ length xs) × (x ≡ y)) → (slice_get xs j ≡ Some x) ⊎ ((j ≡ length xs) × (x ≡ y)) → i ≡ j
-    places (inl g) (inl h) = u i j x g h
-    places (inl g) (inr h) = absurd (new i (rw (sym h.1) g))
-    places (inr g) (inl h) = absurd (new j (rw (sym g.1) h))
-    places (inr g) (inr h) = g.0 ∙ sym h.0
+    places : ((i ≡ length xs) × (x ≡ y)) ⊎ (slice_get xs i ≡ Some x) → ((j ≡ length xs) × (x ≡ y)) ⊎ (slice_get xs j ≡ Some x) → i ≡ j
+    places (inr g) (inr h) = u i j x g h
+    places (inr g) (inl h) = absurd (new i (rw (sym h.1) g))
+    places (inl g) (inr h) = absurd (new j (rw (sym g.1) h))
+    places (inl g) (inl h) = g.0 ∙ sym h.0
 
 module _ {X : Type 0} (eq : X → X → Bool) (self : (a : X) → eq a a ≡ true) (put : X → List X → List X) (is_put : (a : X) (bs : List X) → insert_key eq bs a ≡ put a bs) where
   -- the item is there, and the list stays, or it is new, and comes at the end
@@ -55,10 +54,10 @@ module _ {X : Type 0} (eq : X → X → Bool) (self : (a : X) → eq a a ≡ tru
       → (i : ℕ) (x : X) → slice_get (put a bs) i ≡ Some x → P x
   put_each P a bs h p i x g = each (puts a bs)
     where
-      pushed : (slice_get bs i ≡ Some x) ⊎ ((i ≡ length bs) × (x ≡ a)) → P x
-      pushed (inl f) = h i x f
-      pushed (inr f) = rw f.1 p
+      pushed : ((i ≡ length bs) × (x ≡ a)) ⊎ (slice_get bs i ≡ Some x) → P x
+      pushed (inl f) = rw f.1 p
+      pushed (inr f) = h i x f
 
       each : Puts a bs → P x
       each (inl e) = h i x (rw e at g)
-      each (inr e) = pushed (get_push bs a i x (rw e.0 at g))
+      each (inr e) = pushed (got_push bs i a x (rw e.0 at g))

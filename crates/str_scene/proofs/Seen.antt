@@ -1,5 +1,7 @@
 -- How many numbers have been seen, list by list.
-use Rattle.std.proofs.Common.{Bool, below_more, subst, true, slice_get, zero, List, None, Option, Some, [], ap, drop, drop-cons, get_or, refl, suc, arith, sym, ℕ, ◌+◌, ◌++◌, ◌∷◌, ◌≡◌, ◌∙◌, ◌<◌, ◌≤◌, length}
+use Rattle.std.proofs.Common.{Bool, below_more, subst, true, slice_get, List, None, Option, Some, [], ap, drop, get_or, refl, arith, sym, ℕ, ◌+◌, ◌++◌, ◌∷◌, ◌≡◌, ◌∙◌, ◌<◌, ◌≤◌, length}
+use Rattle.std.proofs.lemmas.List.{drop_more}
+use Rattle.std.proofs.lemmas.Option.{get_or_from_slice_get, slice_get_within}
 use Rattle.std.specs.Prelude.{flat_map, option_and_then}
 use Rattle.std.specs.List.{list_all}
 use Rattle.std.proofs.lemmas.Grind.{flat_map-append}
@@ -14,7 +16,7 @@ use Rattle.str_scene.specs.declared.names.Op.{Op}
 
 -- a list from one item on
 drop_at_item : {X : Type 0} (xs : List X) (i : ℕ) (x : X) → i < length xs → x ≡ get_or xs i x → drop i xs ≡ x ∷ drop (i + 1) xs
-drop_at_item xs i x l e = let next : suc i ≡ i + 1 = omega arith in drop-cons xs i x l ∙ ap (λ k. get_or xs i x ∷ drop k xs) next ∙ ap (λ y. y ∷ drop (i + 1) xs) (sym e)
+drop_at_item xs i x l e = drop_more xs i x l ∙ ap (λ y. y ∷ drop (i + 1) xs) (sym e)
 
 module _ {X : Type 0} (f : X → List ℕ) (xs : List X) (i : ℕ) (x : X) (n : ℕ) (whole : Option ℕ) (l : i < length xs) (is : x ≡ get_or xs i x) (so_far : counted n (flat_map f (drop i xs)) ≡ whole) where
   -- with the numbers of one more
@@ -65,34 +67,15 @@ texts_order d ss count n e f g =
     let same : count ≡ counted 0 (flat_map text_of (all_ops d)) = e ∙ ap (λ l. counted 0 (scene_numbers Texts l)) f ∙ ap (counted 0) (all_texts d) in
     rw (same, g) refl
 
--- an element that is there, whatever stands for one that is not
-pub get_or_there : {X : Type 0} (xs : List X) (i : ℕ) (x d : X) → slice_get xs i ≡ Some x → get_or xs i d ≡ x
-get_or_there [] i x d e = absurd cc
-get_or_there (y ∷ ys) zero x d e = cc
-get_or_there (y ∷ ys) (suc i) x d e = get_or_there ys i x d e
-
--- an element within the list is there
-pub there_from_get_or : {X : Type 0} (xs : List X) (i : ℕ) (x d : X) → i < length xs → x ≡ get_or xs i d → slice_get xs i ≡ Some x
-there_from_get_or [] i x d l e = absurd (omega (arith, l))
-there_from_get_or (y ∷ ys) zero x d l e = ap Some (sym e)
-there_from_get_or (y ∷ ys) (suc i) x d l e = there_from_get_or ys i x d (omega (arith, l)) e
-
 -- a test that passes at one more
 pub all_on : {X : Type 0} (p : X → Bool) (xs : List X) (i : ℕ) (d : X) → i < length xs → p (get_or xs i d) ≡ true → list_all p (drop (i + 1) xs) ≡ list_all p (drop i xs)
-all_on p xs i d l e =
-    let next : suc i ≡ i + 1 = omega arith in
-    let whole : drop i xs ≡ get_or xs i d ∷ drop (i + 1) xs = drop-cons xs i d l ∙ ap (λ k. get_or xs i d ∷ drop k xs) next in
-    rw (whole, e) refl
+all_on p xs i d l e = rw (drop_more xs i d l, e) refl
 
 -- a fact that holds at one more
 pub each_on : {X : Type 0} (P : X → Type 0) (xs : List X) (i : ℕ) (d : X) → ((j : ℕ) → j < i → (x : X) → slice_get xs j ≡ Some x → P x) → P (get_or xs i d)
     → (j : ℕ) → j < i + 1 → (x : X) → slice_get xs j ≡ Some x → P x
-each_on P xs i d h p = below_more _ _ h (λ x e. subst P (get_or_there xs i x d e) p)
+each_on P xs i d h p = below_more _ _ h (λ x e. subst P (get_or_from_slice_get xs i x d e) p)
 
 -- an element stands below the length
 pub within : {X : Type 0} (xs : List X) (i : ℕ) (x : X) (n : ℕ) → slice_get xs i ≡ Some x → length xs ≤ n → i < n
-within [] i x n e l = absurd cc
-within (y ∷ ys) zero x n e l = omega (arith, l)
-within (y ∷ ys) (suc i) x n e l =
-    let h : i < length ys = within ys i x (length ys) e (omega arith) in
-    omega (arith, h, l)
+within xs i x n e l = omega (arith, slice_get_within xs i x e, l)

@@ -1,7 +1,8 @@
 -- A table of keys as the set that holds it.
 use Rattle.std.proofs.Common.{Bool, List, Some, [], ap, arith, cond, false, length, length-append, nat_le, nat_lt, refl, suc, sym, true, ℕ, ◌+◌, ◌++◌, ◌≤◌, ◌∷◌, ◌≡◌, ◌∙◌, ◌||◌}
+use Rattle.str_base.specs.declared.limits.TheConstants.{KEYS}
 use Rattle.std.specs.Prelude.{not}
-use Rattle.std.specs.List.{AllZip, list_any, position_or_len}
+use Rattle.std.specs.List.{list_any, position_or_len}
 use Rattle.std.specs.Str.{bytes_eq}
 use Rattle.std.proofs.lemmas.Bool.Decides.{nat_tests}
 use Rattle.indexmap.specs.IndexSet.{insert_key}
@@ -42,51 +43,41 @@ position-string_place a (b ∷ bs) = place_more (position_or_len (bytes_eq a) bs
 
 module _ {X : Type 0} (eq : X → X → Bool) (put : X → List X → List X) (is_put : (a : X) (bs : List X) → insert_key eq bs a ≡ put a bs) where
   -- there is room for an item that is there
-  pub found_room : (a b : X) (ks bs : List X) (r : Bool) → b ≡ a → ks ≡ bs → r ≡ list_any (eq b) ks → r ≡ true → length ks ≤ 16384 →
-      r ≡ nat_le (length (put a bs)) 16384
+  pub found_room : (a b : X) (ks bs : List X) (r : Bool) → b ≡ a → ks ≡ bs → r ≡ list_any (eq b) ks → r ≡ true → length ks ≤ KEYS →
+      r ≡ nat_le (length (put a bs)) KEYS
   found_room a b ks bs r e f g t l =
       let any : list_any (eq b) ks ≡ true = sym g ∙ t in
-      let few : nat_le (length ks) 16384 ≡ true = grind (arith, nat_tests) in
+      let few : nat_le (length ks) KEYS ≡ true = grind (arith, nat_tests) in
       rw (t, ← e, ← f, ← is_put b ks, any, few) refl
 
   -- and for another where one more fits
   pub added_room : (a b : X) (ks bs : List X) (r : Bool) (n : ℕ) → b ≡ a → ks ≡ bs → r ≡ list_any (eq b) ks → r ≡ false → n ≡ length ks →
-      nat_lt n 16384 ≡ nat_le (length (put a bs)) 16384
+      nat_lt n KEYS ≡ nat_le (length (put a bs)) KEYS
   added_room a b ks bs r n e f g t l =
       let any : list_any (eq b) ks ≡ false = sym g ∙ t in
       let more : suc (length ks) ≡ length ks + 1 = omega arith in
-      rw (l, ← e, ← f, ← is_put b ks, any, length-append) (ap (λ k. nat_le k 16384) more)
+      rw (l, ← e, ← f, ← is_put b ks, any, length-append) (ap (λ k. nat_le k KEYS) more)
 
   -- the items after an item was put
   pub put_items : (a b : X) (ks bs cs : List X) → b ≡ a → ks ≡ bs → cs ≡ insert_key eq ks b → cs ≡ put a bs
   put_items a b ks bs cs e f g = rw (← e, ← f) (g ∙ is_put b ks)
 
   -- are few
-  pub put_few : (a b : X) (ks bs cs : List X) → b ≡ a → ks ≡ bs → cs ≡ insert_key eq ks b → length (put a bs) ≤ 16384 → length cs ≤ 16384
+  pub put_few : (a b : X) (ks bs cs : List X) → b ≡ a → ks ≡ bs → cs ≡ insert_key eq ks b → length (put a bs) ≤ KEYS → length cs ≤ KEYS
   put_few a b ks bs cs e f g l = rw (put_items a b ks bs cs e f g) l
 
 -- the number of a key that was put
 pub put_number : (a b : List ℕ × PartId) (ks bs : List (List ℕ × PartId)) (n : ℕ) → b ≡ a → ks ≡ bs → n ≡ position_or_len (same_pair b) ks →
-    length (with_pair a bs) ≤ 16384 → number_of a bs ≡ Some (record { 0 = n })
+    length (with_pair a bs) ≤ KEYS → number_of a bs ≡ Some (record { 0 = n })
 put_number a b ks bs n e f g l =
-    let few : nat_le (length (with_pair a bs)) 16384 ≡ true = grind (arith, nat_tests) in
+    let few : nat_le (length (with_pair a bs)) KEYS ≡ true = grind (arith, nat_tests) in
     let place : n ≡ place_of a bs = rw (← e, ← f) (g ∙ position-place_of b ks) in
     rw (few, place) refl
 
 -- the number of a byte string that was put
 pub put_text_number : (a b : List ℕ) (ks bs : List (List ℕ)) (n : ℕ) → b ≡ a → ks ≡ bs → n ≡ position_or_len (bytes_eq b) ks →
-    length (with_string a bs) ≤ 16384 → string_number a bs ≡ Some (record { 0 = n })
+    length (with_string a bs) ≤ KEYS → string_number a bs ≡ Some (record { 0 = n })
 put_text_number a b ks bs n e f g l =
-    let few : nat_le (length (with_string a bs)) 16384 ≡ true = grind (arith, nat_tests) in
+    let few : nat_le (length (with_string a bs)) KEYS ≡ true = grind (arith, nat_tests) in
     let place : n ≡ string_place a bs = rw (← e, ← f) (g ∙ position-string_place b ks) in
     rw (few, place) refl
-
--- a copy of each item is the items
-pub all_copied : {X : Type 0} (xs ys : List X) → AllZip (λ x y. y ≡ x) xs ys → ys ≡ xs
-all_copied [] [] h = refl
-all_copied [] (y ∷ ys) h = absurd h
-all_copied (x ∷ xs) [] h = absurd h
-all_copied {X = X} (x ∷ xs) (y ∷ ys) h = two x y xs ys h.0 (all_copied xs ys h.1)
-  where
-    two : (x y : X) (xs ys : List X) → y ≡ x → ys ≡ xs → y ∷ ys ≡ x ∷ xs
-    two x y xs ys e f = rw (e, f) refl

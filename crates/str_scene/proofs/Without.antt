@@ -1,59 +1,28 @@
 -- Bytes without a certain byte, and the one place at which a byte parts them.
-use Rattle.std.proofs.Common.{Bool, Bor, Err, FitsSigned, IfSome, IsNone, List, MatchOption, None, Ok, Option, Result, Some, [], add-one, ap, append_assoc, arith, codes, decimal, drop, drop-cons, eqb, false, get_or, length, length-append, length-drop, negsuc, not, pos, refl, subst, sym, take, true, w64, ℕ, ℤ, ◌&&◌, ◌*◌, ◌++◌, ◌+◌, ◌<◌, ◌==◌, ◌∙◌, ◌∷◌, ◌≡◌, ◌≤◌}
-use Rattle.std.proofs.lemmas.Bool.Decides.{Decides-eqb, nat_tests}
-use Rattle.std.proofs.lemmas.List.Edits.{between_more}
-use Rattle.std.proofs.lemmas.List.Folds.{drop_split, list_all-append}
-use Rattle.std.proofs.lemmas.List.{append-nil, append_cancel_left, append_cancel_right, take-append-drop}
-use Rattle.std.proofs.lemmas.Option.{get_or_from_slice_get, slice_get_within}
-use Rattle.std.proofs.lemmas.Slice.Eq.{strip_prefix_is}
-use Rattle.std.specs.Cmp.Lexicographic.{pointwise}
-use Rattle.std.specs.Fmt.{signed_decimal}
-use Rattle.std.specs.List.{list_all, slice_get, slice_range}
-use Rattle.std.specs.Prelude.{⊤}
-use Rattle.std.specs.Result.{OkIff, result_ok}
-use Rattle.str_base.proofs.DecimalLemmas.{decimal-injective, decimal-without, signed_decimal-injective, signed_decimal-without}
-use Rattle.str_base.specs.declared.names.SessionId.{SessionId}
-use Rattle.str_scene.specs.SceneLimits.{IsNumber, in_name, is_letter, is_name}
-use Rattle.str_scene.specs.Spelling.{ended}
+use Rattle.std.proofs.Common.{List, [], false, not, refl, true, ℕ, ◌++◌, ◌+◌, ◌==◌, ◌∙◌, ◌∷◌, ◌≡◌}
+use Rattle.str_base.proofs.Tests.{not_other_self, other_by_test}
+use Rattle.std.proofs.lemmas.Bool.{and_from, and_parts}
+use Rattle.std.proofs.lemmas.List.Folds.{list_all-append}
+use Rattle.std.specs.List.{list_all}
+use Rattle.str_scene.specs.SceneLimits.{in_name, is_letter, is_name}
 use Rattle.str_scene.specs.Lists.{is_without}
-
--- both tests pass
-both : (a b : Bool) → a ≡ true → b ≡ true → (a && b) ≡ true
-both a b e f = rw (e, f)
-
--- each of two tests that both pass
-parts : (a b : Bool) → (a && b) ≡ true → (a ≡ true) × (b ≡ true)
-parts true b e = (refl, e)
-parts false b e = absurd (cc)
-
--- a byte that a test passes is not one that it does not pass
-differs : (p : ℕ → Bool) (b c : ℕ) → p b ≡ true → p c ≡ false → not (b == c) ≡ true
-differs p b c yes_b no_c = by_answer (b == c) refl
-  where
-    by_answer : (a : Bool) → (b == c) ≡ a → not a ≡ true
-    by_answer true e = let same : b ≡ c = grind (arith, nat_tests) in absurd (cc (ap p same))
-    by_answer false e = refl
 
 -- what is in neither part is not in both
 pub is_without-append : (c : ℕ) (xs ys : List ℕ) → is_without c xs ≡ true → is_without c ys ≡ true → is_without c (xs ++ ys) ≡ true
-is_without-append c xs ys e f = list_all-append (λ b. not (b == c)) xs ys ∙ both _ _ e f
-
--- a byte is itself
-not_itself : (c : ℕ) → not (c == c) ≡ true → ⊥
-not_itself c e = grind (arith, nat_tests)
+is_without-append c xs ys e f = list_all-append (λ b. not (b == c)) xs ys ∙ and_from _ _ e f
 
 -- a byte that stands in the list is in it
 pub is_without-here : (c : ℕ) (xs ys : List ℕ) → is_without c (xs ++ c ∷ ys) ≡ true → ⊥
-is_without-here c [] ys e = not_itself c (parts _ _ e).0
-is_without-here c (x ∷ xs) ys e = is_without-here c xs ys (parts _ _ e).1
+is_without-here c [] ys e = not_other_self c (and_parts _ _ e).0
+is_without-here c (x ∷ xs) ys e = is_without-here c xs ys (and_parts _ _ e).1
 
 -- a list has one part before the first of a byte, and one after it
 pub split_unique : (c : ℕ) (xs ys us vs : List ℕ) → is_without c xs ≡ true → is_without c us ≡ true → xs ++ c ∷ ys ≡ us ++ c ∷ vs → (xs ≡ us) × (ys ≡ vs)
 split_unique c [] ys [] vs a b e = (refl, cc)
-split_unique c [] ys (u ∷ us) vs a b e = let same : c ≡ u = cc in absurd (not_itself c (rw (← same) at (parts (not (u == c)) (is_without c us) b).0))
-split_unique c (x ∷ xs) ys [] vs a b e = let same : c ≡ x = cc in absurd (not_itself c (rw (← same) at (parts (not (x == c)) (is_without c xs) a).0))
+split_unique c [] ys (u ∷ us) vs a b e = let same : c ≡ u = cc in absurd (not_other_self c (rw (← same) at (and_parts (not (u == c)) (is_without c us) b).0))
+split_unique c (x ∷ xs) ys [] vs a b e = let same : c ≡ x = cc in absurd (not_other_self c (rw (← same) at (and_parts (not (x == c)) (is_without c xs) a).0))
 split_unique c (x ∷ xs) ys (u ∷ us) vs a b e =
-    let rest : (xs ≡ us) × (ys ≡ vs) = split_unique c xs ys us vs (parts (not (x == c)) (is_without c xs) a).1 (parts (not (u == c)) (is_without c us) b).1 (cc) in
+    let rest : (xs ≡ us) × (ys ≡ vs) = split_unique c xs ys us vs (and_parts (not (x == c)) (is_without c xs) a).1 (and_parts (not (u == c)) (is_without c us) b).1 (cc) in
     let first : x ≡ u = cc in
     (cc (first, rest.0), rest.1)
 
@@ -61,8 +30,8 @@ split_unique c (x ∷ xs) ys (u ∷ us) vs a b e =
 pub is_without-name : (c : ℕ) (name : List ℕ) → is_letter c ≡ false → in_name c ≡ false → is_name name ≡ true → is_without c name ≡ true
 is_without-name c [] no_letter no_follow e = absurd (cc)
 is_without-name c (b ∷ bs) no_letter no_follow e =
-    both _ _ (differs is_letter b c (parts _ _ e).0 no_letter) (rest bs (parts _ _ (parts _ _ e).1).0)
+    and_from _ _ (other_by_test is_letter b c (and_parts _ _ e).0 no_letter) (rest bs (and_parts _ _ (and_parts _ _ e).1).0)
   where
     rest : (cs : List ℕ) → list_all in_name cs ≡ true → is_without c cs ≡ true
     rest [] h = refl
-    rest (d ∷ ds) h = both _ _ (differs in_name d c (parts _ _ h).0 no_follow) (rest ds (parts _ _ h).1)
+    rest (d ∷ ds) h = and_from _ _ (other_by_test in_name d c (and_parts _ _ h).0 no_follow) (rest ds (and_parts _ _ h).1)

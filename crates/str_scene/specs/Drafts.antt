@@ -68,8 +68,8 @@ abbrev pub with_entry : Event → Scene → Scene
 with_entry e d = record d { schedule = d.schedule ++ e ∷ [] }
 
 -- with the drain
-abbrev pub drained : Scene → Scene
-drained d = record d { drain = true }
+abbrev pub with_drain : Scene → Scene
+with_drain d = record d { drain = true }
 
 -- with a key, at the end of the table where it is not there
 abbrev pub with_key : List ℕ × PartId → Scene → Scene

@@ -1,5 +1,6 @@
 -- Laws of the equality of keys, by which a table finds them.
-use Rattle.std.specs.Prelude.{Bool, List, false, true, ℕ, ◌&&◌, ◌++◌, ◌≡◌}
+use Rattle.std.specs.Prelude.{List, true, ℕ, ◌++◌, ◌≡◌}
+use Rattle.std.proofs.lemmas.Bool.{and_parts}
 use Rattle.std.proofs.Common.{eqb, refl, sym}
 use Rattle.std.specs.Bool.{Decides}
 use Rattle.std.specs.Cmp.{IsEquivalence, decided}
@@ -13,16 +14,11 @@ use Rattle.str_scene.specs.Keys.{same_pair}
 -- keys that are one
 pub same_pair_true : (a b : List ℕ × PartId) → same_pair a b ≡ true → b ≡ a
 same_pair_true a b e =
-    let both = and_true (bytes_eq b.0 a.0) (eqb b.1.0 a.1.0) e in
+    let both = and_parts (bytes_eq b.0 a.0) (eqb b.1.0 a.1.0) e in
     let names : b.0 ≡ a.0 = (bytes_eq-Decides b.0 a.0).0 both.0 in
     let parts : b.1.0 ≡ a.1.0 = (Decides-eqb b.1.0 a.1.0).0 both.1 in
     pair_same b.0 a.0 b.1.0 a.1.0 names parts
   where
-    and_true : (x y : Bool) → (x && y) ≡ true → (x ≡ true) × (y ≡ true)
-    and_true true true e = (refl, refl)
-    and_true true false e = absurd cc
-    and_true false y e = absurd cc
-
     pair_same : (n m : List ℕ) (p q : ℕ) → n ≡ m → p ≡ q → ◌≡◌ {A = List ℕ × PartId} (n, record { 0 = p }) (m, record { 0 = q })
     pair_same n m p q e f = rw (e, f) refl
 

@@ -1,5 +1,6 @@
 -- The keys of a table by name and partition.
 use Rattle.std.specs.Prelude.{Bool, List, None, Option, Some, [], if◌then◌else◌, length, nat_le, suc, ℕ, ◌&&◌, ◌∷◌}
+use Rattle.str_base.specs.declared.limits.TheConstants.{KEYS}
 use Rattle.std.specs.Str.{bytes_eq}
 use Rattle.str_base.specs.declared.names.KeyId.{KeyId}
 use Rattle.str_base.specs.declared.names.PartId.{PartId}
@@ -22,7 +23,7 @@ with_pair a (b ∷ bs) = if same_pair a b then b ∷ bs else b ∷ with_pair a b
 
 -- the number of a key in a table with it; none where that table is too long
 abbrev pub number_of : List ℕ × PartId → List (List ℕ × PartId) → Option KeyId
-number_of a bs = if nat_le (length (with_pair a bs)) 16384 then Some (record { 0 = place_of a bs }) else None
+number_of a bs = if nat_le (length (with_pair a bs)) KEYS then Some (record { 0 = place_of a bs }) else None
 
 -- the place of a byte string, which is the length where it is not there
 abbrev pub string_place : List ℕ → List (List ℕ) → ℕ
@@ -36,4 +37,4 @@ with_string a (b ∷ bs) = if bytes_eq a b then b ∷ bs else b ∷ with_string 
 
 -- the number of a byte string in a list with it; none where that list is too long
 abbrev pub string_number : List ℕ → List (List ℕ) → Option TextId
-string_number a bs = if nat_le (length (with_string a bs)) 16384 then Some (record { 0 = string_place a bs }) else None
+string_number a bs = if nat_le (length (with_string a bs)) KEYS then Some (record { 0 = string_place a bs }) else None

@@ -1,5 +1,6 @@
 -- Why an item of a draft is refused, other than for want of memory: each cause, and their order.
 use Rattle.std.specs.List.{count_by, list_all, list_any, sum_by}
+use Rattle.str_base.specs.declared.limits.TheConstants.{KEYS, NODES, NODE_SESSIONS, PARTITIONS, SCHEDULE_ENTRIES, SESSIONS, TEXT_BYTES, TRANSACTIONS}
 use Rattle.std.specs.Prelude.{Bool, List, None, Option, Some, [], false, flat_map, length, nat_le, nat_lt, not, true, ℕ, ◌&&◌, ◌==◌, ◌||◌, ◌∷◌, ◌≡◌, ◌⊎◌}
 use Rattle.str_base.specs.Versions.{same_node}
 use Rattle.str_base.specs.declared.names.NodeId.{NodeId}
@@ -69,15 +70,15 @@ is_entry sessions (Deliver i) = nat_le 1 i
 
 -- of a number of nodes
 abbrev pub nodes_fault : ℕ → Scene → Option SceneFault
-nodes_fault n d = first_fault (may_have_nodes d) (is_up_to 8 n) true
+nodes_fault n d = first_fault (may_have_nodes d) (is_up_to NODES n) true
 
 -- of a partition
 abbrev pub part_fault : List NodeId → Scene → Option SceneFault
-part_fault row d = first_fault (may_have_part d && not (is_none_yet row)) (is_row d.nodes row) (nat_lt (length d.parts) 32)
+part_fault row d = first_fault (may_have_part d && not (is_none_yet row)) (is_row d.nodes row) (nat_lt (length d.parts) PARTITIONS)
 
 -- of a session
 abbrev pub session_fault : NodeId → Scene → Option SceneFault
-session_fault node d = first_fault (may_have_session d) (is_up_to d.nodes node.0) (nat_lt (length d.sessions) 64 && nat_lt (sessions_at node d.sessions) 16)
+session_fault node d = first_fault (may_have_session d) (is_up_to d.nodes node.0) (nat_lt (length d.sessions) SESSIONS && nat_lt (sessions_at node d.sessions) NODE_SESSIONS)
 
 -- the operations are some, and byte strings are written in version 2 alone
 abbrev pub is_script : ℕ → List Op → Bool
@@ -85,11 +86,11 @@ is_script version ops = not (is_none_yet ops) && (version == 2 || not (list_any 
 
 -- of a transaction
 abbrev pub tx_fault : List Op → Scene → Option SceneFault
-tx_fault ops d = first_fault (may_have_tx d && is_script d.version ops) (list_all (is_known d.keys) ops) (nat_lt (transaction_count d.sessions) 1024)
+tx_fault ops d = first_fault (may_have_tx d && is_script d.version ops) (list_all (is_known d.keys) ops) (nat_lt (transaction_count d.sessions) TRANSACTIONS)
 
 -- of an entry
 abbrev pub entry_fault : Event → Scene → Option SceneFault
-entry_fault e d = first_fault (may_have_entry d) (is_entry (length d.sessions) e) (nat_lt (length d.schedule) 65536)
+entry_fault e d = first_fault (may_have_entry d) (is_entry (length d.sessions) e) (nat_lt (length d.schedule) SCHEDULE_ENTRIES)
 
 -- of the drain
 abbrev pub drain_fault : Scene → Option SceneFault
@@ -97,11 +98,11 @@ drain_fault d = first_fault (may_have_entry d) true true
 
 -- of a key: a table with it has at most 16,384
 abbrev pub key_fault : List ℕ × PartId → Scene → Option SceneFault
-key_fault key d = first_fault (may_have_tx d) (is_name key.0 && is_up_to (length d.parts) key.1.0) (nat_le (length (with_pair key d.keys.names)) 16384)
+key_fault key d = first_fault (may_have_tx d) (is_name key.0 && is_up_to (length d.parts) key.1.0) (nat_le (length (with_pair key d.keys.names)) KEYS)
 
 -- of a byte string: a list with it has at most 16,384
 abbrev pub text_fault : List ℕ → Scene → Option SceneFault
-text_fault text d = first_fault (may_have_tx d) (nat_le (length text) 64) (nat_le (length (with_string text d.keys.texts)) 16384)
+text_fault text d = first_fault (may_have_tx d) (nat_le (length text) TEXT_BYTES) (nat_le (length (with_string text d.keys.texts)) KEYS)
 
 -- the numbers first appear in the order 0, 1, 2 and so on, and are so many
 abbrev pub counts_to : Option ℕ → ℕ → Bool

@@ -1,6 +1,7 @@
 -- What the type of a scene keeps: its limits, and that all that it names exists.
 pub use Rattle.partition_map.specs.Maps.{Exists, IsRow}
 use Rattle.std.specs.List.{count_by, list_all, sum_by}
+use Rattle.str_base.specs.declared.limits.TheConstants.{NODES, NODE_SESSIONS, OPERATIONS, PARTITIONS, SCHEDULE_ENTRIES, SESSIONS, TEXT_BYTES, TRANSACTIONS}
 use Rattle.std.specs.Prelude.{Bool, List, None, Option, Some, [], false, flat_map, if◌then◌else◌, length, nat_le, nat_lt, negsuc, pos, slice_get, true, ℕ, ℤ, ⊤, ◌&&◌, ◌+◌, ◌<◌, ◌==◌, ◌^◌, ◌||◌, ◌∷◌, ◌≡◌, ◌≤◌, ◌⊎◌}
 use Rattle.str_base.specs.declared.names.KeyId.{KeyId}
 use Rattle.str_base.specs.declared.names.NodeId.{NodeId}
@@ -36,7 +37,7 @@ pub record IsKey (parts : ℕ) (key : List ℕ × PartId) : Type 0 where
 
 -- at most 64 bytes
 pub record IsByteText (text : List ℕ) : Type 0 where
-  pub short : length text ≤ 64
+  pub short : length text ≤ TEXT_BYTES
   pub bytes : list_all (λ b. nat_lt b 256) text ≡ true
 
 -- a number of 64 bits with a sign
@@ -61,7 +62,7 @@ IsOp version table Abort = ⊤
 -- 1 to 16 operations
 pub record IsScript (version : ℕ) (table : KeyTable) (script : List Op) : Type 0 where
   pub some : 1 ≤ length script
-  pub few : length script ≤ 16
+  pub few : length script ≤ OPERATIONS
   pub ops : (i : ℕ) (op : Op) → slice_get script i ≡ Some op → IsOp version table op
 
 -- the session's node exists, and each script is one of the scene
@@ -111,13 +112,13 @@ pub record IsTable (scene : Scene) : Type 0 where
 -- what the type of a scene keeps
 pub record IsScene (scene : Scene) : Type 0 where
   pub version : (scene.version ≡ 1) ⊎ (scene.version ≡ 2)
-  pub nodes : Exists scene.nodes 8
-  pub parts : Exists (length scene.parts) 32
+  pub nodes : Exists scene.nodes NODES
+  pub parts : Exists (length scene.parts) PARTITIONS
   pub rows : (p : ℕ) (row : List NodeId) → slice_get scene.parts p ≡ Some row → IsRow scene.nodes row
   pub table : IsTable scene
-  pub few_sessions : length scene.sessions ≤ 64
+  pub few_sessions : length scene.sessions ≤ SESSIONS
   pub sessions : (i : ℕ) (s : Session) → slice_get scene.sessions i ≡ Some s → IsSession scene s
-  pub at_one_node : (n : NodeId) → count_by (λ s. same_node s.node n) scene.sessions ≤ 16
-  pub few_transactions : sum_by (λ s. length s.txs) scene.sessions ≤ 1024
-  pub few_events : length scene.schedule ≤ 65536
+  pub at_one_node : (n : NodeId) → count_by (λ s. same_node s.node n) scene.sessions ≤ NODE_SESSIONS
+  pub few_transactions : sum_by (λ s. length s.txs) scene.sessions ≤ TRANSACTIONS
+  pub few_events : length scene.schedule ≤ SCHEDULE_ENTRIES
   pub events : (i : ℕ) (e : Event) → slice_get scene.schedule i ≡ Some e → IsEvent scene e

@@ -1,7 +1,8 @@
 //! A scene that is built item by item. An item that no scene has at its place is refused.
 ghost use Rattle.std.specs.Prelude.{◌≡◌, ◌⊎◌, ◌≤◌, ℕ, None, Some, length, slice_get, IfNone, OnOk, IfOk, IfErr, OnErr};
+ghost use Rattle.str_base.specs.declared.limits.TheConstants.{OPERATIONS, REPLICAS};
 ghost use Rattle.str_scene.specs.DraftLimits.{HasNumber, HasReading, IsDraft};
-ghost use Rattle.str_scene.specs.Drafts.{add_tx, drained, empty_draft, is_before_schedule, may_have_tx, with_entry, with_key, with_nodes, with_row, with_session, with_text, with_tx};
+ghost use Rattle.str_scene.specs.Drafts.{add_tx, with_drain, empty_draft, is_before_schedule, may_have_tx, with_entry, with_key, with_nodes, with_row, with_session, with_text, with_tx};
 ghost use Rattle.str_scene.specs.Keys.{number_of, string_number};
 ghost use Rattle.str_scene.specs.Refusals.{IsRefused, drain_fault, entry_fault, finish_fault, key_fault, keys_in_order, nodes_fault, part_fault, session_fault, text_fault, texts_in_order, transaction_count, tx_fault};
 ghost use Rattle.str_scene.specs.declared.names.Op.{Op as AnyOp};
@@ -15,6 +16,9 @@ use crate::scenes::{Scene, SessionText};
 use partition_map::PartRow;
 use std::alloc::{AllocError, Global};
 use std::marker::Model;
+use str_base::limits::{
+    NODE_SESSIONS, NODES, PARTITIONS, SCHEDULE_ENTRIES, SESSIONS, TEXT_BYTES, TRANSACTIONS,
+};
 use str_base::{KeyId, NodeId, PartId, TextId};
 
 /// A scene so far, item by item in the order of its text. It is seen as the scene with what has been given: the number
@@ -147,7 +151,7 @@ impl SceneBuild {
 
     /// Gives the drain, after a partition, once and last. After a refusal the build is as it was.
     pub fn drain(&mut self) -> Result<(), SceneFault>
-        ensures added { OnOk result (self.new ≡ drained self.old) }
+        ensures added { OnOk result (self.new ≡ with_drain self.old) }
         ensures allowed { OnOk result (drain_fault self.old ≡ None) }
         ensures refused { IfErr result (λ f. drain_fault self.old ≡ Some f) }
         ensures err { OnErr result (self.new ≡ self.old) }
@@ -265,18 +269,18 @@ impl SceneBuild {
     fn nodes_fault(&self, n: u8) -> Option<SceneFault>
         ensures { result ≡ nodes_fault n self.now }
     {
-        first_fault(self.nodes == 0, is_up_to(8, n), true)
+        first_fault(self.nodes == 0, is_up_to(NODES, n), true)
     }
 
     fn part_fault(&self, row: &PartRow) -> Option<SceneFault>
         ensures fault { result ≡ part_fault row.now self.now }
-        ensures limit { length row.now ≤ 8 }
+        ensures limit { length row.now ≤ REPLICAS }
     {
         let may_stand = self.nodes != 0 && self.sessions.is_empty() && self.is_before_schedule();
         first_fault(
             may_stand && row.len() > 0,
             is_row(self.nodes, row.as_slice()),
-            self.parts.len() < 32,
+            self.parts.len() < PARTITIONS,
         )
     }
 
@@ -284,7 +288,8 @@ impl SceneBuild {
         ensures { result ≡ session_fault node self.now }
     {
         let may_stand = !self.parts.is_empty() && self.is_before_schedule();
-        let has_room = self.sessions.len() < 64 && sessions_at(node, self.sessions.as_slice()) < 16;
+        let has_room = self.sessions.len() < SESSIONS
+            && sessions_at(node, self.sessions.as_slice()) < NODE_SESSIONS;
         first_fault(
             may_stand,
             is_up_to(usize::from(self.nodes), node.0),
@@ -295,13 +300,13 @@ impl SceneBuild {
     fn tx_fault(&self, ops: &OpList) -> Option<SceneFault>
         ensures fault { result ≡ tx_fault ops.now self.now }
         ensures numbers { IfNone result ((i : ℕ) (op : AnyOp) → slice_get ops.now i ≡ Some op → HasNumber op) }
-        ensures limit { length ops.now ≤ 16 }
+        ensures limit { length ops.now ≤ OPERATIONS }
     {
         let ops = ops.as_slice();
         first_fault(
             self.may_have_tx() && is_script(self.version, ops),
             are_known(&self.keys, ops),
-            self.transactions() < 1024,
+            self.transactions() < TRANSACTIONS,
         )
     }
 
@@ -312,7 +317,7 @@ impl SceneBuild {
         first_fault(
             !self.parts.is_empty() && !self.drain,
             is_entry(self.sessions.len(), event),
-            self.schedule.len() < 65_536,
+            self.schedule.len() < SCHEDULE_ENTRIES,
         )
     }
 
@@ -340,7 +345,7 @@ impl SceneBuild {
         if !self.may_have_tx() {
             return Some(SceneFault::Form);
         }
-        if bytes.len() > 64 {
+        if bytes.len() > TEXT_BYTES {
             return Some(SceneFault::Range);
         }
         first_fault(true, true, self.keys.has_text_room(bytes))

@@ -1,5 +1,6 @@
 //! The keys of a scene by number, and its byte strings.
 ghost use Rattle.std.specs.Cmp.{partial_equiv_from_equiv};
+ghost use Rattle.str_base.specs.declared.limits.TheConstants.{KEYS, NAME_BYTES, TEXT_BYTES};
 ghost use Rattle.std.specs.Hash as fed;
 ghost use Rattle.std.specs.List.{list_all};
 ghost use Rattle.std.specs.Prelude.{◌≡◌, ◌≤◌, ◌<◌, ◌++◌, [], Some, true, flat_map, length, nat_le, OnOk, OnErr, OnSome, IfOk, IfNone, slice_get};
@@ -15,16 +16,14 @@ use indexmap::IndexSet;
 use std::alloc::{AllocError, Global};
 use std::hash::{Hash, Hasher};
 use std::marker::Model;
+use str_base::limits::{KEYS, NAME_BYTES, TEXT_BYTES};
 use str_base::{KeyId, PartId, ShortList, TextId, push_u64};
 
-/// The most keys of a scene.
-const MOST_KEYS: usize = 16_384;
-
 /// The name of a key: 1 to 16 bytes.
-pub type Name = ShortList<u8, 16>;
+pub type Name = ShortList<u8, NAME_BYTES>;
 
 /// A byte string of a scene: at most 64 bytes.
-pub type ByteText = ShortList<u8, 64>;
+pub type ByteText = ShortList<u8, TEXT_BYTES>;
 
 /// A name and a partition. It is seen as the pair.
 #[derive(Drop)]
@@ -143,8 +142,9 @@ impl Model for KeyTable {
     ghost view = { λ t. record { names = t.names.keys; texts = t.texts.keys } };
 
     ghost use Rattle.std.specs.Prelude.{length, ◌≤◌};
+    ghost use Rattle.str_base.specs.declared.limits.TheConstants.{KEYS};
 
-    ghost invariant = { λ t. (length t.names.keys ≤ 16384) × (length t.texts.keys ≤ 16384) };
+    ghost invariant = { λ t. (length t.names.keys ≤ KEYS) × (length t.texts.keys ≤ KEYS) };
 }
 
 impl KeyTable {
@@ -172,7 +172,7 @@ impl KeyTable {
     /// The number of keys.
     pub fn len(&self) -> u32
         ensures value { result ≡ length self.now.names }
-        ensures limit { result ≤ 16384 }
+        ensures limit { result ≤ KEYS }
     {
         self.names.len() as u32
     }
@@ -180,7 +180,7 @@ impl KeyTable {
     /// The number of byte strings. Their numbers are those below it.
     pub fn texts(&self) -> u32
         ensures value { result ≡ length self.now.texts }
-        ensures limit { result ≤ 16384 }
+        ensures limit { result ≤ KEYS }
     {
         self.texts.len() as u32
     }
@@ -196,32 +196,32 @@ impl KeyTable {
 
     /// Whether the table with a key has at most 16,384 keys.
     pub(crate) fn has_room(&self, name: &[u8], part: PartId) -> bool
-        requires { length name.now ≤ 16 }
-        ensures { result ≡ nat_le (length (with_pair (name.now, part) self.now.names)) 16384 }
+        requires { length name.now ≤ NAME_BYTES }
+        ensures { result ≡ nat_le (length (with_pair (name.now, part) self.now.names)) KEYS }
     {
         let key = NamedKey {
             name: short_name(name),
             part,
         };
-        self.names.contains(&key) || self.names.len() < MOST_KEYS
+        self.names.contains(&key) || self.names.len() < KEYS
     }
 
     /// Whether the list with a byte string has at most 16,384 byte strings.
     pub(crate) fn has_text_room(&self, bytes: &[u8]) -> bool
-        requires { length bytes.now ≤ 64 }
-        ensures { result ≡ nat_le (length (with_string bytes.now self.now.texts)) 16384 }
+        requires { length bytes.now ≤ TEXT_BYTES }
+        ensures { result ≡ nat_le (length (with_string bytes.now self.now.texts)) KEYS }
     {
         let text = StoredText {
             bytes: byte_text(bytes),
         };
-        self.texts.contains(&text) || self.texts.len() < MOST_KEYS
+        self.texts.contains(&text) || self.texts.len() < KEYS
     }
 
     /// The number of a key, which is put at the end where it is not there. It needs a name, and that the key is there or the
     /// table has fewer than 16,384 keys. It fails where memory runs out, and then the table stays as it was.
     pub fn intern(&mut self, name: &[u8], part: PartId) -> Result<KeyId, AllocError>
         requires name { is_name name.now ≡ true }
-        requires room { length (with_pair (name.now, part) self.old.names) ≤ 16384 }
+        requires room { length (with_pair (name.now, part) self.old.names) ≤ KEYS }
         ensures number { IfOk result (λ k. number_of (name.now, part) self.old.names ≡ Some k) }
         ensures added { OnOk result (self.new ≡ record self.old { names = with_pair (name.now, part) self.old.names }) }
         ensures err { OnErr result (self.new ≡ self.old) }
@@ -231,7 +231,7 @@ impl KeyTable {
 
     /// The number of a key, which is put at the end where it is not there.
     fn put(&mut self, name: Name, part: PartId) -> Result<KeyId, AllocError>
-        requires { length (with_pair (name, part) self.old.names) ≤ 16384 }
+        requires { length (with_pair (name, part) self.old.names) ≤ KEYS }
         ensures number { IfOk result (λ k. number_of (name, part) self.old.names ≡ Some k) }
         ensures added { OnOk result (self.new ≡ record self.old { names = with_pair (name, part) self.old.names }) }
         ensures err { OnErr result (self.new ≡ self.old) }
@@ -243,8 +243,8 @@ impl KeyTable {
     /// The number of a byte string, which is put at the end where it is not there. It needs at most 64 bytes, and that the
     /// byte string is there or the table has fewer than 16,384. It fails where memory runs out, and then the table stays as it was.
     pub fn intern_text(&mut self, bytes: &[u8]) -> Result<TextId, AllocError>
-        requires short { length bytes.now ≤ 64 }
-        requires room { length (with_string bytes.now self.old.texts) ≤ 16384 }
+        requires short { length bytes.now ≤ TEXT_BYTES }
+        requires room { length (with_string bytes.now self.old.texts) ≤ KEYS }
         ensures number { IfOk result (λ t. string_number bytes.now self.old.texts ≡ Some t) }
         ensures added { OnOk result (self.new ≡ record self.old { texts = with_string bytes.now self.old.texts }) }
         ensures err { OnErr result (self.new ≡ self.old) }
@@ -359,7 +359,7 @@ fn all_may_follow(bytes: &[u8]) -> bool
 }
 
 /// The bytes are a name: a letter, then at most 15 letters, digits or underscores.
-pub(crate) fn spells_name(bytes: &[u8]) -> bool
+pub fn spells_name(bytes: &[u8]) -> bool
     ensures { result ≡ is_name bytes.now }
 {
     let Some((first, rest)) = bytes.split_first() else {
@@ -369,8 +369,8 @@ pub(crate) fn spells_name(bytes: &[u8]) -> bool
 }
 
 /// A name of these bytes.
-pub(crate) fn short_name(bytes: &[u8]) -> Name
-    requires { length bytes.now ≤ 16 }
+pub fn short_name(bytes: &[u8]) -> Name
+    requires { length bytes.now ≤ NAME_BYTES }
     ensures { result ≡ bytes.now }
 {
     let mut name = Name::new();
@@ -382,7 +382,7 @@ pub(crate) fn short_name(bytes: &[u8]) -> Name
 
 /// A byte string of these bytes.
 fn byte_text(bytes: &[u8]) -> ByteText
-    requires { length bytes.now ≤ 64 }
+    requires { length bytes.now ≤ TEXT_BYTES }
     ensures { result ≡ bytes.now }
 {
     let mut text = ByteText::new();

@@ -15,6 +15,6 @@ pub mod scenes;
 pub use build::SceneBuild;
 pub use faults::{SceneFault, Why};
 pub use first::is_first;
-pub use keys::{ByteText, KeyTable, Name};
+pub use keys::{ByteText, KeyTable, Name, short_name, spells_name};
 pub use names::{Event, Op, OpList, TxPlace};
 pub use scenes::{Scene, SessionText};

@@ -1,6 +1,7 @@
 //! Operations, events and the places of transactions.
 
 use std::marker::{Send, Sync};
+use str_base::limits::OPERATIONS;
 use str_base::{KeyId, SessionId, ShortList, TextId};
 
 /// An operation of a script.
@@ -24,7 +25,7 @@ pub enum Op {
 }
 
 /// A script: from 1 to 16 operations.
-pub type OpList = ShortList<Op, 16>;
+pub type OpList = ShortList<Op, OPERATIONS>;
 
 /// The `index`-th transaction of a session, counted from 1.
 #[derive(Clone, Copy, Debug, Default, PartialEq, Eq)]

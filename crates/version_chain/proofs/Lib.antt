@@ -1,6 +1,13 @@
 pub mod Each
 pub mod Lists
 pub mod Ordered
-pub mod Ranges
+pub mod OfKey
 pub mod Keeping
-pub mod Settling
+pub mod Members
+pub mod Flats
+pub mod Spots
+pub mod Walking
+pub mod Pending
+pub mod Changed
+pub mod Deciding
+pub mod Few

@@ -88,3 +88,21 @@ last_at o x (y ∷ xs) = last_at (Some x) y xs
 pub last_is : {A : Type 0} (xs : List A) → last_or None xs ≡ slice_get xs (length xs - 1)
 last_is [] = refl
 last_is (x ∷ xs) = let e : length xs ≡ length (x ∷ xs) - 1 = omega arith in last_at None x xs ∙ ap (λ n. slice_get (x ∷ xs) n) e
+
+-- the last that passes, where one more follows
+pub last_passes : {A : Type 0} (p : A → Bool) (o : Option A) (xs : List A) (x : A) → p x ≡ true → last_or o (filter p (xs ++ x ∷ [])) ≡ Some x
+last_passes {A = A} p o [] x h = rw h refl
+last_passes {A = A} p o (y ∷ ys) x h = by_test (p y) (λ w. last_passes p w ys x h)
+  where
+    by_test : (b : Bool) → ((w : Option A) → last_or w (filter p (ys ++ x ∷ [])) ≡ Some x) → last_or o (if b then y ∷ filter p (ys ++ x ∷ []) else filter p (ys ++ x ∷ [])) ≡ Some x
+    by_test true rec = rec (Some y)
+    by_test false rec = rec o
+
+pub last_fails : {A : Type 0} (p : A → Bool) (o : Option A) (xs : List A) (x : A) → p x ≡ false → last_or o (filter p (xs ++ x ∷ [])) ≡ last_or o (filter p xs)
+last_fails {A = A} p o [] x h = rw h refl
+last_fails {A = A} p o (y ∷ ys) x h = by_test (p y) (λ w. last_fails p w ys x h)
+  where
+    by_test : (b : Bool) → ((w : Option A) → last_or w (filter p (ys ++ x ∷ [])) ≡ last_or w (filter p ys))
+        → last_or o (if b then y ∷ filter p (ys ++ x ∷ []) else filter p (ys ++ x ∷ [])) ≡ last_or o (if b then y ∷ filter p ys else filter p ys)
+    by_test true rec = rec (Some y)
+    by_test false rec = rec o

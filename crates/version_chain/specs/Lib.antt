@@ -1,1 +1,4 @@
 pub mod ChainLists
+pub mod Walks
+pub mod Flat
+pub mod Undecided

@@ -1,7 +1,11 @@
-//! The versions of all keys in order, with look-ups of one key by halving.
+//! The versions of all keys in order, linked by key and by transaction.
 #![tactic(auto)]
 
 pub mod chains;
+mod pairs;
 mod places;
+mod sorted;
+pub mod walks;
 
 pub use chains::Chains;
+pub use walks::Walk;

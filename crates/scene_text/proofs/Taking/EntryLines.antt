@@ -10,7 +10,7 @@ use Rattle.scene_text.specs.SceneLines.{body_lines, drain_line, entry_line}
 use Rattle.scene_text.specs.Taking.{Limits}
 use Rattle.scene_text.specs.declared.lines.Line.TheVariants.{Drain as LDrain, End as LEnd, Schedule as LSchedule}
 use Rattle.str_scene.proofs.Each.{each_push}
-use Rattle.str_scene.specs.Drafts.{drained, with_entry}
+use Rattle.str_scene.specs.Drafts.{with_drain, with_entry}
 use Rattle.str_scene.specs.Scenes.{KeyTable, Scene}
 use Rattle.str_scene.specs.declared.names.Event.{Event}
 use Rattle.str_scene.specs.declared.names.Op.{Op}
@@ -57,7 +57,7 @@ step_entry limits InSchedule d ops x next range room e k a =
 step_entry limits _ d ops x next range room e k a = absurd (none-some _ e)
 
 -- the drain keeps the limits
-drain_kept : (limits : Limits) (d : Scene) (ops : List Op) → Kept limits d ops → Kept limits (drained d) ops
+drain_kept : (limits : Limits) (d : Scene) (ops : List Op) → Kept limits d ops → Kept limits (with_drain d) ops
 drain_kept limits d ops k = record {
   table = k.table;
   rows = k.rows;
@@ -76,9 +76,9 @@ drain_kept limits d ops k = record {
 
 -- the drain
 pub step_drain : (limits : Limits) (place : Place) (d : Scene) (ops : List Op) (next : Place) → entry_follows AfterDrain place ≡ Some next → Kept limits d ops →
-    At limits place d ops → Step limits (mk place d ops) LDrain (mk next (drained d) ops)
+    At limits place d ops → Step limits (mk place d ops) LDrain (mk next (with_drain d) ops)
 step_drain limits InSchedule d ops next e k a =
-    subst (λ p. Step limits (mk InSchedule d ops) LDrain (mk p (drained d) ops)) (same_Some _ _ e)
+    subst (λ p. Step limits (mk InSchedule d ops) LDrain (mk p (with_drain d) ops)) (same_Some _ _ e)
     (record {
       stands = record {
         kept = drain_kept limits d ops k;

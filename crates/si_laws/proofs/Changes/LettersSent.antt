@@ -3,8 +3,6 @@ use Rattle.partition_map.specs.declared.rows.Asked.{Asked}
 use Rattle.str_model.proofs.Changes.VersionChanges.{Placed, by_master, by_slave}
 use Rattle.str_model.proofs.Principle.SingleChanges.{Act, IsHere, Where, act_abort, act_abort_came, act_accept, act_ack, act_ask, act_begin, act_certify, act_close, act_commit, act_commit_came, act_mark, act_put, act_refuse, act_reply, act_request, act_take, act_unwait, act_wait}
 use Rattle.str_model.proofs.Changes.SnapshotsGain.{if_elim}
-use Rattle.str_model.proofs.Lists.ListReads.{get_set}
-use Rattle.str_model.proofs.Lists.Members.{In, in_append, in_filter, in_map}
 use Rattle.std.proofs.Common.{Bool, List, Some, [], ap, false, filter, inl, inr, map, refl, subst, sym, true, ℕ, ◌++◌, ◌∙◌, ◌∷◌, ◌≡◌, ◌⊎◌}
 use Rattle.str_base.specs.Versions.{insert_all, mark_of, stamp}
 use Rattle.str_base.specs.declared.names.Cause.{Cause}
@@ -25,6 +23,9 @@ use Rattle.str_model.specs.declared.messages.Input.{Input}
 use Rattle.str_model.specs.declared.messages.Message.{Message}
 use Rattle.str_model.specs.declared.names.KeyMark.{KeyMark}
 use Rattle.str_scene.specs.Scenes.{Here, first_or, in_part, leads, others, replicas}
+use Rattle.str_base.proofs.Lists.{get_set}
+use Rattle.str_base.proofs.Members.{in_append, in_filter, in_map}
+use Rattle.str_base.specs.Members.{In}
 
 -- neither asked nor answered nor decided
 abbrev pub is_plain : Body → Bool

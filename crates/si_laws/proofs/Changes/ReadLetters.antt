@@ -3,7 +3,6 @@ use Rattle.partition_map.specs.declared.rows.Asked.{Asked}
 use Rattle.str_model.proofs.ViewFacts.MarksRise.{Rises, raise_all-rises, raised-rises, rises_self}
 use Rattle.str_model.proofs.Principle.SingleChanges.{Act, Serves, Where, act_abort, act_abort_came, act_accept, act_ack, act_ask, act_begin, act_certify, act_close, act_commit, act_commit_came, act_mark, act_put, act_refuse, act_reply, act_request, act_take, act_unwait, act_wait}
 use Rattle.str_model.proofs.Changes.SnapshotsGain.{if_elim}
-use Rattle.str_model.proofs.Lists.Members.{In, in_append, in_map}
 use Rattle.std.proofs.Common.{Bool, List, Option, [], ap, false, filter, inl, inr, map, refl, sym, true, ℕ, ◌++◌, ◌∙◌, ◌∷◌, ◌≡◌, ◌⊎◌}
 use Rattle.str_base.specs.declared.names.KeyId.{KeyId}
 use Rattle.str_base.specs.declared.names.NodeId.{NodeId}
@@ -21,8 +20,11 @@ use Rattle.str_model.specs.declared.messages.Message.{Message}
 use Rattle.str_model.specs.Gates.{CommitAt, gate_of}
 use Rattle.str_model.specs.Owned.{Owns}
 use Rattle.str_model.specs.Proposals.{proposed}
+use Rattle.str_model.specs.Turns.{Away, read_turn}
 use Rattle.str_model.specs.Views.{Doing, Own, is_decided, letter, name_of}
 use Rattle.str_scene.specs.Scenes.{Here, first_or, in_part, leads, others, replicas}
+use Rattle.str_base.proofs.Members.{in_append, in_map}
+use Rattle.str_base.specs.Members.{In}
 
 -- neither a read nor a reply nor a commit
 abbrev pub is_other : Body → Bool
@@ -33,7 +35,7 @@ is_other _ = true
 
 -- a message that has just been sent
 pub data ReadLetter (here : Here) (input : Input) (d e : Doing) (m : Message) : Type 0 where
-  rl_request : (i : ℕ) (k : KeyId) (x : Own) → Owns d.view i x → m.body ≡ ReadReq (name_of here i) k (stamp x.snap.rs) → ReadLetter here input d e m
+  rl_request : (i : ℕ) (k : KeyId) (x : Own) → Owns d.view i x → (m.sender ≡ here.node) × (read_turn here d.view x.snap k ≡ Away m.receiver) → m.body ≡ ReadReq (name_of here i) k (stamp x.snap.rs) → ReadLetter here input d e m
   rl_reply : (tx : TxId) (k : KeyId) (rs : ℕ) (v : Value) (by : Option TxId) (fc : ℕ) → Serves here input d tx k rs v by fc → m.sender ≡ here.node → m.body ≡ ReadReply tx k v by (stamp fc)
       → e.view ≡ d.view → ReadLetter here input d e m
   rl_commit : (i lc fc : ℕ) (x : Own) (a : Asked) → Owns d.view i x → (is_decided x.phase ≡ false) × (gate_of here d.view lc x ≡ CommitAt fc) → In a x.parts → m.receiver ≡ a.node
@@ -66,7 +68,7 @@ module _ (here : Here) (input : Input) (w : Where) where
   letters_act d e (act_put i x y d' own g) m h = inl h
   letters_act d e (act_request i k n x d' own g) m h = elim (in_append d'.sent (letter here n (ReadReq (name_of here i) k (stamp x.snap.rs)) ∷ []) m h) [
     | inl j ↦ inl j
-    | inr j ↦ (elim j [ inl z ↦ inr (rl_request i k x own.0 (ap (λ (y : Message). y.body) (sym z))) | inr z ↦ absurd z ])
+    | inr j ↦ (elim j [ inl z ↦ inr (rl_request i k x own.0 (ap (λ (y : Message). y.sender) (sym z), g.away ∙ ap (λ (y : Message). Away y.receiver) z) (ap (λ (y : Message). y.body) (sym z))) | inr z ↦ absurd z ])
   ]
   letters_act d e (act_certify i lc snap x d' own f n q) m h = inl h
   letters_act d e (act_ask i lc p x d' own f l g) m h = others_only d' e (Acts.ask_letters here i lc x p (replicas here.scene p)) m (asks_other i lc x p (replicas here.scene p)) h

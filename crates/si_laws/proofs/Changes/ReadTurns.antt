@@ -14,9 +14,11 @@ use Rattle.str_model.specs.Turns.{Away, Give, Plain, ReadTurn, ServeTurn, ServeW
 use Rattle.str_model.specs.Turns
 use Rattle.str_model.specs.Views.{Own, View}
 use Rattle.str_scene.specs.Scenes.{Here, first_or, hosts_key, part_of, replicas}
-use Rattle.str_model.proofs.Changes.SnapshotsGain.{Names, and_right, in_last, visible-is}
-use Rattle.str_model.proofs.Changes.VersionsMet.{filter_in, over_names}
-use Rattle.str_model.proofs.Lists.Members.{In, in_filter}
+use Rattle.str_model.proofs.Changes.SnapshotsGain.{Names, in_last, visible-is}
+use Rattle.str_model.proofs.Changes.VersionsMet.{over_names}
+use Rattle.str_base.proofs.Tests.{and_true_right}
+use Rattle.str_base.proofs.Members.{filter_in, in_filter}
+use Rattle.str_base.specs.Members.{In}
 
 -- a plain read: of a Final version at or below the snapshot, or of nothing
 abbrev pub PlainOf : View → Snap → Option TxId → Type 0
@@ -116,7 +118,7 @@ give-is vs k rs a by fc e = by_undecided (last_undecided vs k rs) refl e
               (filter_in (λ (x : Version). same_key x.key k && (nat_le x.ts.0 rs && is_undecided x.kind)) vs v f.0 (no_and (same_key v.key k) (nat_le v.ts.0 rs) (is_undecided v.kind) f.1 u))),
           sym s,
           t,
-          leb-true v.ts.0 rs (and_right (same_key v.key k) (nat_le v.ts.0 rs) f.1),
+          leb-true v.ts.0 rs (and_true_right (same_key v.key k) (nat_le v.ts.0 rs) f.1),
         )
 
     by_undecided : (o : Option Version) → last_undecided vs k rs ≡ o → Turns.serve_after vs k rs o ≡ Give a by fc

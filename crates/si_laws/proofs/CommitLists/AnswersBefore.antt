@@ -1,9 +1,10 @@
 -- The order of answers in a list, and what the release of one more keeps.
 use Rattle.std.proofs.Common.{Bool, List, [], ap, arith, false, if◌then◌else◌, inl, inr, ltb-true, nat_lt, refl, true, ◌++◌, ◌<◌, ◌∷◌, ◌≡◌, ◌⊎◌}
-use Rattle.str_model.proofs.Lists.Members.{In, in_append, in_left, in_right}
 use Rattle.str_model.proofs.Changes.AnswerChanges.{Rising, r_more, r_none}
 use Rattle.str_model.specs.Views.{release}
 use Rattle.str_model.specs.declared.messages.Answer.{Answer}
+use Rattle.str_base.proofs.Members.{in_append, in_left, in_right}
+use Rattle.str_base.specs.Members.{In}
 
 -- the one stands before the other
 abbrev pub Precedes : List Answer → Answer → Answer → Type 0

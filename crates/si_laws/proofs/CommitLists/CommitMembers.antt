@@ -10,7 +10,8 @@ use Rattle.str_model.specs.Evaluation.{eval}
 use Rattle.str_scene.specs.Scenes.{Scene, script_at}
 use Rattle.si_laws.proofs.CommitLists.AnswerAdded.{before, not_before_itself, not_both}
 use Rattle.si_laws.proofs.CommitLists.CommitOrder.{InOrder}
-use Rattle.str_model.proofs.Lists.Members.{In, in_append}
+use Rattle.str_base.proofs.Members.{in_append}
+use Rattle.str_base.specs.Members.{In}
 
 -- ---- the members of the rest of a commit list, after those in past
 

@@ -18,8 +18,9 @@ use Rattle.str_base.specs.Versions.{stamp}
 use Rattle.si_laws.proofs.CommitLists.AnswerAdded.{commits_push, lower_before}
 use Rattle.si_laws.proofs.CommitLists.CommitMembers.{le_or_above, members_rest, rest_in}
 use Rattle.si_laws.proofs.CommitLists.CommitOrder.{Named, commits_in, commits_order, named}
-use Rattle.str_model.proofs.Lists.Members.{In, at_in, in_at}
 use Rattle.si_laws.proofs.CommitLists.SeenAgain.{AllKeep, Inserted, KeepsAmong, LaterWriter, inserted, new_member, new_seen, seen_again}
+use Rattle.str_base.proofs.Members.{at_in, in_at}
+use Rattle.str_base.specs.Members.{In}
 
 -- a released commit that wrote the key is final between the new commit's final timestamp and the snapshot of b
 pub record Covered (scene : Scene) (all : List Answer) (f : ℕ) (b : Answer) (k : KeyId) : Type 0 where

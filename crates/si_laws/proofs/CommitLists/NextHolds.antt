@@ -13,15 +13,11 @@ use Rattle.str_model.specs.Owned.{wrote_key}
 use Rattle.str_model.specs.Evaluation.{Evaluated}
 use Rattle.str_scene.specs.Scenes.{Scene}
 use Rattle.si_laws.specs.SnapshotIsolation.{AnswersPlaced, CommittedSnapshots, IsAnswer, IsCommittedAt, IsCommittedSnapshot, IsPlaced, IsWish, NoOverlap, SI, SIRun, SessionOrder, Wishes, of_one_session}
-use Rattle.str_model.proofs.Lists.ListReads.{got_push}
 use Rattle.si_laws.proofs.CommitLists.NextAnswer.{IsNext, SeenNext, seen_next}
+use Rattle.std.proofs.lemmas.Option.{slice_get_within}
+use Rattle.str_base.proofs.Lists.{got_push}
 
 -- ---- lists
-
-got_less : {A : Type 0} (xs : List A) (i : ℕ) (x : A) → slice_get xs i ≡ Some x → i < length xs
-got_less [] i x e = absurd cc
-got_less (y ∷ xs) zero x e = omega arith
-got_less (y ∷ xs) (suc i) x e = let k : i < length xs = got_less xs i x e in omega arith
 
 take_before : {A : Type 0} (xs : List A) (i : ℕ) (y z : A) → slice_get xs i ≡ Some z → take i (xs ++ y ∷ []) ≡ take i xs
 take_before [] i y z e = absurd cc
@@ -148,7 +144,7 @@ sessions_next scene all a si next = record {
 }
   where
     not_after : (i j : ℕ) (y : Answer) → i < j → i ≡ length all → IsAnswer all j y → ⊥
-    not_after i j y l q m = let k : j < length all = got_less all j y m in omega arith
+    not_after i j y l q m = let k : j < length all = slice_get_within all j y m in omega arith
 
     rs_ : (i j : ℕ) (x y : Answer) → i < j → Which all a i x → Which all a j y → x.place.session ≡ y.place.session → x.rs.0 ≤ y.rs.0
     rs_ i j x y l (inl h) (inl m) q = let u : i ≡ j = h.0 ∙ sym m.0 in absurd (omega arith)
@@ -189,47 +185,3 @@ si_none scene = record {
   sessions = record { rs = λ i j a b l e f q. absurd cc; fc = λ i j f a b l e d q p. absurd cc; node = λ i j a b e f q l. absurd cc };
   wishes = λ i a e. absurd cc;
 }
-
--- ---- runs of the machine
-
--- one more is taken, or all were
-take_next : {A : Type 0} (xs : List A) (n : ℕ) → ((x : A) × (slice_get xs n ≡ Some x) × (take (suc n) xs ≡ take n xs ++ x ∷ [])) ⊎ (take (suc n) xs ≡ take n xs)
-take_next [] zero = inr refl
-take_next [] (suc n) = inr refl
-take_next (x ∷ xs) zero = inl (x, refl, refl)
-take_next (x ∷ xs) (suc n) = elim (take_next xs n) [ inl h ↦ inl (h.0, h.1, ap (λ ys. x ∷ ys) h.2) | inr h ↦ inr (ap (λ ys. x ∷ ys) h) ]
-
--- a list of answers each of which may follow those before it is a run of the machine
-pub si_run : (scene : Scene) (all : List Answer) → ((n : ℕ) (a : Answer) → IsAnswer all n a → IsNext scene (take n all) a) → SIRun scene all
-si_run scene all next zero = si_none scene
-si_run scene all next (suc n) = by_end (si_run scene all next n) (take_next all n)
-  where
-    by_end : SI scene (take n all) → ((x : Answer) × (slice_get all n ≡ Some x) × (take (suc n) all ≡ take n all ++ x ∷ [])) ⊎ (take (suc n) all ≡ take n all) → SI scene (take (suc n) all)
-    by_end rec (inl h) = subst (SI scene) (sym h.2) (si_next scene (take n all) h.0 rec (next n h.0 h.1))
-    by_end rec (inr h) = subst (SI scene) (sym h) rec
-
-take_push : {A : Type 0} (xs : List A) (n : ℕ) (y : A) → (take n (xs ++ y ∷ []) ≡ take n xs) ⊎ (take n (xs ++ y ∷ []) ≡ xs ++ y ∷ [])
-take_push [] zero y = inl refl
-take_push [] (suc zero) y = inr refl
-take_push [] (suc (suc n)) y = inr refl
-take_push (x ∷ xs) zero y = inl refl
-take_push (x ∷ xs) (suc n) y = elim (take_push xs n y) [ inl e ↦ inl (ap (λ ys. x ∷ ys) e) | inr e ↦ inr (ap (λ ys. x ∷ ys) e) ]
-
--- a run of the machine goes on
-pub run_next : (scene : Scene) (all : List Answer) (a : Answer) → SIRun scene all → IsNext scene all a → SIRun scene (all ++ a ∷ [])
-run_next scene all a run next n =
-    elim (take_push all n a) [
-      | inl e ↦ subst (SI scene) (sym e) (run n)
-      | inr e ↦ subst (SI scene) (sym e) (si_next scene all a (subst (SI scene) (take-length all) (run (length all))) next)
-    ]
-
--- each of the further answers may follow those before it
-abbrev pub AllNext : Scene → List Answer → List Answer → Type 0
-AllNext scene all [] = Unit {0}
-AllNext scene all (a ∷ more_) = IsNext scene all a × AllNext scene (all ++ a ∷ []) more_
-
--- it goes on with all that one event releases
-pub run_goes_on : (scene : Scene) (all more_ : List Answer) → SIRun scene all → AllNext scene all more_ → SIRun scene (all ++ more_)
-run_goes_on scene all [] run next = subst (SIRun scene) (sym (append-nil all)) run
-run_goes_on scene all (a ∷ more_) run next =
-    subst (SIRun scene) (append_assoc all (a ∷ []) more_) (run_goes_on scene (all ++ a ∷ []) more_ (run_next scene all a run next.0) next.1)

@@ -14,8 +14,9 @@ use Rattle.str_scene.specs.Scenes.{Scene, script_at}
 use Rattle.si_laws.proofs.CommitLists.CommitOrder.{Named}
 use Rattle.si_laws.proofs.CommitLists.SnapshotValues.{look_absent, look_written}
 use Rattle.si_laws.proofs.CommitLists.NextAnswer.{Covered, Keeps, rs_below}
-use Rattle.str_model.proofs.Lists.ListReads.{same_or_not}
-use Rattle.str_model.proofs.Lists.Members.{In, at_in, in_map}
+use Rattle.std.proofs.lemmas.Bool.{cases_eq}
+use Rattle.str_base.proofs.Members.{at_in, in_map}
+use Rattle.str_base.specs.Members.{In}
 
 -- all commits that wrote the key are above the snapshot
 abbrev pub NoneBelow : Scene → List Answer → Answer → KeyId → Type 0
@@ -80,7 +81,7 @@ pub top_of : (scene : Scene) (all : List Answer) (k : KeyId) (u b : Answer) (g h
 top_of scene all k u b g h si at_u is_u wrote_u at_b is_b wrote_b le = by_places (at_in all b at_b) (at_in all u at_u)
   where
     by_places : (i : ℕ) × IsAnswer all i b → (j : ℕ) × IsAnswer all j u → (b ≡ u) ⊎ (h < g)
-    by_places p q = by_order (same_or_not p.0 q.0)
+    by_places p q = by_order (cases_eq p.0 q.0)
       where
         below_u : u.rs.0 < g
         below_u = rs_below (seen scene all u) u g (si.snapshots q.0 u q.1) is_u

@@ -15,7 +15,8 @@ use Rattle.str_base.specs.Versions.{stamp}
 use Rattle.si_laws.proofs.CommitLists.AnswerAdded.{commits_push, fc_before_trans, lower_before, not_both}
 use Rattle.si_laws.proofs.CommitLists.CommitMembers.{AllBefore, Hides, IsUnmoved, above_evaluated, filter_first, hidden_look, in_rest, members_append, members_rest, other_look, rest, stands_before, with_member}
 use Rattle.si_laws.proofs.CommitLists.CommitOrder.{InOrder, Named, Put, commits_order, in_commits, put_in}
-use Rattle.str_model.proofs.Lists.Members.{In, in_append, in_filter, in_right}
+use Rattle.str_base.proofs.Members.{in_append, in_filter, in_right}
+use Rattle.str_base.specs.Members.{In}
 
 -- a member above m that the answer sees and that wrote the key
 pub record LaterWriter (all : List Member) (b : Answer) (m : Member) (k : KeyId) : Type 0 where

@@ -15,9 +15,11 @@ use Rattle.str_base.specs.Versions.{same_key}
 use Rattle.si_laws.proofs.CommitLists.AnswerAdded.{lower_before, not_before_itself, not_both}
 use Rattle.si_laws.proofs.CommitLists.CommitMembers.{AllBefore, all_before_next, before_first, filter_none, in_rest, members_rest, rest, stands_before}
 use Rattle.si_laws.proofs.CommitLists.CommitOrder.{InOrder, Named, commits_order, in_commits}
-use Rattle.str_model.proofs.Lists.Members.{In, in_filter}
 use Rattle.si_laws.proofs.CommitLists.NextAnswer.{members_in}
 use Rattle.si_laws.proofs.CommitLists.SeenAgain.{filter_in}
+use Rattle.std.proofs.lemmas.Bool.{and_parts}
+use Rattle.str_base.proofs.Members.{in_filter}
+use Rattle.str_base.specs.Members.{In}
 
 -- ---- each member is of an answer
 
@@ -105,10 +107,6 @@ last_is test o (x ∷ xs) m s (inr h) e top = by_test (test x) (λ o'. last_is t
     by_test true rec = rec (Some x)
     by_test false rec = rec o
 
-both : (p q : Bool) → (p && q) ≡ true → (p ≡ true) × (q ≡ true)
-both true q e = (refl, e)
-both false q e = absurd cc
-
 not_both_true : (p q : Bool) → (p ≡ true → q ≡ true → ⊥) → (p && q) ≡ false
 not_both_true true true n = absurd (n refl refl)
 not_both_true true false n = refl
@@ -164,7 +162,7 @@ look_written scene all a k u g n above at_u is le wrote top =
     others x h p = told (is_of scene all x n (in_filter (counts_for a a.outcome) (members scene all) x h).0)
       where
         parts : (nat_le x.fc a.rs.0 ≡ true) × (wrote_key k x.writes ≡ true)
-        parts = both (nat_le x.fc a.rs.0) (wrote_key k x.writes) p
+        parts = and_parts (nat_le x.fc a.rs.0) (wrote_key k x.writes) p
 
         same_time : (r : IsOf scene all x) → r.answer ≡ u → x.fc ≡ g
         same_time r q = let c : IsCommittedAt u x.fc = subst (λ z. IsCommittedAt z x.fc) q r.committed in one_time u x.fc g c is

@@ -9,8 +9,9 @@ use Rattle.str_model.specs.Drains.{cluster_run}
 use Rattle.str_model.specs.Evaluation.{AtEnd, Evaluated, Stop, Unmet}
 use Rattle.str_scene.specs.Scenes.{Scene}
 use Rattle.si_laws.specs.Commits.{Member, members, seen}
-use Rattle.str_model.proofs.Worked.Rows4.{scene_lost_update}
-use Rattle.str_model.proofs.Worked.Rows5.{scene_transfer, scene_wrapping_and_unmet_need}
+use Rattle.str_model.proofs.Worked.Commits.Transfer.{transfer}
+use Rattle.str_model.proofs.Worked.Commits.WrappingAndUnmetNeed.{wrapping_and_unmet_need}
+use Rattle.str_model.proofs.Worked.Conflicts.LostUpdate.{lost_update}
 use Rattle.str_model.proofs.Worked.Words.{everything}
 
 -- the answers of a scene's run
@@ -36,26 +37,26 @@ abbrev got : ℕ → ℤ → Got
 got k n = record { key = record { 0 = k }; value = Num n }
 
 -- of two sums on one key one commits, and the other aborts
-lost_update : map told (members scene_lost_update (answers_of scene_lost_update)) ≡ (11, wrote 0 (pos 1) ∷ []) ∷ []
-unfolding everything scene_lost_update
-lost_update = refl
+lost_update-members : map told (members lost_update (answers_of lost_update)) ≡ (11, wrote 0 (pos 1) ∷ []) ∷ []
+unfolding everything lost_update
+lost_update-members = refl
 
 -- a sum that wraps, and a need that isn't met
-wrapping_members : map told (members scene_wrapping_and_unmet_need (answers_of scene_wrapping_and_unmet_need)) ≡
+wrapping-members : map told (members wrapping_and_unmet_need (answers_of wrapping_and_unmet_need)) ≡
     (11, wrote 0 (negsuc 9223372036854775807) ∷ []) ∷ []
-unfolding everything scene_wrapping_and_unmet_need
-wrapping_members = refl
+unfolding everything wrapping_and_unmet_need
+wrapping-members = refl
 
-wrapping_seen : seen_by scene_wrapping_and_unmet_need ≡ (got 0 (negsuc 9223372036854775807) ∷ [], AtEnd) ∷ ([], Unmet) ∷ []
-unfolding everything scene_wrapping_and_unmet_need
-wrapping_seen = refl
+wrapping-seen : seen_by wrapping_and_unmet_need ≡ (got 0 (negsuc 9223372036854775807) ∷ [], AtEnd) ∷ ([], Unmet) ∷ []
+unfolding everything wrapping_and_unmet_need
+wrapping-seen = refl
 
 -- a transfer between two nodes, and a read of both accounts
-transfer_members : map told (members scene_transfer (answers_of scene_transfer)) ≡
+transfer-members : map told (members transfer (answers_of transfer)) ≡
     (1001, wrote 0 (pos 100) ∷ []) ∷ (1002, wrote 0 (pos 70) ∷ wrote 1 (pos 30) ∷ []) ∷ []
-unfolding everything scene_transfer
-transfer_members = refl
+unfolding everything transfer
+transfer-members = refl
 
-transfer_seen : seen_by scene_transfer ≡ ([], AtEnd) ∷ ([], AtEnd) ∷ (got 0 (pos 70) ∷ got 1 (pos 30) ∷ [], AtEnd) ∷ []
-unfolding everything scene_transfer
-transfer_seen = refl
+transfer-seen : seen_by transfer ≡ ([], AtEnd) ∷ ([], AtEnd) ∷ (got 0 (pos 70) ∷ got 1 (pos 30) ∷ [], AtEnd) ∷ []
+unfolding everything transfer
+transfer-seen = refl

@@ -20,14 +20,15 @@ use Rattle.str_model.specs.Views.{Committed, Doing, Local, Own, View, is_decided
 use Rattle.str_scene.specs.Scenes.{Here, participants}
 use Rattle.str_model.proofs.Principle.SingleChanges.{Act, Takes, Where, act_abort, act_abort_came, act_accept, act_ack, act_ask, act_begin, act_certify, act_close, act_commit, act_commit_came, act_mark, act_put, act_refuse, act_reply, act_request, act_take, act_unwait, act_wait}
 use Rattle.str_model.proofs.Changes.SnapshotsGain.{CertGood, Names, cert_turn-good}
-use Rattle.str_model.proofs.Lists.ListReads.{get_set, got_set}
 use Rattle.str_model.proofs.Changes.VersionsMet.{accept_met, cert_met}
-use Rattle.str_model.proofs.Lists.Members.{In, in_filter, in_insert_all, in_map, in_without}
 use Rattle.si_laws.proofs.Dependencies.AroundLocal.{Around, EachAround, FinalKnown, PresApart, Stand, far_final, final_below, final_late, local_above, local_below, own_final, owner_at}
 use Rattle.str_model.proofs.OwnFacts.EarlierDependencies.{depends-act}
 use Rattle.str_model.proofs.Changes.PairWords.{decides_far, hosted_name, not_done, pair-is}
 use Rattle.si_laws.proofs.Dependencies.LeftAlone.{finals-act, old_around}
 use Rattle.str_model.proofs.OwnFacts.LocalOwners.{LocalOwner, decided_old, final_old, open-fate, placed_old, same_own}
+use Rattle.str_base.proofs.Lists.{get_set, got_set}
+use Rattle.str_base.proofs.Members.{in_filter, in_insert_all, in_map, in_without}
+use Rattle.str_base.specs.Members.{In}
 
 -- ---- around
 

@@ -8,9 +8,9 @@ use Rattle.str_model.specs.Turns.{CommittedAt, own_fate}
 use Rattle.str_model.specs.Views.{Own, View, is_decided, lc_of}
 use Rattle.str_scene.specs.Scenes.{Here}
 use Rattle.str_model.proofs.Changes.SnapshotsGain.{Names, Settles}
-use Rattle.str_model.proofs.Lists.Members.{In}
 use Rattle.str_model.proofs.OwnFacts.LocalOwners.{Depends, LocalOwner, open-fate, same_own}
 use Rattle.str_model.specs.Turns
+use Rattle.str_base.specs.Members.{In}
 
 -- At a moment: T (the i-th own transaction, x) is undecided and certified at lc with a Local version of a key, and q is a version of that key
 -- of another transaction. Then q is not Pre. If it is Final, then at or below T's snapshot, or it is of an own dependency of T that was decided in this

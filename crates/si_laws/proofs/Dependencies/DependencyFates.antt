@@ -8,8 +8,6 @@ use Rattle.str_model.specs.Turns.{CommittedAt, own_fate}
 use Rattle.str_model.specs.Views.{Doing, Own, View, is_decided, lc_of}
 use Rattle.str_model.proofs.Principle.SingleChanges.{Act, InTurn, Where, act_abort, act_abort_came, act_accept, act_ack, act_ask, act_begin, act_certify, act_close, act_commit, act_commit_came, act_mark, act_put, act_refuse, act_reply, act_request, act_take, act_unwait, act_wait}
 use Rattle.str_model.proofs.Changes.SnapshotsGain.{Names}
-use Rattle.str_model.proofs.Lists.ListReads.{get_push, get_set, get_set_other, got_push, got_set, same_or_not}
-use Rattle.str_model.proofs.Lists.Members.{In}
 use Rattle.str_model.proofs.Changes.OwnChanges.{OwnStep, own_step, rests, starts_one, turns_one}
 use Rattle.si_laws.proofs.Dependencies.AroundLocal.{Carried, named_more}
 use Rattle.si_laws.proofs.Dependencies.LeftAlone.{carried}
@@ -17,6 +15,9 @@ use Rattle.str_model.proofs.OwnFacts.LocalOwners.{same_own}
 use Rattle.str_model.proofs.Changes.PairWords.{decided-step}
 use Rattle.si_laws.specs.GateLaw.{HasCommitted}
 use Rattle.si_laws.specs.Standing.{IsAborted}
+use Rattle.str_base.proofs.Lists.{get_push, get_set, get_set_other, got_push, got_set}
+use Rattle.std.proofs.lemmas.Bool.{cases_eq}
+use Rattle.str_base.specs.Members.{In}
 
 -- The i-th own transaction, once it depended on the one of this number: it still does, or that one has committed at or below its snapshot, or it has aborted.
 -- Why: a transaction commits without dependencies, so all that it ever depended on have then committed at or below its snapshot.
@@ -31,13 +32,9 @@ pub data Stays (w : Where) (e : View) (i : ℕ) (x : Own) : Type 0 where
   now_committed : w ≡ InTurn i → x.snap.deps ≡ [] → (y : Own) → Owns e i y → y.snap ≡ x.snap → Stays w e i x
   now_aborted : (y : Own) → Owns e i y → IsAborted y → Stays w e i x
 
--- where the list only grows or one that goes on is set
-open_after : (w : Where) (d e : View) (i : ℕ) (x : Own) → Owns d i x → is_decided x.phase ≡ false → e.own ≡ d.own → Stays w e i x
-open_after w d e i x own op q = stays_open x (rw q own) op
-
 set_after : (w : Where) (d e : View) (n i : ℕ) (x z y : Own) → Owns d i x → is_decided x.phase ≡ false → Owns d n z → e.own ≡ slice_set d.own n y → (i ≡ n → x ≡ z → Stays w e i x) → Stays w e i x
 set_after w d e n i x z y own op is q this =
-    elim (same_or_not i n) [
+    elim (cases_eq i n) [
       | inl s ↦ this s (same_own d i n x z own is s)
       | inr s ↦ stays_open x (rw q (get_set_other d.own n i y s ∙ own)) op
     ]

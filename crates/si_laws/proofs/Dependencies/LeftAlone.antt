@@ -15,14 +15,16 @@ use Rattle.str_model.specs.Views.{Committed, Doing, Own, View, is_decided, name_
 use Rattle.str_scene.specs.Scenes.{Here}
 use Rattle.str_model.proofs.Principle.SingleChanges.{Act, Where, act_abort, act_abort_came, act_accept, act_ack, act_ask, act_begin, act_certify, act_close, act_commit, act_commit_came, act_mark, act_put, act_refuse, act_reply, act_request, act_take, act_unwait, act_wait}
 use Rattle.str_model.proofs.Changes.SnapshotsGain.{Extends, Names, Settles}
-use Rattle.str_model.proofs.Lists.ListReads.{get_push, get_set, get_set_other, got_set, same_or_not}
-use Rattle.str_model.proofs.Lists.Members.{In, in_filter, in_insert_all, in_left, in_map, in_right, in_without}
 use Rattle.str_model.proofs.Changes.OwnChanges.{Becomes, OwnStep, aborts, certifies, closes, commits, goes_on, own_step, rests, starts_one, turns_one}
 use Rattle.si_laws.proofs.Dependencies.AroundLocal.{Around, Carried, FinalKnown, Stand, carry, far_final, own_final, owner_at}
 use Rattle.str_model.proofs.Changes.PairWords.{becomes-open, decides_far, hosted_name, pair-is}
 use Rattle.str_model.proofs.OwnFacts.EarlierDependencies.{depends-act}
 use Rattle.str_model.proofs.OwnFacts.LocalOwners.{Depends, open-fate, same_own}
 use Rattle.str_model.specs.Turns
+use Rattle.str_base.proofs.Lists.{get_push, get_set, get_set_other, got_set}
+use Rattle.std.proofs.lemmas.Bool.{cases_eq}
+use Rattle.str_base.proofs.Members.{in_filter, in_insert_all, in_left, in_map, in_right, in_without}
+use Rattle.str_base.specs.Members.{In}
 
 -- ---- own transactions
 
@@ -74,7 +76,7 @@ carried d e (turns_one n x' y' is q b) = record { each = each_one; fates = each_
 
     each_fate : (k fc : ℕ) → own_fate (slice_get d.own k) ≡ CommittedAt fc → own_fate (slice_get e.own k) ≡ CommittedAt fc
     each_fate k fc g =
-        elim (same_or_not k n) [
+        elim (cases_eq k n) [
           | inl s ↦ absurd (let o : own_fate (slice_get d.own k) ≡ Turns.Open = ap (λ m. own_fate (slice_get d.own m)) s ∙ (ap own_fate is ∙ open-fate x'.phase (becomes-open d d.floor e.floor x' y' b)) in cc (sym g ∙ o))
           | inr s ↦ rw q (ap own_fate (get_set_other d.own n k y' s) ∙ g)
         ]

@@ -13,12 +13,12 @@ use Rattle.str_model.specs.Turns.{CommittedAt, own_fate}
 use Rattle.str_model.specs.Views.{Doing, View, starts}
 use Rattle.str_model.proofs.Principle.StepPaths.{StepPath, step-keeps}
 use Rattle.str_model.proofs.Principle.Everywhere.{at_each_event, at_place}
-use Rattle.str_model.proofs.Lists.Members.{in_at}
 use Rattle.si_laws.proofs.Dependencies.AroundLocal.{Around, AroundAfter, EachAround, Stand, after_above, after_below, after_final, final_below, final_late, local_above, local_below, owner_at}
 use Rattle.si_laws.proofs.Dependencies.AroundKept.{stand-act}
 use Rattle.str_model.proofs.OwnFacts.TurnsBelow.{Below}
 use Rattle.str_model.proofs.OwnFacts.DependenciesStand.{open_opening, step_open}
 use Rattle.si_laws.specs.Laws.Apart.{PreApartLocal}
+use Rattle.str_base.proofs.Members.{in_at}
 
 -- after each event: what stands at each moment, and each dependency is undecided
 pub record StandAfter (here : Here) (v : View) : Type 0 where

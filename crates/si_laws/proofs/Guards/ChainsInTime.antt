@@ -1,9 +1,7 @@
 -- Versions of a key stand in order of their timestamps, at every moment; so the last one at or below a timestamp is the greatest.
 use Rattle.str_model.proofs.Changes.VersionChanges.{VersionStep, v_decided, v_finals, v_locals, v_pres, v_rests, v_without, version_step}
 use Rattle.str_model.proofs.Principle.SingleChanges.{Act, Where}
-use Rattle.str_model.proofs.Changes.SnapshotsGain.{and_left, and_right, in_last}
-use Rattle.str_model.proofs.Changes.VersionsMet.{filter_in}
-use Rattle.str_model.proofs.Lists.Members.{In, in_filter, in_insert}
+use Rattle.str_model.proofs.Changes.SnapshotsGain.{in_last}
 use Rattle.std.proofs.Common.{Bool, List, None, Option, Some, [], arith, eq-eqb, eqb-true, false, filter, if◌then◌else◌, inl, inr, le-leb, leb-true, lt-ltb, ltb-false, ltb-true, map, nat_le, nat_lt, not, refl, subst, sym, true, ℕ, ◌&&◌, ◌<◌, ◌==◌, ◌||◌, ◌∙◌, ◌∷◌, ◌≡◌, ◌≤◌, ◌⊎◌, ap}
 use Rattle.std.specs.List.{last_or}
 use Rattle.str_base.specs.Versions.{insert_all, insert_version, is_before, is_pre, is_undecided, last_pre, last_undecided, of_pair, of_tx, same_key, settled, tx_before, visible, without}
@@ -13,6 +11,10 @@ use Rattle.str_model.specs.Acts.{is_hosted_of, local_version, pre_version}
 use Rattle.str_model.specs.Views.{Doing, name_of}
 use Rattle.str_model.specs.declared.messages.Input.{Input}
 use Rattle.str_scene.specs.Scenes.{Here}
+use Rattle.std.proofs.lemmas.Bool.{and_from, or_cases, or_parts}
+use Rattle.str_base.proofs.Tests.{and_true_left, and_true_right}
+use Rattle.str_base.proofs.Members.{filter_in, in_filter, in_insert}
+use Rattle.str_base.specs.Members.{In}
 
 -- the key of the one is less, or it is the same and the timestamp is not greater
 abbrev pub NotAfter : Version → Version → Type 0
@@ -29,23 +31,15 @@ after_trans a b c (inl p) (inr q) = inl (omega (arith, p, q.0))
 after_trans a b c (inr p) (inl q) = inl (omega (arith, p.0, q))
 after_trans a b c (inr p) (inr q) = inr (p.0 ∙ q.0, omega (arith, p.1, q.1))
 
-or_split : (a b : Bool) → (a || b) ≡ true → (a ≡ true) ⊎ (b ≡ true)
-or_split true b e = inl refl
-or_split false b e = inr e
-
-neither : (a b : Bool) → (a || b) ≡ false → (a ≡ false) × (b ≡ false)
-neither true b e = absurd cc
-neither false b e = (refl, e)
-
 before_not_after : (u v : Version) → is_before u v ≡ true → NotAfter u v
-before_not_after u v e = elim (or_split (nat_lt u.key.0 v.key.0) _ e) [
+before_not_after u v e = elim (or_cases (nat_lt u.key.0 v.key.0) _ e) [
   | inl p ↦ inl (ltb-true u.key.0 v.key.0 p)
-  | inr p ↦ (let k = eqb-true u.key.0 v.key.0 (and_left (same_key u.key v.key) _ p) in
+  | inr p ↦ (let k = eqb-true u.key.0 v.key.0 (and_true_left (same_key u.key v.key) _ p) in
       inr (
         k,
-        elim (or_split (nat_lt u.ts.0 v.ts.0) _ (and_right (same_key u.key v.key) _ p)) [
+        elim (or_cases (nat_lt u.ts.0 v.ts.0) _ (and_true_right (same_key u.key v.key) _ p)) [
           | inl q ↦ (let l = ltb-true u.ts.0 v.ts.0 q in omega (arith, l))
-          | inr q ↦ (let l = eqb-true u.ts.0 v.ts.0 (and_left (u.ts.0 == v.ts.0) (tx_before u.tx v.tx) q) in omega (arith, l))
+          | inr q ↦ (let l = eqb-true u.ts.0 v.ts.0 (and_true_left (u.ts.0 == v.ts.0) (tx_before u.tx v.tx) q) in omega (arith, l))
         ],
       ))
 ]
@@ -54,7 +48,7 @@ not_before_after : (u v : Version) → is_before u v ≡ false → NotAfter v u
 not_before_after u v e = by_key (same_key u.key v.key) refl n.1
   where
     n : (nat_lt u.key.0 v.key.0 ≡ false) × ((same_key u.key v.key && (nat_lt u.ts.0 v.ts.0 || ((u.ts.0 == v.ts.0) && tx_before u.tx v.tx))) ≡ false)
-    n = neither (nat_lt u.key.0 v.key.0) _ e
+    n = or_parts (nat_lt u.key.0 v.key.0) _ e
 
     le : v.key.0 ≤ u.key.0
     le = ltb-false u.key.0 v.key.0 n.0
@@ -67,7 +61,7 @@ not_before_after u v e = by_key (same_key u.key v.key) refl n.1
         by_order false p = let l = ltb-false v.key.0 u.key.0 p in let s : same_key u.key v.key ≡ true = eq-eqb u.key.0 v.key.0 (omega (arith, l, le)) in absurd (cc (s, q))
 
     by_key : (b : Bool) → same_key u.key v.key ≡ b → (b && (nat_lt u.ts.0 v.ts.0 || ((u.ts.0 == v.ts.0) && tx_before u.tx v.tx))) ≡ false → NotAfter v u
-    by_key true q f = inr (sym (eqb-true u.key.0 v.key.0 q), ltb-false u.ts.0 v.ts.0 (neither (nat_lt u.ts.0 v.ts.0) _ f).0)
+    by_key true q f = inr (sym (eqb-true u.key.0 v.key.0 q), ltb-false u.ts.0 v.ts.0 (or_parts (nat_lt u.ts.0 v.ts.0) _ f).0)
     by_key false q f = inl (other q)
 
 -- ---- what keeps the order
@@ -138,16 +132,12 @@ last_greatest o (y ∷ ys) v x h e (inl q) k = elim (in_last (Some y) ys v e) [
   ])
 ]
 
-and_both : (a b : Bool) → a ≡ true → b ≡ true → (a && b) ≡ true
-and_both true b p q = q
-and_both false b p q = absurd (cc p)
-
 -- where no version of the key is visible, each is above
 pub none_visible : (vs : List Version) (k : KeyId) (r : ℕ) → visible vs k r ≡ None → (q : Version) → In q vs → q.key ≡ k → r < q.ts.0
 none_visible vs k r e q m key = by_order (nat_le q.ts.0 r) refl
   where
     by_order : (b : Bool) → nat_le q.ts.0 r ≡ b → r < q.ts.0
-    by_order true p = absurd (none_passes (λ (x : Version). same_key x.key k && nat_le x.ts.0 r) vs q e m (and_both (same_key q.key k) _ (eq-eqb q.key.0 k.0 (ap (λ (z : KeyId). z.0) key)) p))
+    by_order true p = absurd (none_passes (λ (x : Version). same_key x.key k && nat_le x.ts.0 r) vs q e m (and_from (same_key q.key k) _ (eq-eqb q.key.0 k.0 (ap (λ (z : KeyId). z.0) key)) p))
     by_order false p = Rattle.std.proofs.Common.leb-false q.ts.0 r p
 
 -- the visible one is of the key, at or below, and each other is above or not after it
@@ -166,19 +156,19 @@ visible_one vs k r v h e = elim (in_last None (filter test vs) v e) [ inl q ↦ 
     is : In v (filter test vs) → IsVisible vs k r v
     is m =
         let f = in_filter test vs v m in
-        let kv = eqb-true v.key.0 k.0 (and_left (same_key v.key k) _ f.1) in
+        let kv = eqb-true v.key.0 k.0 (and_true_left (same_key v.key k) _ f.1) in
         record {
           is_in = f.0;
           key = λ j. record { 0 = kv j };
-          below = leb-true v.ts.0 r (and_right (same_key v.key k) _ f.1);
+          below = leb-true v.ts.0 r (and_true_right (same_key v.key k) _ f.1);
           greatest = λ q n key. by_order q n key (nat_le q.ts.0 r) refl;
         }
       where
         by_order : (q : Version) → In q vs → q.key ≡ k → (b : Bool) → nat_le q.ts.0 r ≡ b → (r < q.ts.0) ⊎ (q.ts.0 ≤ v.ts.0)
         by_order q n key true p =
             let kq = ap (λ (z : KeyId). z.0) key in
-            let j = filter_in test vs q n (and_both (same_key q.key k) _ (eq-eqb q.key.0 k.0 kq) p) in
-            let kv = eqb-true v.key.0 k.0 (and_left (same_key v.key k) _ (in_filter test vs v m).1) in
+            let j = filter_in test vs q n (and_from (same_key q.key k) _ (eq-eqb q.key.0 k.0 kq) p) in
+            let kv = eqb-true v.key.0 k.0 (and_true_left (same_key v.key k) _ (in_filter test vs v m).1) in
             inr (last_greatest None (filter test vs) v q (filter_in_time test vs h) e j (kq ∙ sym kv))
         by_order q n key false p = inl (Rattle.std.proofs.Common.leb-false q.ts.0 r p)
 
@@ -188,7 +178,7 @@ none_pre vs k r e q m key = by_order (nat_le q.ts.0 r) refl (is_pre q.kind) refl
   where
     by_order : (b : Bool) → nat_le q.ts.0 r ≡ b → (c : Bool) → is_pre q.kind ≡ c → (r < q.ts.0) ⊎ (is_pre q.kind ≡ false)
     by_order true p true s = absurd (none_passes (λ (x : Version). same_key x.key k && (nat_le x.ts.0 r && is_pre x.kind)) vs q e m
-        (and_both (same_key q.key k) _ (eq-eqb q.key.0 k.0 (ap (λ (z : KeyId). z.0) key)) (and_both (nat_le q.ts.0 r) _ p s)))
+        (and_from (same_key q.key k) _ (eq-eqb q.key.0 k.0 (ap (λ (z : KeyId). z.0) key)) (and_from (nat_le q.ts.0 r) _ p s)))
     by_order true p false s = inr s
     by_order false p c s = inl (Rattle.std.proofs.Common.leb-false q.ts.0 r p)
 
@@ -198,6 +188,6 @@ none_undecided vs k r e q m key = by_order (nat_le q.ts.0 r) refl (is_undecided 
   where
     by_order : (b : Bool) → nat_le q.ts.0 r ≡ b → (c : Bool) → is_undecided q.kind ≡ c → (r < q.ts.0) ⊎ (is_undecided q.kind ≡ false)
     by_order true p true s = absurd (none_passes (λ (x : Version). same_key x.key k && (nat_le x.ts.0 r && is_undecided x.kind)) vs q e m
-        (and_both (same_key q.key k) _ (eq-eqb q.key.0 k.0 (ap (λ (z : KeyId). z.0) key)) (and_both (nat_le q.ts.0 r) _ p s)))
+        (and_from (same_key q.key k) _ (eq-eqb q.key.0 k.0 (ap (λ (z : KeyId). z.0) key)) (and_from (nat_le q.ts.0 r) _ p s)))
     by_order true p false s = inr s
     by_order false p c s = inl (Rattle.std.proofs.Common.leb-false q.ts.0 r p)

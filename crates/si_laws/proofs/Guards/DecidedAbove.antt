@@ -10,9 +10,6 @@ use Rattle.si_laws.proofs.Guards.VersionOrigins.{AllWritten, HasWritten, Origin,
 use Rattle.str_model.proofs.OwnFacts.LocalOwners.{open-fate, same_own}
 use Rattle.str_model.proofs.Principle.SingleChanges.{Act, Comes, Where}
 use Rattle.str_model.proofs.Principle.Everywhere.{IsSeen, Sent, Stage, at_place, during}
-use Rattle.str_model.proofs.Changes.SnapshotsGain.{and_left}
-use Rattle.str_model.proofs.Lists.ListReads.{get_set}
-use Rattle.str_model.proofs.Lists.Members.{In, in_at, in_left}
 use Rattle.si_laws.proofs.Guards.ReadGuards
 use Rattle.std.proofs.Common.{List, Some, false, add-sub_cancel, ap, arith, slice_get, slice_set, subst, subst₂, sym, true, ℕ, ◌++◌, ◌+◌, ◌-◌, ◌∙◌, ◌≡◌, ◌≤◌}
 use Rattle.str_base.specs.Versions.{mark_of, of_pair}
@@ -35,6 +32,10 @@ use Rattle.str_model.specs.declared.messages.Input.{Input}
 use Rattle.str_model.specs.declared.messages.Message.{Message}
 use Rattle.str_model.specs.declared.names.KeyMark.{KeyMark}
 use Rattle.str_scene.specs.Scenes.{Scene, hosts, part_of}
+use Rattle.str_base.proofs.Tests.{and_true_left}
+use Rattle.str_base.proofs.Lists.{get_set}
+use Rattle.str_base.proofs.Members.{in_at, in_left}
+use Rattle.str_base.specs.Members.{In}
 
 module _ (scene : Scene) (s : Stage) (i : ℕ) (v : View) (input : Input) (w : Where) (d e : Doing) (is : slice_get s.nodes i ≡ Some v) (seen : IsSeen s input) (act : Act (at_place scene i) input w d e)
     (g : Governed scene (during s i d)) (vals : AllWritten scene (during s i d)) where
@@ -126,7 +127,7 @@ module _ (scene : Scene) (s : Stage) (i : ℕ) (v : View) (input : Input) (w : W
               let wr : Write = record { key = p.key; value = p.value } in
               let inside : In wr x.writes = subst (In wr) (sym ws.0) wrote.write in
               let hosted : hosts scene (record { 0 = i + 1 }) (part_of scene p.key) ≡ true =
-              subst (λ (y : PartId). hosts scene (record { 0 = i + 1 }) y ≡ true) (sym pair.1 ∙ g.masters.parts i d.view at_d p j) (and_left (hosts scene (record { 0 = i + 1 }) r) _ dec) in
+              subst (λ (y : PartId). hosts scene (record { 0 = i + 1 }) y ≡ true) (sym pair.1 ∙ g.masters.parts i d.view at_d p j) (and_true_left (hosts scene (record { 0 = i + 1 }) r) _ dec) in
               let f = committed_stands scene (during s i d) g.linked_ t x st fc.0 z.2 wr inside (record { 0 = i + 1 }) hosted in
               let here : f.0 ≡ i = omega (arith, ap (λ (y : NodeId). y.0) f.3) in
               let view : f.1 ≡ d.view = one_of f.1 d.view (slice_get (slice_set s.nodes i d.view) i) (subst (λ (k : ℕ). slice_get (slice_set s.nodes i d.view) k ≡ Some f.1) here f.4) at_d in

@@ -12,8 +12,6 @@ use Rattle.si_laws.proofs.Marks.ReplyMarks.{FarReads, far_opening, far_step}
 use Rattle.si_laws.proofs.Sources.FinalsReported.{CommittedIn, Reported, reported-act, reported_opening}
 use Rattle.str_model.proofs.Principle.SingleChanges.{Act, Arrives, Where, a_prepare, a_read}
 use Rattle.str_model.proofs.Principle.Everywhere.{IsSeen, Stage, at_place, during, everywhere, stage_of}
-use Rattle.str_model.proofs.Lists.ListReads.{get_set, get_set_other, got_replicate, got_set}
-use Rattle.str_model.proofs.Lists.Members.{In, in_append}
 use Rattle.si_laws.specs.Standing.{IsCommitted}
 use Rattle.std.proofs.Common.{List, None, Option, Some, [], ap, inl, inr, slice_get, slice_set, subst, subst₂, sym, true, ℕ, ◌∙◌, ◌∷◌, ◌≡◌}
 use Rattle.str_base.specs.declared.names.KeyId.{KeyId}
@@ -29,6 +27,9 @@ use Rattle.str_model.specs.declared.messages.Waiter.{Waiter}
 use Rattle.str_scene.specs.SceneLimits.{IsScene}
 use Rattle.str_scene.specs.Scenes.{Here, Scene, hosts_key}
 use Rattle.str_scene.specs.declared.names.Event.{Event}
+use Rattle.str_base.proofs.Lists.{get_set, get_set_other, got_replicate, got_set}
+use Rattle.str_base.proofs.Members.{in_append}
+use Rattle.str_base.specs.Members.{In}
 
 -- each read that waits is for a key of the node
 abbrev pub WaitersHosted : Here → View → Type 0

@@ -1,7 +1,6 @@
 -- The guard of a read from an own undecided transaction: it stays, or the writer aborts, or it commits and the guard becomes one of what is final.
 use Rattle.si_laws.proofs.Order.CertifiedVersions.{committed_stands}
 use Rattle.si_laws.proofs.Dependencies.AroundLocal.{Around, Stand, final_below, final_late, local_above, local_below}
-use Rattle.str_model.proofs.Changes.PairWords.{same_tx-is}
 use Rattle.si_laws.proofs.Guards.ReadGuards.{Clear, LocalsClear, Moved, locals_stay, m_local, m_new, m_old, m_pre}
 use Rattle.si_laws.proofs.Guards.GuardGrounds.{Grounds, committed_write, committer}
 use Rattle.si_laws.proofs.Guards.GuardsKept.{FinalGuard, GoneWriter, MarkSent, OpenWriter, ReadGuard, committed_up, fg_some, open_not, rg_final, rg_gone, rg_open, rg_sent, there_d, there_e, written_up}
@@ -16,10 +15,7 @@ use Rattle.si_laws.proofs.Guards.DecidedAbove.{all_moved}
 use Rattle.str_model.proofs.Changes.OwnTurns.{OwnChange, o_acks, o_aborts, o_asks, o_begins, o_certifies, o_closes, o_commits, o_puts, o_rests, own_change}
 use Rattle.str_model.proofs.Principle.SingleChanges.{Act, Where}
 use Rattle.str_model.proofs.Principle.Everywhere.{IsSeen, Stage, at_place, during}
-use Rattle.str_model.proofs.Lists.ListReads.{get_push, get_set, get_set_other, same_or_not}
-use Rattle.str_model.proofs.Lists.Members.{In, in_append, in_left, in_right, map_in}
 use Rattle.str_model.proofs.Principle.OwnPaths.{gate_commits}
-use Rattle.str_model.proofs.Changes.VersionsMet.{filter_in}
 use Rattle.si_laws.specs.Standing.{IsAborted}
 use Rattle.std.proofs.Common.{Bool, List, None, Option, Some, [], add-sub_cancel, ap, arith, eq-eqb, false, inl, inr, length, map, refl, slice_get, slice_set, subst, subst₂, sym, true, ℕ, ◌++◌, ◌+◌, ◌<◌, ◌∙◌, ◌∷◌, ◌≡◌, ◌≢◌, ◌≤◌, ◌⊎◌}
 use Rattle.str_base.specs.Versions.{mark_of, same_tx, stamp}
@@ -44,6 +40,11 @@ use Rattle.str_model.specs.declared.names.KeyMark.{KeyMark}
 use Rattle.str_model.specs.declared.names.ReadDone.{ReadDone}
 use Rattle.str_scene.specs.SceneLimits.{IsScene}
 use Rattle.str_scene.specs.Scenes.{Here, Scene, hosts, in_part, is_master, part_of}
+use Rattle.str_base.proofs.SameNames.{cases_tx, same_tx-is}
+use Rattle.str_base.proofs.Members.{filter_in, in_append, in_left, in_right, map_in}
+use Rattle.str_base.proofs.Lists.{get_push, get_set, get_set_other}
+use Rattle.std.proofs.lemmas.Bool.{cases_eq}
+use Rattle.str_base.specs.Members.{In}
 
 -- what becomes of a certified undecided transaction
 data OpenNext (here : Here) (d e : View) (j lc : ℕ) (x : Own) : Type 0 where
@@ -53,7 +54,7 @@ data OpenNext (here : Here) (d e : View) (j lc : ℕ) (x : Own) : Type 0 where
 
 module _ (here : Here) (input : Input) (d e : View) (j lc : ℕ) (x : Own) (own : Owns d j x) (op : is_decided x.phase ≡ false) (l : lc_of x.phase ≡ Some lc) where
   set_next : (i : ℕ) (x' y : Own) → Owns d i x' → e.own ≡ slice_set d.own i y → (x ≡ x' → Owns e j y → OpenNext here d e j lc x) → OpenNext here d e j lc x
-  set_next i x' y o q f = by_place (same_or_not j i)
+  set_next i x' y o q f = by_place (cases_eq j i)
     where
       by_place : (j ≡ i) ⊎ (j ≢ i) → OpenNext here d e j lc x
       by_place (inl k) =
@@ -79,16 +80,6 @@ module _ (here : Here) (input : Input) (d e : View) (j lc : ℕ) (x : Own) (own 
           on_commit fc (subst₂ (λ (a : ℕ) (y : Own). gate_of here d a y ≡ CommitAt fc) same (sym s) gate)
           (subst₂ (λ (a : ℕ) (y : Own). Owns e j (decided_as (Committed (Some a) (Some fc)) y)) same (sym s) z)
   open_next (o_closes i x' o p q) = set_next i x' _ o q (λ s z. absurd (let y : lc_of x'.phase ≡ Some lc = ap (λ (u : Own). lc_of u.phase) (sym s) ∙ l in cc (ap lc_of p, y)))
-
-same_or_other : (t u : TxId) → (t ≡ u) ⊎ (t ≢ u)
-same_or_other t u = by_test (same_tx t u) refl
-  where
-    same_names : t ≡ u → same_tx t u ≡ true
-    same_names q = rw (eq-eqb t.node.0 u.node.0 (ap (λ (z : TxId). z.node.0) q), eq-eqb t.seq u.seq (ap (λ (z : TxId). z.seq) q)) refl
-
-    by_test : (b : Bool) → same_tx t u ≡ b → (t ≡ u) ⊎ (t ≢ u)
-    by_test true e = inl (same_tx-is t u e)
-    by_test false e = inr (λ q. absurd (cc (same_names q, e)))
 
 module _ (scene : Scene) (ok : IsScene scene) (s : Stage) (i : ℕ) (v : View) (input : Input) (w : Where) (d e : Doing) (is : slice_get s.nodes i ≡ Some v) (seen : IsSeen s input)
     (act : Act (at_place scene i) input w d e) (h : Grounds scene (during s i d)) (he : Grounds scene (during s i e)) where
@@ -165,10 +156,10 @@ module _ (scene : Scene) (ok : IsScene scene) (s : Stage) (i : ℕ) (v : View) (
           old q m key ne (local_above n y f seq oy b names) = inl (local_over q m key ne f)
 
           by_move : (q : Version) → q.key ≡ k → Moved d.view q → (rs < q.ts.0) ⊎ ((q.tx ≡ u) ⊎ ((q.kind ≢ Pre) × (q.ts.0 ≤ fc)))
-          by_move q key (m_old m) = elim (same_or_other q.tx u) [ inl y ↦ inr (inl y) | inr y ↦ old q m key y (around q m key y) ]
+          by_move q key (m_old m) = elim (cases_tx q.tx u) [ inl y ↦ inr (inl y) | inr y ↦ old q m key y (around q m key y) ]
           by_move q key (m_new b) = inl (omega (arith, b, mark, ap (λ (z : KeyId). mark_of d.view.marks z) key))
           by_move q key (m_pre p m same t pre le fin) = absurd (st.apart mine p mine_in refl m pre (same ∙ key))
-          by_move q key (m_local p m same t loc le fin) = elim (same_or_other q.tx u) [
+          by_move q key (m_local p m same t loc le fin) = elim (cases_tx q.tx u) [
             | inl y ↦ inr (inl y)
             | inr y ↦ (let o = local_over p m (same ∙ key) (λ z. y (sym t ∙ z)) loc in inl (omega (arith, o, le)))
           ]
@@ -184,7 +175,7 @@ module _ (scene : Scene) (ok : IsScene scene) (s : Stage) (i : ℕ) (v : View) (
           before z = open_not scene s i v input w d e is seen act h j gc.0 x u own op name (h.reported.commits m u (part_of scene k) gc ms z body)
 
           now : ReadLetter (at_place scene i) input d e m → (c : KeyMark) × In c ms × (c.key ≡ k) × (rs ≤ c.mark.0)
-          now (rl_request n g y o b) = absurd (cc (b, body))
+          now (rl_request n g y o to b) = absurd (cc (b, body))
           now (rl_reply t g r c by f sv sn b q) = absurd (cc (b, body))
           now (rl_other b) = absurd (cc (ap is_other body, b))
           now (rl_commit n lc' f y q o g inp recv b) =

@@ -18,9 +18,6 @@ use Rattle.si_laws.proofs.Guards.ReadsSaw.{ReadSees, ServeSees, clear_none, clea
 use Rattle.str_model.proofs.Changes.PairWords.{decided-step}
 use Rattle.str_model.proofs.Principle.SingleChanges.{Act, ComesToRead, IsAsked, ReadsTo, Where, asked_before, asked_now, to_final, to_local}
 use Rattle.str_model.proofs.Principle.Everywhere.{IsSeen, Sent, Stage, at_place, during, everywhere, stage_of}
-use Rattle.str_model.proofs.Changes.SnapshotsGain.{and_left, and_right}
-use Rattle.str_model.proofs.Lists.ListReads.{get_set_other, got_replicate, got_set, same_or_not}
-use Rattle.str_model.proofs.Lists.Members.{In, in_append, in_at, in_left, in_right}
 use Rattle.str_model.proofs.Changes.OwnChanges.{own_step}
 use Rattle.std.proofs.Common.{Bool, List, None, Option, Some, ap, arith, eqb-true, false, if◌then◌else◌, inl, inr, length, ltb-true, refl, replicate, slice_get, slice_set, subst, subst₂, suc, sym, true, ℕ, ◌&&◌, ◌++◌, ◌+◌, ◌<◌, ◌∙◌, ◌≡◌, ◌≢◌, ◌≤◌, ◌⊎◌}
 use Rattle.str_base.specs.Versions.{mark_of, same_node, stamp}
@@ -46,6 +43,11 @@ use Rattle.str_model.specs.declared.names.ReadDone.{ReadDone}
 use Rattle.str_scene.specs.SceneLimits.{IsScene}
 use Rattle.str_scene.specs.Scenes.{Scene, hosts, hosts_key, nth, part_of}
 use Rattle.str_scene.specs.declared.names.Event.{Event}
+use Rattle.str_base.proofs.Tests.{and_true_left, and_true_right}
+use Rattle.str_base.proofs.Lists.{get_set_other, got_replicate, got_set}
+use Rattle.std.proofs.lemmas.Bool.{cases_eq}
+use Rattle.str_base.proofs.Members.{in_append, in_at, in_left, in_right}
+use Rattle.str_base.specs.Members.{In}
 
 -- replies, held replies and reads are guarded
 pub record Guarded (scene : Scene) (s : Stage) : Type 0 where
@@ -84,10 +86,10 @@ module _ (scene : Scene) (ok : IsScene scene) (s : Stage) (i : ℕ) (v : View) (
 
   come_mark : (from : NodeId) (tx : TxId) (k : KeyId) (t : Ts) → ComesToRead (at_place scene i) input d from tx k t → HasRs scene (during s i d) tx t.0 × (t.0 ≤ mark_of d.view.marks k) × (hosts_key (at_place scene i) k ≡ true)
   come_mark from tx k t c =
-      let named : has_named (at_place scene i) c.0.body ≡ true = and_right (has_node (at_place scene i) c.0.sender) (has_named (at_place scene i) c.0.body)
-      (and_right (same_node c.0.receiver (at_place scene i).node) (has_node (at_place scene i) c.0.sender && has_named (at_place scene i) c.0.body) c.4) in
+      let named : has_named (at_place scene i) c.0.body ≡ true = and_true_right (has_node (at_place scene i) c.0.sender) (has_named (at_place scene i) c.0.body)
+      (and_true_right (same_node c.0.receiver (at_place scene i).node) (has_node (at_place scene i) c.0.sender && has_named (at_place scene i) c.0.body) c.4) in
       let named' : has_named (at_place scene i) (ReadReq tx k t) ≡ true = ap (has_named (at_place scene i)) (sym c.3) ∙ named in
-      let key : has_key (at_place scene i) k ≡ true = and_left (has_key (at_place scene i) k) (Strange.below_limit t) (and_right (has_node (at_place scene i) tx.node) (has_key (at_place scene i) k && Strange.below_limit t) named') in
+      let key : has_key (at_place scene i) k ≡ true = and_true_left (has_key (at_place scene i) k) (Strange.below_limit t) (and_true_right (has_node (at_place scene i) tx.node) (has_key (at_place scene i) k && Strange.below_limit t) named') in
       let less : k.0 < length scene.keys.names = ltb-true k.0 (length scene.keys.names) key in
       let len = h.far.marks i d.view at_d in
       (h.far.requests c.0 (given c.0 c.1) tx k t c.3, marked_now d.view k t.0 (omega (arith, less, len)) c.5, c.6)
@@ -117,7 +119,7 @@ module _ (scene : Scene) (ok : IsScene scene) (s : Stage) (i : ℕ) (v : View) (
       old z = let r = g.replies m z tx k a by fc body in (r.0, has_rs_stays scene s i v input w d e is seen act tx r.0 r.1, up r.0 k a by r.2)
 
       fresh_ : ReadLetter (at_place scene i) input d e m → (rs : ℕ) × HasRs scene (during s i e) tx rs × FinalGuard scene (during s i e) rs k a by
-      fresh_ (rl_request n l x own b) = absurd (cc (b, body))
+      fresh_ (rl_request n l x own to b) = absurd (cc (b, body))
       fresh_ (rl_commit n lc f x p own o r t b) = absurd (cc (b, body))
       fresh_ (rl_other b) = absurd (cc (ap is_other body, b))
       fresh_ (rl_reply t l rs c u f sv sn b q) =
@@ -168,7 +170,7 @@ module _ (scene : Scene) (ok : IsScene scene) (s : Stage) (i : ℕ) (v : View) (
   read_up n rs r mark (rg_sent u f by c wr m) =
       rg_sent u f by (committed_up scene s i v input w d e is seen act h u f c) (written_up scene s i v input w d e is seen act h u r.key r.value wr)
       (sent_up scene s i v input w d e is seen act h u r.key r.value rs f c wr m)
-  read_up n rs r mark (rg_open u by wr o) = by_place (same_or_not n i)
+  read_up n rs r mark (rg_open u by wr o) = by_place (cases_eq n i)
     where
       by_place : (n ≡ i) ⊎ (n ≢ i) → ReadGuard scene (during s i e) n rs r
       by_place (inl p) =
@@ -191,7 +193,7 @@ module _ (scene : Scene) (ok : IsScene scene) (s : Stage) (i : ℕ) (v : View) (
             is_lc = o.is_lc;
             clear = o.clear;
           })
-  read_up n rs r mark (rg_gone u by o) = by_place (same_or_not n i)
+  read_up n rs r mark (rg_gone u by o) = by_place (cases_eq n i)
     where
       by_place : (n ≡ i) ⊎ (n ≢ i) → ReadGuard scene (during s i e) n rs r
       by_place (inl p) =

@@ -5,7 +5,7 @@ use Rattle.si_laws.proofs.Guards.ReadGuards.{Clear}
 use Rattle.si_laws.proofs.Guards.GuardGrounds.{Committer, Grounds, committer}
 use Rattle.si_laws.proofs.Guards.GuardsKept.{MarkSent, clear_some_up, open_not, there_d, there_e}
 use Rattle.si_laws.proofs.Stages.LinkedStates.{one_certified, one_of}
-use Rattle.str_model.proofs.ViewFacts.MarksRise.{raise_all-rises}
+use Rattle.str_model.proofs.ViewFacts.MarksRise.{index_same, raise_all-rises}
 use Rattle.si_laws.proofs.Order.MasterFacts.{IsBefore}
 use Rattle.si_laws.proofs.Guards.VersionOrigins.{HasWritten, Origin, og_came, og_commit, og_local, og_old, og_pre, origin}
 use Rattle.si_laws.proofs.Changes.ReadLetters.{ReadLetter, is_other, letters_act, rl_commit, rl_other, rl_reply, rl_request}
@@ -13,8 +13,6 @@ use Rattle.si_laws.proofs.Sources.FinalsReported.{CommittedIn}
 use Rattle.si_laws.proofs.Guards.DecidedAbove.{came_above}
 use Rattle.str_model.proofs.Principle.SingleChanges.{Act, Where}
 use Rattle.str_model.proofs.Principle.Everywhere.{IsSeen, Sent, Stage, at_place, during}
-use Rattle.str_model.proofs.Lists.ListReads.{get_set_other, same_or_not}
-use Rattle.str_model.proofs.Lists.Members.{In, in_append, in_at, in_left, in_right}
 use Rattle.std.proofs.Common.{Bool, List, Some, [], ap, arith, eq-eqb, false, inl, inr, length, length-set, max, refl, slice_get, slice_index, slice_set, subst, subst₂, suc, sym, true, zero, ℕ, ◌++◌, ◌+◌, ◌<◌, ◌∙◌, ◌∷◌, ◌≡◌, ◌≢◌, ◌≤◌, ◌⊎◌}
 use Rattle.str_base.specs.Versions.{mark_of, raised, same_tx, stamp}
 use Rattle.str_base.specs.declared.names.KeyId.{KeyId}
@@ -31,33 +29,12 @@ use Rattle.str_model.specs.declared.messages.Input.{Input}
 use Rattle.str_model.specs.declared.messages.Message.{Message}
 use Rattle.str_model.specs.declared.names.KeyMark.{KeyMark}
 use Rattle.str_scene.specs.Scenes.{Scene, hosts, is_master, part_of}
-
-index_set : (ms : List ℕ) (i t : ℕ) → i < length ms → slice_index (slice_set ms i t) i ≡ t
-index_set [] i t h = absurd (omega (arith, h))
-index_set (m ∷ ms) zero t h = refl
-index_set (m ∷ ms) (suc i) t h = index_set ms i t (omega (arith, h))
-
--- a mark that is carried is reached
-raise_all_reaches : (ks : List KeyMark) (ms : List ℕ) (c : KeyMark) → In c ks → c.key.0 < length ms → c.mark.0 ≤ mark_of (raise_all ks ms) c.key
-raise_all_reaches [] ms c m l = absurd m
-raise_all_reaches (k ∷ ks) ms c (inl q) l =
-    let up = (raise_all-rises ks (raised ms k.key k.mark.0)).above c.key in
-    let l' : k.key.0 < length ms = omega (arith, l, ap (λ (z : KeyMark). z.key.0) q) in
-    let at : mark_of (raised ms k.key k.mark.0) k.key ≡ max (mark_of ms k.key) k.mark.0 = index_set ms k.key.0 (max (mark_of ms k.key) k.mark.0) l' in
-    let at' : mark_of (raised ms k.key k.mark.0) c.key ≡ max (mark_of ms k.key) k.mark.0 = ap (λ (z : KeyMark). mark_of (raised ms k.key k.mark.0) z.key) (sym q) ∙ at in
-    omega (arith, up, at', ap (λ (z : KeyMark). z.mark.0) q)
-raise_all_reaches (k ∷ ks) ms c (inr m) l =
-    raise_all_reaches ks (raised ms k.key k.mark.0) c m (omega (arith, l, length-set ms k.key.0 (max (mark_of ms k.key) k.mark.0)))
-
-pub same_or_other : (t u : TxId) → (t ≡ u) ⊎ (t ≢ u)
-same_or_other t u = by_test (same_tx t u) refl
-  where
-    same_names : t ≡ u → same_tx t u ≡ true
-    same_names q = rw (eq-eqb t.node.0 u.node.0 (ap (λ (z : TxId). z.node.0) q), eq-eqb t.seq u.seq (ap (λ (z : TxId). z.seq) q)) refl
-
-    by_test : (b : Bool) → same_tx t u ≡ b → (t ≡ u) ⊎ (t ≢ u)
-    by_test true e = inl (Rattle.str_model.proofs.Changes.PairWords.same_tx-is t u e)
-    by_test false e = inr (λ q. absurd (cc (same_names q, e)))
+use Rattle.str_base.proofs.Lists.{get_set_other}
+use Rattle.std.proofs.lemmas.Bool.{cases_eq}
+use Rattle.str_base.proofs.Members.{in_append, in_at, in_left, in_right}
+use Rattle.str_base.proofs.SameNames.{cases_tx}
+use Rattle.str_base.specs.Members.{In}
+use Rattle.si_laws.proofs.Marks.DoneMarks.{reached}
 
 module _ (scene : Scene) (s : Stage) (i : ℕ) (v : View) (input : Input) (w : Where) (d e : Doing) (is : slice_get s.nodes i ≡ Some v) (seen : IsSeen s input)
     (act : Act (at_place scene i) input w d e) (h : Grounds scene (during s i d)) (u : TxId) (k : KeyId) (a : Value) (rs f : ℕ) (c : CommittedIn (during s i d) u f) (wr : HasWritten scene (during s i d) u k a)
@@ -72,7 +49,7 @@ module _ (scene : Scene) (s : Stage) (i : ℕ) (v : View) (input : Input) (w : W
   ]
     where
       fresh_ : ReadLetter (at_place scene i) input d e m → (q : KeyMark) × In q ms × (q.key ≡ k) × (rs ≤ q.mark.0)
-      fresh_ (rl_request n l x own b) = absurd (cc (b, body))
+      fresh_ (rl_request n l x own to b) = absurd (cc (b, body))
       fresh_ (rl_reply t l r y by fc' sv sn b q) = absurd (cc (b, body))
       fresh_ (rl_other b) = absurd (cc (ap is_other body, b))
       fresh_ (rl_commit n lc' f' y q o o' inp recv b) =
@@ -99,7 +76,7 @@ module _ (scene : Scene) (s : Stage) (i : ℕ) (v : View) (input : Input) (w : W
         let l = t.lc fc.0 (ap Rattle.str_model.specs.Views.lc_of z.is.1 ∙ fc.1) in omega (arith, l.0, fc.2, o.1)
 
     old_under : (p : Version) → In p d.view.versions → p.key ≡ k → p.tx ≡ u → p.kind ≡ Pre → (z : Version) → In z d.view.versions → z.key ≡ k → (z.tx ≡ u) ⊎ ((z.kind ≢ Pre) × (z.ts.0 ≤ f))
-    old_under p pm pk pt pre z zm zk = elim (same_or_other z.tx u) [ inl y ↦ inl y | inr y ↦ inr (ordered y) ]
+    old_under p pm pk pt pre z zm zk = elim (cases_tx z.tx u) [ inl y ↦ inl y | inr y ↦ inr (ordered y) ]
       where
         mas : is_master scene (record { 0 = i + 1 }) z.part ≡ true
         mas = subst₂ (λ (n : ℕ) (b : PartId). is_master scene (record { 0 = n + 1 }) b ≡ true) here
@@ -134,7 +111,7 @@ module _ (scene : Scene) (s : Stage) (i : ℕ) (v : View) (input : Input) (w : W
         let km = g.letters co.0 fc ms (in_left s.sent d.sent co.0 (in_at s.sent sent.0 co.0 sent.1)) body in
         let len = h.far.marks i d.view (there_d scene s i v input w d e is seen act h) in
         let in_range : km.0.key.0 < length d.view.marks = omega (arith, g.within, len, ap (λ (z : KeyId). z.0) km.2) in
-        let reached = raise_all_reaches ms d.view.marks km.0 km.1 in_range in
+        let reached = reached ms d.view.marks km.0 km.1 in_range in
         let at_k : mark_of e.view.marks k ≡ mark_of (raise_all ms d.view.marks) km.0.key = subst₂ (λ (xs : List ℕ) (y : KeyId). mark_of xs k ≡ mark_of (raise_all ms d.view.marks) y) (sym marks) (sym km.2) refl in
         record {
           mark = omega (arith, reached, at_k, km.3);
@@ -145,7 +122,7 @@ module _ (scene : Scene) (s : Stage) (i : ℕ) (v : View) (input : Input) (w : W
   once_here here q m tx key fin = by_origin here q m tx key fin (origin (at_place scene i) input w d e act q m)
 
   pub sent_up : MarkSent scene (during s i e) u k rs f
-  sent_up = elim (same_or_not g.n i) [
+  sent_up = elim (cases_eq g.n i) [
     | inl p ↦ record {
       n = i;
       view = e.view;

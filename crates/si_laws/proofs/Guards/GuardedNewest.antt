@@ -3,14 +3,12 @@ use Rattle.si_laws.proofs.Order.CertifiedVersions.{ArrivedAs, IsOf, a_final, a_p
 use Rattle.si_laws.proofs.Guards.ReadGuards.{Clear, Under}
 use Rattle.si_laws.proofs.Guards.GuardGrounds.{Committer, Grounds, committed_write, committer}
 use Rattle.si_laws.proofs.Guards.GuardsKept.{MarkSent, ReadGuard, fg_none, fg_some, rg_final, rg_gone, rg_open, rg_sent}
-use Rattle.si_laws.proofs.Guards.GuardSent.{same_or_other}
 use Rattle.si_laws.proofs.Stages.LinkedStates.{IsCertified, one_certified, one_of}
 use Rattle.si_laws.proofs.Order.MasterFacts.{IsBefore}
 use Rattle.si_laws.proofs.Guards.VersionOrigins.{HasWritten}
 use Rattle.str_model.proofs.OwnFacts.LocalOwners.{open-fate}
 use Rattle.si_laws.proofs.Sources.FinalsReported.{CommittedIn}
 use Rattle.str_model.proofs.Principle.Everywhere.{Stage}
-use Rattle.str_model.proofs.Lists.Members.{In}
 use Rattle.std.proofs.Common.{List, None, Option, Some, ap, arith, inl, inr, refl, slice_get, subst, subst₂, sym, true, ℕ, ◌+◌, ◌<◌, ◌∙◌, ◌≡◌, ◌≢◌, ◌≤◌, ◌⊎◌}
 use Rattle.str_base.specs.declared.names.KeyId.{KeyId}
 use Rattle.str_base.specs.declared.names.Kind.TheVariants.{Local as LocalKind}
@@ -27,6 +25,8 @@ use Rattle.str_model.specs.Views.{Own, View, lc_of}
 use Rattle.str_model.specs.declared.names.ReadDone.{ReadDone}
 use Rattle.str_scene.specs.Scenes.{Scene, hosts, is_master, part_of}
 use Rattle.si_laws.specs.Standing.{IsAborted}
+use Rattle.str_base.proofs.SameNames.{cases_tx}
+use Rattle.str_base.specs.Members.{In}
 
 -- a transaction has one fate
 pub one_fate : (s : Stage) (u : TxId) (f g : ℕ) → CommittedIn s u f → CommittedIn s u g → f ≡ g
@@ -93,7 +93,7 @@ module _ (scene : Scene) (s : Stage) (h : Grounds scene s) where
 
       by_arrival : (q : Version) → In q m.view.versions → IsOf scene u k q → ArrivedAs m.view f q → NoneBetween k rs f
       by_arrival q j of (a_final fin e) t g b c wr = from_clear k rs f u m.n m.view cu m.there m.hosted (m.once q j of.tx_is of.key_is fin) t g b c wr
-      by_arrival q j of (a_pre pre le nd) t g b c wr = elim (same_or_other t u) [
+      by_arrival q j of (a_pre pre le nd) t g b c wr = elim (cases_tx t u) [
         | inl e ↦ (let fates = one_fate s u g f (subst (λ (z : TxId). CommittedIn s z g) e c) cu in inl (omega (arith, fates)))
         | inr ne ↦ (let z = commit_at t g k b c wr m.n m.view m.there m.hosted in ordered z.0 z.1 z.2 z.3 ne)
       ]

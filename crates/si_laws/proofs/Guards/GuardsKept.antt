@@ -12,8 +12,6 @@ use Rattle.si_laws.proofs.Sources.FinalsReported.{CommittedIn, lift_c}
 use Rattle.si_laws.proofs.Guards.DecidedAbove.{all_moved, own_local}
 use Rattle.str_model.proofs.Principle.SingleChanges.{Act, Where}
 use Rattle.str_model.proofs.Principle.Everywhere.{IsSeen, Stage, at_place, during}
-use Rattle.str_model.proofs.Lists.ListReads.{get_set, get_set_other, got_set}
-use Rattle.str_model.proofs.Lists.Members.{In}
 use Rattle.si_laws.specs.Standing.{IsAborted}
 use Rattle.std.proofs.Common.{List, None, Option, Some, [], add-sub_cancel, ap, arith, false, inl, inr, refl, slice_get, slice_set, subst, subst₂, sym, true, ℕ, ◌++◌, ◌+◌, ◌-◌, ◌<◌, ◌∙◌, ◌∷◌, ◌≡◌, ◌≢◌, ◌≤◌, ◌⊎◌}
 use Rattle.str_base.specs.declared.names.KeyId.{KeyId}
@@ -35,6 +33,8 @@ use Rattle.str_model.specs.declared.messages.Message.{Message}
 use Rattle.str_model.specs.declared.names.KeyMark.{KeyMark}
 use Rattle.str_model.specs.declared.names.ReadDone.{ReadDone}
 use Rattle.str_scene.specs.Scenes.{Scene, hosts, is_master, part_of}
+use Rattle.str_base.proofs.Lists.{get_set, get_set_other, got_set}
+use Rattle.str_base.specs.Members.{In}
 
 -- a replica of the key guards the read
 pub record GuardAt (scene : Scene) (s : Stage) (k : KeyId) (rs : ℕ) (by : Option TxId) (f : ℕ) : Type 0 where

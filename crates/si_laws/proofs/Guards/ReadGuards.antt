@@ -2,7 +2,6 @@
 use Rattle.dependency_set.specs.Snapshots.{Snap, holds, oldest}
 use Rattle.str_model.proofs.ViewFacts.MarksRise.{Rises}
 use Rattle.str_model.proofs.Changes.SnapshotsGain.{if_elim}
-use Rattle.str_model.proofs.Lists.Members.{In}
 use Rattle.std.proofs.Common.{List, None, Option, Some, [], ap, arith, find, inl, inr, map, max, nat_lt, sym, ℕ, ◌+◌, ◌<◌, ◌∙◌, ◌∷◌, ◌≡◌, ◌≢◌, ◌≤◌, ◌⊎◌}
 use Rattle.str_base.specs.Versions.{mark_of, newest}
 use Rattle.str_base.specs.declared.names.KeyId.{KeyId}
@@ -17,6 +16,7 @@ use Rattle.str_model.specs.Turns
 use Rattle.str_model.specs.Views.{View}
 use Rattle.str_model.specs.declared.messages.Arrived.{Arrived}
 use Rattle.str_scene.specs.Scenes.{Here}
+use Rattle.str_base.specs.Members.{In}
 
 -- the version is the writer's, or it is not Pre and at or below the writer's timestamp
 abbrev pub Under : Option TxId → ℕ → Version → Type 0

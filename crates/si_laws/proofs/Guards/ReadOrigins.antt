@@ -5,8 +5,6 @@ use Rattle.si_laws.proofs.Scripts.ReadsEvaluate.{reply_same}
 use Rattle.str_model.proofs.ViewFacts.MarksRise.{finish-looks, finish_next-looks}
 use Rattle.si_laws.proofs.Changes.ReadTurns.{reply-is}
 use Rattle.str_model.proofs.Principle.SingleChanges.{Act, Change, GoesOn, JustMarked, ReadsTo, Where, act_abort, act_abort_came, act_accept, act_ack, act_ask, act_begin, act_certify, act_close, act_commit, act_commit_came, act_mark, act_put, act_refuse, act_reply, act_request, act_take, act_unwait, act_wait, ch_away, ch_blind, ch_close, ch_gate, ch_known, ch_read, ch_reply, ch_resolve, ch_take, ch_wait}
-use Rattle.str_model.proofs.Lists.ListReads.{got_push, got_set}
-use Rattle.str_model.proofs.Lists.Members.{In, in_append}
 use Rattle.std.proofs.Common.{Option, Some, [], ap, inl, inr, refl, slice_get, slice_set, subst, sym, ℕ, ◌++◌, ◌∙◌, ◌∷◌, ◌≡◌, ◌⊎◌}
 use Rattle.str_model.specs.Acts.{abort_came, aborted, accepted, acked, asked, begun, certified, closed, commit_came, committed, decided_as, fresh, in_phase, marked, refused, replied, requested, taken, waits, with_asked}
 use Rattle.str_model.specs.Owned.{Owns}
@@ -15,6 +13,9 @@ use Rattle.str_model.specs.Views.{Aborted, Committed, Doing, Global, Local, Own,
 use Rattle.str_model.specs.declared.messages.Input.{Input}
 use Rattle.str_model.specs.declared.names.ReadDone.{ReadDone}
 use Rattle.str_scene.specs.Scenes.{Here, participants}
+use Rattle.str_base.proofs.Lists.{got_push, got_set}
+use Rattle.str_base.proofs.Members.{in_append}
+use Rattle.str_base.specs.Members.{In}
 
 -- it was there; or it is read now at home; or a reply that was held is taken
 pub data ReadOrigin (here : Here) (d : Doing) (i : ℕ) (y : Own) (r : ReadDone) : Type 0 where

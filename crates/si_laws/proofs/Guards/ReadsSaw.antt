@@ -2,7 +2,6 @@
 use Rattle.dependency_set.specs.Snapshots.{Snap, accept_final, holds, oldest}
 use Rattle.si_laws.proofs.Guards.ReadGuards.{Clear, LocalsClear}
 use Rattle.si_laws.proofs.Guards.ChainsInTime.{InTime, IsVisible, none_pre, none_undecided, none_visible, visible_one}
-use Rattle.str_model.proofs.Lists.Members.{In}
 use Rattle.std.proofs.Common.{Bool, List, None, Option, Some, ap, false, if◌then◌else◌, inl, inr, refl, slice_get, subst, sym, true, ℕ, ◌-◌, ◌<◌, ◌∙◌, ◌≡◌, ◌≢◌, ◌≤◌, ◌⊎◌}
 use Rattle.str_base.specs.Versions.{is_pre, is_undecided, last_pre, last_undecided, mark_of, visible}
 use Rattle.str_base.specs.declared.names.KeyId.{KeyId}
@@ -16,6 +15,7 @@ use Rattle.str_model.specs.Turns.{Away, Give, Plain, ReadTurn, ServeTurn, ServeW
 use Rattle.str_model.specs.Turns
 use Rattle.str_model.specs.Views.{Own, View}
 use Rattle.str_scene.specs.Scenes.{Here, first_or, hosts_key, part_of, replicas}
+use Rattle.str_base.specs.Members.{In}
 
 -- each version of the key but those above the snapshot is not Pre and not after p
 pub record Sees (vs : List Version) (k : KeyId) (rs : ℕ) (p : Version) : Type 0 where

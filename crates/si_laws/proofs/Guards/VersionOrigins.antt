@@ -8,9 +8,6 @@ use Rattle.si_laws.proofs.Order.MasterFacts.{Masters, writes_of}
 use Rattle.str_model.proofs.Changes.VersionChanges.{Placed, by_master, by_slave}
 use Rattle.str_model.proofs.Principle.SingleChanges.{Act, Comes, Where, act_abort, act_abort_came, act_accept, act_ack, act_ask, act_begin, act_certify, act_close, act_commit, act_commit_came, act_mark, act_put, act_refuse, act_reply, act_request, act_take, act_unwait, act_wait}
 use Rattle.str_model.proofs.Principle.Everywhere.{IsSeen, Stage, at_place, during, stage_of}
-use Rattle.str_model.proofs.Changes.SnapshotsGain.{and_left, and_right}
-use Rattle.str_model.proofs.Lists.ListReads.{get_set, get_set_other, got_replicate, got_set}
-use Rattle.str_model.proofs.Lists.Members.{In, in_filter, in_insert_all, in_map, in_without}
 use Rattle.si_laws.proofs.Stages.LinkedStates
 use Rattle.std.proofs.Common.{List, Some, [], ap, false, filter, inl, inr, map, refl, slice_get, subst, sym, true, ℕ, ◌<◌, ◌∙◌, ◌≡◌, ◌≤◌, ◌⊎◌}
 use Rattle.str_base.specs.Versions.{finalise, mark_of, of_pair, of_tx, settled, without}
@@ -35,6 +32,10 @@ use Rattle.str_model.specs.declared.messages.Body.TheVariants.{Commit}
 use Rattle.str_model.specs.declared.messages.Input.{Input}
 use Rattle.str_model.specs.declared.names.KeyMark.{KeyMark}
 use Rattle.str_scene.specs.Scenes.{Here, Scene, hosts, in_part, participants}
+use Rattle.str_base.proofs.Tests.{and_true_left, and_true_right}
+use Rattle.str_base.proofs.Lists.{get_set, get_set_other, got_replicate, got_set}
+use Rattle.str_base.proofs.Members.{in_filter, in_insert_all, in_map, in_without}
+use Rattle.str_base.specs.Members.{In}
 
 -- the certified transaction as it stands then
 abbrev pub as_certified : Here → ℕ → Snap → Own → Own
@@ -75,7 +76,7 @@ origin here input w d e (act_commit n lc fc x d' o l none le f g) q h =
     elim (in_insert_all (map (settled fc) (filter (is_hosted_of here (name_of here n)) d'.view.versions)) (without (of_tx (name_of here n)) d'.view.versions) q h) [
       | inl j ↦ (let r = in_map (settled fc) (filter (is_hosted_of here (name_of here n)) d'.view.versions) q j in
           let m = in_filter (is_hosted_of here (name_of here n)) d'.view.versions r.0 r.1 in
-          og_commit n lc fc x r.0 o.0 f l none le m.0 (hosted_name here (name_of here n) r.0 m.1) (and_right (of_tx (name_of here n) r.0) (hosts here.scene here.node r.0.part) m.1) (sym r.2))
+          og_commit n lc fc x r.0 o.0 f l none le m.0 (hosted_name here (name_of here n) r.0 m.1) (and_true_right (of_tx (name_of here n) r.0) (hosts here.scene here.node r.0.part) m.1) (sym r.2))
       | inr j ↦ og_old (in_without (of_tx (name_of here n)) d'.view.versions q j)
     ]
 origin here input w d e (act_commit_came from t p fc ms d' c g) q h =
@@ -167,4 +168,4 @@ finals_hosted-act here input w d e act h q j k = by_origin (origin here input w 
     by_origin (og_commit n lc fc x p own o t none le m name hosted same) = subst (λ (z : Version). hosts here.scene here.node z.part ≡ true) (sym same) hosted
     by_origin (og_came from t r fc ms p c dec f only m o same) =
         subst (λ (z : Version). hosts here.scene here.node z.part ≡ true) (sym same)
-        (subst (λ (z : PartId). hosts here.scene here.node z ≡ true) (sym (pair-is t r p o).1) (and_left (hosts here.scene here.node r) _ dec))
+        (subst (λ (z : PartId). hosts here.scene here.node z ≡ true) (sym (pair-is t r p o).1) (and_true_left (hosts here.scene here.node r) _ dec))

@@ -2,7 +2,7 @@
 use Rattle.si_laws.proofs.Isolation.BehindAnswers.{Behind, WriterOf, behind, commit_phase, committed_in, find_write, get_take, ground, has_written, known, take_get, times_of, writer_of}
 use Rattle.si_laws.proofs.Isolation.WritersAnswered.{IsKept}
 use Rattle.si_laws.proofs.CommitLists.CommitOrder.{named}
-use Rattle.si_laws.proofs.Scripts.ReadsEvaluate.{Evaluates, PhaseGives, ends-at}
+use Rattle.si_laws.proofs.Scripts.ReadsEvaluate.{Evaluates}
 use Rattle.si_laws.proofs.Sessions.SessionHolds.{good_everywhere}
 use Rattle.si_laws.proofs.Guards.GuardedNewest.{newest_none}
 use Rattle.si_laws.proofs.CommitLists.NextAnswer.{Covered, Keeps}
@@ -10,13 +10,11 @@ use Rattle.si_laws.proofs.Guards.VersionOrigins.{HasWritten}
 use Rattle.si_laws.proofs.CommitLists.ReadsSeen.{IsAbove, IsRight, Reads, of_none, of_one, reads_keep, reads_seen, top_of}
 use Rattle.si_laws.proofs.Sources.FinalsReported.{CommittedIn}
 use Rattle.str_model.proofs.OwnFacts.ScriptsCovered.{ScriptGood, scripts_after}
-use Rattle.str_model.proofs.Changes.PairWords.{has_at}
 use Rattle.str_model.proofs.Principle.Everywhere.{at_place, stage_of}
-use Rattle.str_model.proofs.Lists.Members.{In, at_in, in_at}
 use Rattle.si_laws.specs.Commits.{seen}
 use Rattle.str_model.specs.Owned.{wrote_key}
 use Rattle.si_laws.specs.SnapshotIsolation.{IsAnswer, IsCommittedAt, SI}
-use Rattle.std.proofs.Common.{List, None, Option, Some, ap, arith, eq-eqb, find, inl, inr, refl, subst, sym, take, true, ℕ, ◌<◌, ◌∙◌, ◌≡◌, ◌≤◌, ◌⊎◌}
+use Rattle.std.proofs.Common.{List, None, Option, Some, ap, arith, eq-eqb, find, inl, inr, refl, sym, take, true, ℕ, ◌<◌, ◌∙◌, ◌≡◌, ◌≤◌, ◌⊎◌}
 use Rattle.str_base.specs.Versions.{same_key, stamp}
 use Rattle.str_base.specs.declared.names.KeyId.{KeyId}
 use Rattle.str_base.specs.declared.names.Ts.{Ts}
@@ -26,8 +24,7 @@ use Rattle.str_base.specs.declared.names.Value.{Value}
 use Rattle.str_base.specs.declared.names.Write.{Write}
 use Rattle.str_model.specs.Evaluation.{AtEnd, Evaluated, Unmet, eval, write_or}
 use Rattle.str_model.specs.Runs.{run}
-use Rattle.str_model.specs.Scripts.{own_op}
-use Rattle.str_model.specs.Views.{Committed, Own, Phase}
+use Rattle.str_model.specs.Views.{Own}
 use Rattle.str_model.specs.declared.messages.Answer.{Answer}
 use Rattle.str_model.specs.declared.messages.Outcome.TheVariants.{Committed as Commits}
 use Rattle.str_model.specs.declared.names.Got.{Got}
@@ -36,6 +33,8 @@ use Rattle.str_scene.specs.SceneLimits.{IsScene}
 use Rattle.str_scene.specs.Scenes.{Scene, script_at}
 use Rattle.str_scene.specs.declared.names.Event.{Event}
 use Rattle.str_scene.specs.declared.names.TxPlace.{TxPlace}
+use Rattle.str_base.proofs.Members.{any_in, at_in, in_at}
+use Rattle.str_base.specs.Members.{In}
 
 -- what a transaction has got and written at the end of its script
 abbrev pub done_of : List Got → Own → Evaluated
@@ -65,7 +64,7 @@ module _ (scene : Scene) (ok : IsScene scene) (es : List Event) where
 
   -- the key of a write stands in its buffer
   wrote_in : (ws : List Write) (k : KeyId) (a : Value) → In (record { key = k; value = a }) ws → wrote_key k ws ≡ true
-  wrote_in ws k a m = has_at (λ (z : Write). same_key z.key k) ws (record { key = k; value = a }) m (eq-eqb k.0 k.0 refl)
+  wrote_in ws k a m = any_in (λ (z : Write). same_key z.key k) ws (record { key = k; value = a }) m (eq-eqb k.0 k.0 refl)
 
   module _ (n : ℕ) (si : SI scene (take n (run scene es).answers)) (so : SeenSo n) where
     -- a commit among them that is seen to write the key

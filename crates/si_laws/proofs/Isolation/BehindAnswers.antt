@@ -11,8 +11,6 @@ use Rattle.si_laws.proofs.Sessions.SessionAnswers.{entry, session_holds}
 use Rattle.si_laws.proofs.Sessions.SessionHolds.{good_everywhere}
 use Rattle.str_model.proofs.Changes.PairWords.{any_has}
 use Rattle.str_model.proofs.Principle.Everywhere.{Stage, at_place, stage_of}
-use Rattle.str_model.proofs.Changes.SnapshotsGain.{find_none}
-use Rattle.str_model.proofs.Lists.Members.{In, at_in}
 use Rattle.str_model.proofs.Changes.AnswerChanges.{outcome_of, told}
 use Rattle.si_laws.proofs.Scripts.ReadsEvaluate.{Ends, find_is}
 use Rattle.si_laws.specs.SnapshotIsolation.{IsAnswer, IsCommittedAt}
@@ -34,6 +32,8 @@ use Rattle.str_model.specs.declared.names.ReadDone.{ReadDone}
 use Rattle.str_scene.specs.SceneLimits.{IsScene}
 use Rattle.str_scene.specs.Scenes.{Scene}
 use Rattle.str_scene.specs.declared.names.Event.{Event}
+use Rattle.str_base.proofs.Members.{at_in, find_none}
+use Rattle.str_base.specs.Members.{In}
 
 -- ---- lists
 

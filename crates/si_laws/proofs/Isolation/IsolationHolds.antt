@@ -10,13 +10,12 @@ use Rattle.si_laws.proofs.Order.MasterFacts.{IsBefore}
 use Rattle.si_laws.proofs.Guards.GuardedNewest.{commit_at}
 use Rattle.si_laws.proofs.CommitLists.NextAnswer.{IsNext, Keeps, SeenNext, seen_next}
 use Rattle.si_laws.proofs.CommitLists.NextHolds.{si_next, si_none}
-use Rattle.si_laws.proofs.Order.WritersApart.{key_of_table, master_of, script_op}
+use Rattle.si_laws.proofs.Order.WritersApart.{key_of_table, master_of}
 use Rattle.si_laws.proofs.CommitLists.ReadsSeen.{reads_seen}
 use Rattle.si_laws.proofs.CommitLists.CommitOrder.{named}
 use Rattle.str_model.proofs.OwnFacts.ScriptsCovered.{scripts_after}
 use Rattle.si_laws.proofs.Sessions.SessionAnswers.{session_holds}
 use Rattle.str_model.proofs.Principle.Everywhere.{at_place, stage_of}
-use Rattle.str_model.proofs.Lists.ListReads.{same_or_not}
 use Rattle.str_model.proofs.Changes.AnswerChanges.{outcome_of}
 use Rattle.si_laws.proofs.Isolation.AnswersFollow
 use Rattle.si_laws.specs.Commits.{seen}
@@ -48,6 +47,8 @@ use Rattle.str_scene.specs.declared.names.Event.{Event}
 use Rattle.str_scene.specs.declared.names.Op.TheVariants.{Abort as Give, Add, Del, Get, Need, Put, Puts}
 use Rattle.str_scene.specs.declared.names.Op.{Op}
 use Rattle.str_scene.specs.declared.names.TxPlace.{TxPlace}
+use Rattle.std.proofs.lemmas.Bool.{cases_eq}
+use Rattle.str_model.proofs.ViewFacts.MarksRise.{script_op}
 
 -- one more is taken, or there is none
 take_one : {A : Type 0} (xs : List A) (n : ℕ) → ((x : A) × (slice_get xs n ≡ Some x) × (take (suc n) xs ≡ take n xs ++ x ∷ [])) ⊎ ((slice_get xs n ≡ None) × (take (suc n) xs ≡ take n xs))
@@ -217,7 +218,7 @@ module _ (scene : Scene) (ok : IsScene scene) (es : List Event) where
   so_next : (n : ℕ) (a : Answer) (ia : IsAnswer (run scene es).answers n a) → (si : SI scene (take n (run scene es).answers)) → (so : SeenSo scene ok es n) → take (suc n) (run scene es).answers ≡ take n (run scene es).answers ++ a ∷ []
       → SeenSo scene ok es (suc n)
   so_next n a ia si so q j b ib o gs l e =
-      subst (λ zs. seen scene zs b ≡ done_of (behind scene ok es j b ib).gets (behind scene ok es j b ib).x) (sym q) (by_place (same_or_not j n))
+      subst (λ zs. seen scene zs b ≡ done_of (behind scene ok es j b ib).gets (behind scene ok es j b ib).x) (sym q) (by_place (cases_eq j n))
     where
       nx : SeenNext scene (take n (run scene es).answers) a
       nx = seen_next scene (take n (run scene es).answers) a si (next_answer n a ia si so)
@@ -240,7 +241,7 @@ module _ (scene : Scene) (ok : IsScene scene) (es : List Event) where
           → SI scene (take (suc n) (run scene es).answers) × SeenSo scene ok es (suc n)
       by_end r (inl h) =
           (subst (SI scene) (sym h.2) (si_next scene (take n (run scene es).answers) h.0 r.0 (next_answer n h.0 h.1 r.0 r.1)), so_next n h.0 h.1 r.0 r.1 h.2)
-      by_end r (inr h) = (subst (SI scene) (sym h.1) r.0, λ j b ib o gs l e. subst (λ zs. seen scene zs b ≡ done_of (behind scene ok es j b ib).gets (behind scene ok es j b ib).x) (sym h.1) (by_place j b ib o gs l e (same_or_not j n)))
+      by_end r (inr h) = (subst (SI scene) (sym h.1) r.0, λ j b ib o gs l e. subst (λ zs. seen scene zs b ≡ done_of (behind scene ok es j b ib).gets (behind scene ok es j b ib).x) (sym h.1) (by_place j b ib o gs l e (cases_eq j n)))
         where
           by_place : (j : ℕ) (b : Answer) (ib : IsAnswer (run scene es).answers j b) (o : Option Ts) (gs : List Got) → j < suc n → b.outcome ≡ Commits o gs → (j ≡ n) ⊎ (j ≢ n)
               → seen scene (take n (run scene es).answers) b ≡ done_of (behind scene ok es j b ib).gets (behind scene ok es j b ib).x

@@ -10,9 +10,8 @@ use Rattle.str_model.proofs.OwnFacts.LocalOwners.{WeakDep}
 use Rattle.si_laws.proofs.Sources.FinalsReported.{CommittedIn, ReadOk, ro_committed, ro_gone, ro_listed}
 use Rattle.si_laws.proofs.Stages.ParticipantSeats.{of_nth}
 use Rattle.str_model.proofs.OwnFacts.DependenciesStand.{fate_open}
-use Rattle.str_model.proofs.Principle.Everywhere.{at_place, stage_of}
+use Rattle.str_model.proofs.Principle.Everywhere.{stage_of}
 use Rattle.str_model.proofs.Changes.SnapshotsGain.{Names}
-use Rattle.str_model.proofs.Lists.Members.{In, at_in, in_at}
 use Rattle.si_laws.specs.Laws.Prefix.{FinalReads, PrefixHolds}
 use Rattle.si_laws.specs.SnapshotIsolation.{SI}
 use Rattle.si_laws.specs.SpeculativeIsolation.{OfOpenWriter, ReadCommitted, ReadNothing}
@@ -32,6 +31,8 @@ use Rattle.str_model.specs.declared.names.ReadDone.{ReadDone}
 use Rattle.str_scene.specs.SceneLimits.{IsScene}
 use Rattle.str_scene.specs.Scenes.{Scene}
 use Rattle.str_scene.specs.declared.names.Event.{Event}
+use Rattle.str_base.proofs.Members.{at_in, in_at}
+use Rattle.str_base.specs.Members.{In}
 
 module _ (scene : Scene) (ok : IsScene scene) (es : List Event) where
   state : Answering scene (stage_of (run scene es))

@@ -3,7 +3,6 @@ use Rattle.std.proofs.Common.{None, Option, Some, [], ap, false, inl, inr, refl,
 use Rattle.str_base.specs.declared.names.Cause.TheVariants.{Wish}
 use Rattle.str_base.specs.declared.names.Cause.{Cause}
 use Rattle.str_model.proofs.Principle.SingleChanges.{Act, Where, Why, act_abort, act_abort_came, act_accept, act_ack, act_ask, act_begin, act_certify, act_close, act_commit, act_commit_came, act_mark, act_put, act_refuse, act_reply, act_request, act_take, act_unwait, act_wait, at_abort, at_need, by_certification, by_eviction, by_late, by_lost, by_refusal, by_script}
-use Rattle.str_model.proofs.Lists.ListReads.{got_push, got_set}
 use Rattle.str_model.specs.Acts.{abort_came, aborted, accepted, acked, asked, begun, certified, closed, commit_came, committed, decided_as, fresh, in_phase, marked, refused, replied, requested, taken, waits, with_asked}
 use Rattle.str_model.specs.Owned.{Owns}
 use Rattle.str_model.specs.Scripts.{own_op}
@@ -11,6 +10,7 @@ use Rattle.str_model.specs.Views.{Aborted, Committed, Doing, Global, Local, Own,
 use Rattle.str_model.specs.declared.messages.Input.{Input}
 use Rattle.str_scene.specs.Scenes.{Here, participants}
 use Rattle.str_scene.specs.declared.names.Op.TheVariants.{Abort as Stop}
+use Rattle.str_base.proofs.Lists.{got_push, got_set}
 
 -- it has wished to abort
 abbrev pub HasWished : Own → Type 0

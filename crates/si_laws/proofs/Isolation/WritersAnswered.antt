@@ -9,8 +9,6 @@ use Rattle.si_laws.proofs.Isolation.WishOrigins.{HasWished, WishOrigin, wish_ori
 use Rattle.str_model.proofs.Principle.SingleChanges.{Act, Where}
 use Rattle.str_model.proofs.Principle.StepPaths.{StepPath, step-keeps}
 use Rattle.str_model.proofs.Principle.Everywhere.{IsSeen, Stage, at_place, during, during_start, stage_of, steps_everywhere}
-use Rattle.str_model.proofs.Lists.ListReads.{get_set, get_set_other, got_push, got_replicate, got_set}
-use Rattle.str_model.proofs.Lists.Members.{In, in_append, in_right}
 use Rattle.str_model.proofs.Changes.AnswerChanges.{Rising, TellStep, in_release, r_none, release-rising, t_begins, t_decides, t_goes, t_rests, tell_step, told}
 use Rattle.std.proofs.Common.{List, Option, Some, ap, arith, false, inl, inr, replicate, slice_get, slice_set, subst, sym, true, ℕ, ◌++◌, ◌+◌, ◌<◌, ◌∙◌, ◌≡◌, ◌≢◌, ◌≤◌, ◌⊎◌}
 use Rattle.str_base.specs.declared.names.TxId.{TxId}
@@ -27,6 +25,9 @@ use Rattle.str_scene.specs.SceneLimits.{IsScene}
 use Rattle.str_scene.specs.Scenes.{Here, Scene}
 use Rattle.str_scene.specs.declared.names.Event.{Event}
 use Rattle.str_scene.specs.declared.names.Op.TheVariants.{Abort as Stop}
+use Rattle.str_base.proofs.Lists.{get_set, get_set_other, got_push, got_replicate, got_set}
+use Rattle.str_base.proofs.Members.{in_append, in_right}
+use Rattle.str_base.specs.Members.{In}
 
 -- ---- the state
 
@@ -216,7 +217,7 @@ module _ (scene : Scene) (ok : IsScene scene) (s : Stage) (i : ℕ) (v : View) (
     where
       here : IsKept (at_place scene i) x → Owns e.view j x → Decided j x → (gets : List Got) × (b : Answer) × Precedes (s.answers ++ e.released) b (told (at_place scene i) j x gets) × (b.tx ≡ u)
       here k' own' (d_old o) = let y = h.state.first i d.view j x r u at_d o k' m by in (y.0, y.1, g.order y.1 (told (at_place scene i) j x y.0) y.2, y.3)
-      here k' own' (d_new gets rel) = (gets, first_new j x gets r u own' k' m by rel)
+      here k' own' (d_new gets rel) = let y = first_new j x gets r u own' k' m by rel in (gets, y.0, y.1, y.2)
 
   ours_e : TellStep (at_place scene i) d e → (a : Answer) → In a e.released → a.tx.node.0 ≡ i + 1
   ours_e (t_rests o r) a m = h.ours a (subst (In a) r m)

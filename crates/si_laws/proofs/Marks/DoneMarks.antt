@@ -13,9 +13,6 @@ use Rattle.si_laws.proofs.Stages.ParticipantSeats.{own_seat}
 use Rattle.str_model.proofs.Changes.PairWords.{Has}
 use Rattle.str_model.proofs.Principle.SingleChanges.{Act, Comes, IsHere, Where, act_abort, act_abort_came, act_accept, act_ack, act_ask, act_begin, act_certify, act_close, act_commit, act_commit_came, act_mark, act_put, act_refuse, act_reply, act_request, act_take, act_unwait, act_wait}
 use Rattle.str_model.proofs.Principle.Everywhere.{IsSeen, Stage, at_place, during, everywhere, stage_of}
-use Rattle.str_model.proofs.Changes.SnapshotsGain.{and_left, and_right}
-use Rattle.str_model.proofs.Lists.ListReads.{get_set, get_set_other, got_set}
-use Rattle.str_model.proofs.Lists.Members.{In, in_append, in_left, in_right, map_in}
 use Rattle.std.proofs.Common.{Bool, List, Option, Some, [], ap, arith, false, filter, inl, inr, length, length-set, ltb-true, map, max, refl, slice_get, slice_set, subst, subst₂, sym, true, ℕ, ◌&&◌, ◌++◌, ◌+◌, ◌<◌, ◌∙◌, ◌∷◌, ◌≡◌, ◌≢◌, ◌≤◌, ◌⊎◌}
 use Rattle.std.specs.List.{list_all}
 use Rattle.str_base.specs.declared.names.Write.{Write}
@@ -42,6 +39,10 @@ use Rattle.str_model.specs.Strange
 use Rattle.str_model.specs.Views.{Committed, Doing, Own, View, is_decided, name_of}
 use Rattle.str_scene.specs.declared.names.Event.{Event}
 use Rattle.str_scene.specs.Scenes.{Here, Scene, in_part, part_of}
+use Rattle.str_base.proofs.Tests.{and_true_left, and_true_right}
+use Rattle.str_base.proofs.Lists.{get_set, get_set_other, got_set}
+use Rattle.str_base.proofs.Members.{all_in, in_append, in_left, in_right, map_in}
+use Rattle.str_base.specs.Members.{In}
 
 -- ---- raised marks
 
@@ -57,21 +58,16 @@ reached (m ∷ ms) marks q (inl e) less =
     raised_now marks k t less = let r = index_same marks k.0 (max (mark_of marks k) t) less in omega (arith, r)
 reached (m ∷ ms) marks q (inr h) less = reached ms (raised marks m.key m.mark.0) q h (omega (arith, less, length-set marks m.key.0 (max (mark_of marks m.key) m.mark.0)))
 
-all_at : {A : Type 0} (test : A → Bool) (xs : List A) (x : A) → list_all test xs ≡ true → In x xs → test x ≡ true
-all_at test [] x e h = absurd h
-all_at test (y ∷ xs) x e (inl q) = ap test (sym q) ∙ and_left (test y) (list_all test xs) e
-all_at test (y ∷ xs) x e (inr h) = all_at test xs x (and_right (test y) (list_all test xs) e) h
-
 -- a Commit that is not strange names keys of the scene
 commit_keys : (here : Here) (tx : TxId) (p : PartId) (fc : Ts) (ms : List KeyMark) (q : KeyMark) → has_named here (Commit tx p fc ms) ≡ true → In q ms → q.key.0 < length here.scene.keys.names
 commit_keys here tx p fc ms q e h =
-    let a = and_right (has_node here tx.node) (has_part here p && (Strange.below_limit fc && (Strange.keys_in here p (map (λ (m : KeyMark). m.key) ms) && list_all (λ (m : KeyMark). Strange.below_limit m.mark) ms))) e in
-    let b = and_right (has_part here p) (Strange.below_limit fc && (Strange.keys_in here p (map (λ (m : KeyMark). m.key) ms) && list_all (λ (m : KeyMark). Strange.below_limit m.mark) ms)) a in
-    let c = and_right (Strange.below_limit fc) (Strange.keys_in here p (map (λ (m : KeyMark). m.key) ms) && list_all (λ (m : KeyMark). Strange.below_limit m.mark) ms) b in
-    let k = and_left (Strange.keys_in here p (map (λ (m : KeyMark). m.key) ms)) (list_all (λ (m : KeyMark). Strange.below_limit m.mark) ms) c in
-    let l = and_right (Strange.distinct_keys (map (λ (m : KeyMark). m.key) ms)) (list_all (λ (z : KeyId). has_key here z && same_part (part_of here.scene z) p) (map (λ (m : KeyMark). m.key) ms)) k in
-    let t = all_at (λ (z : KeyId). has_key here z && same_part (part_of here.scene z) p) (map (λ (m : KeyMark). m.key) ms) q.key l (map_in (λ (m : KeyMark). m.key) ms q h) in
-    ltb-true q.key.0 (length here.scene.keys.names) (and_left (has_key here q.key) (same_part (part_of here.scene q.key) p) t)
+    let a = and_true_right (has_node here tx.node) (has_part here p && (Strange.below_limit fc && (Strange.keys_in here p (map (λ (m : KeyMark). m.key) ms) && list_all (λ (m : KeyMark). Strange.below_limit m.mark) ms))) e in
+    let b = and_true_right (has_part here p) (Strange.below_limit fc && (Strange.keys_in here p (map (λ (m : KeyMark). m.key) ms) && list_all (λ (m : KeyMark). Strange.below_limit m.mark) ms)) a in
+    let c = and_true_right (Strange.below_limit fc) (Strange.keys_in here p (map (λ (m : KeyMark). m.key) ms) && list_all (λ (m : KeyMark). Strange.below_limit m.mark) ms) b in
+    let k = and_true_left (Strange.keys_in here p (map (λ (m : KeyMark). m.key) ms)) (list_all (λ (m : KeyMark). Strange.below_limit m.mark) ms) c in
+    let l = and_true_right (Strange.distinct_keys (map (λ (m : KeyMark). m.key) ms)) (list_all (λ (z : KeyId). has_key here z && same_part (part_of here.scene z) p) (map (λ (m : KeyMark). m.key) ms)) k in
+    let t = all_in (λ (z : KeyId). has_key here z && same_part (part_of here.scene z) p) (map (λ (m : KeyMark). m.key) ms) q.key l (map_in (λ (m : KeyMark). m.key) ms q h) in
+    ltb-true q.key.0 (length here.scene.keys.names) (and_true_left (has_key here q.key) (same_part (part_of here.scene q.key) p) t)
 
 -- ---- each change
 
@@ -163,7 +159,7 @@ module _ (scene : Scene) (s : Stage) (i : ℕ) (v : View) (input : Input) (w : W
   ]
     where
       fresh_ : ReadLetter (at_place scene i) input d e m → CommitFrom m tx p ms
-      fresh_ (rl_request n l x own b) = absurd (cc (b, q))
+      fresh_ (rl_request n l x own to b) = absurd (cc (b, q))
       fresh_ (rl_reply t l r c o gc g f b y) = absurd (cc (b, q))
       fresh_ (rl_commit n lc gc x a own f g r b) =
           let same : Commit (name_of (at_place scene i) n) a.part (stamp gc) (Acts.marks_in (at_place scene i) d.view a.part x.writes) ≡ Commit tx p fc ms = sym b ∙ q in
@@ -221,8 +217,8 @@ module _ (scene : Scene) (s : Stage) (i : ℕ) (v : View) (input : Input) (w : W
           let sent : In c.0 (s.sent ++ d.sent) = in_left s.sent d.sent c.0 (came scene s i v input w d e is seen act h.linked_ c.0 c.1) in
           let body : c.0.body ≡ Commit tx p gc ls = c.3 ∙ (ap (λ (z : TxId). Commit z r gc ls) o.0 ∙ ap (λ (z : PartId). Commit tx z gc ls) o.1) in
           let one : ms ≡ ls = h.same m c.0 a sent tx p fc gc ms ls b body in
-          let named : has_named (at_place scene i) c.0.body ≡ true = and_right (has_node (at_place scene i) c.0.sender) (has_named (at_place scene i) c.0.body)
-          (and_right (same_node c.0.receiver (at_place scene i).node) (has_node (at_place scene i) c.0.sender && has_named (at_place scene i) c.0.body) c.4) in
+          let named : has_named (at_place scene i) c.0.body ≡ true = and_true_right (has_node (at_place scene i) c.0.sender) (has_named (at_place scene i) c.0.body)
+          (and_true_right (same_node c.0.receiver (at_place scene i).node) (has_node (at_place scene i) c.0.sender && has_named (at_place scene i) c.0.body) c.4) in
           let key = commit_keys (at_place scene i) t r gc ls q (ap (has_named (at_place scene i)) (sym c.3) ∙ named) (subst (In q) one qi) in
           let far = h.far.marks i d.view home_d in
           let r = reached ls d.view.marks q (subst (In q) one qi) (omega (arith, key, far)) in

@@ -21,11 +21,13 @@ use Rattle.str_model.proofs.Principle.SingleChanges.{Act, Change, JustMarked, Re
 use Rattle.str_model.proofs.Principle.StepPaths.{step-keeps}
 use Rattle.str_model.proofs.Principle.Everywhere.{at_each_event, at_place}
 use Rattle.str_model.proofs.Changes.SnapshotsGain.{TurnGood, read_turn-good, reply_turn-good}
-use Rattle.str_model.proofs.Lists.ListReads.{got_push, got_set}
-use Rattle.str_model.proofs.Lists.Members.{In, in_append, in_at}
 use Rattle.si_laws.proofs.Dependencies.AroundKept.{cert_rs}
-use Rattle.str_model.proofs.ViewFacts.MarksRise.{Looks, LooksLess, Rises, finish-looks, finish_next-looks, marked_now, need_within, raise_all-rises, raised-rises, rises_self, same_key-is}
+use Rattle.str_model.proofs.ViewFacts.MarksRise.{Looks, LooksLess, Rises, finish-looks, finish_next-looks, marked_now, need_within, raise_all-rises, raised-rises, rises_self}
 use Rattle.si_laws.specs.Laws.Marks.{MarkedAtHome, ReadsKey}
+use Rattle.str_base.proofs.Lists.{got_push, got_set}
+use Rattle.str_base.proofs.Members.{in_append, in_at}
+use Rattle.str_base.proofs.SameNames.{same_key-is}
+use Rattle.str_base.specs.Members.{In}
 
 -- The mark of each key that an own transaction has read or waits for is at least its timestamp, and the key is one of the scene. Why: a later
 -- version of the key here gets a timestamp above the mark, so it stays above the snapshot.

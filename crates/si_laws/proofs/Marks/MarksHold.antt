@@ -10,12 +10,10 @@ use Rattle.si_laws.proofs.Marks.HomeMarks.{HomeMarked, home_marked, home_marked_
 use Rattle.si_laws.proofs.Stages.LinkedStates.{one_certified, one_of, one_place}
 use Rattle.si_laws.proofs.Marks.ReplyMarks.{HasRs, has_rs_stays, marked_by_reply, rs_of}
 use Rattle.si_laws.proofs.Stages.ParticipantSeats.{of_nth, own_seat, to_nth}
-use Rattle.si_laws.proofs.Sessions.SessionHolds.{get_within, good_everywhere}
+use Rattle.si_laws.proofs.Sessions.SessionHolds.{good_everywhere}
 use Rattle.si_laws.proofs.Marks.WritersWrote.{Sourced, WroteKey, sourced_opening, sourced_step, wrote_stays}
 use Rattle.str_model.proofs.Principle.Everywhere.{at_place, stage_of}
 use Rattle.str_model.proofs.Principle.LaterMoments.{Took, at_each_moment, moment_of, took}
-use Rattle.str_model.proofs.Lists.ListReads.{get_set}
-use Rattle.str_model.proofs.Lists.Members.{In, at_in, in_at}
 use Rattle.str_model.proofs.Principle.EndOfRuns.{onward}
 use Rattle.si_laws.specs.Laws.Marks.{CarriesMark, IsMarked, MarkUnderWay, MarkedByCommit, MarksHold, ReadWhileOpen}
 use Rattle.si_laws.specs.Laws.Presence.{Decides}
@@ -38,6 +36,9 @@ use Rattle.str_model.specs.Views.{Doing, Own, View, is_decided, name_of}
 use Rattle.str_scene.specs.declared.names.Event.{Event}
 use Rattle.str_scene.specs.SceneLimits.{Exists, IsScene}
 use Rattle.str_scene.specs.Scenes.{Scene, nth, or_none, part_of, replicas}
+use Rattle.str_base.proofs.Lists.{get_set, slice_get_there}
+use Rattle.str_base.proofs.Members.{at_in, in_at}
+use Rattle.str_base.specs.Members.{In}
 
 module _ (scene : Scene) (ok : IsScene scene) (es : List Event) where
   -- a participant is a node of the scene
@@ -56,7 +57,7 @@ module _ (scene : Scene) (ok : IsScene scene) (es : List Event) where
       by_number zero e = absurd (omega (arith, e, x.0))
       by_number (suc n) e =
           let c = (good_everywhere scene es).count in
-          let g = get_within (run scene es).nodes n (omega (arith, e, x.1, c)) in
+          let g = slice_get_there (run scene es).nodes n (omega (arith, e, x.1, c)) in
           let same : r.0 ≡ n + 1 = omega (arith, e) in (n, g.0, λ j. record { 0 = same j }, g.1)
 
   -- a mark that was sent has been raised, or is under way
@@ -71,7 +72,7 @@ module _ (scene : Scene) (ok : IsScene scene) (es : List Event) where
       at = at_in (run scene es).sent m h
 
       flag : (b : Bool) × (slice_get (run scene es).given at.0 ≡ Some b)
-      flag = let less = slice_get_within (run scene es).sent at.0 m at.1 in let l = d.len in get_within (run scene es).given at.0 (omega (arith, less, l))
+      flag = let less = slice_get_within (run scene es).sent at.0 m at.1 in let l = d.len in slice_get_there (run scene es).given at.0 (omega (arith, less, l))
 
       by_body : (i : ℕ) → slice_get (run scene es).sent i ≡ Some m → slice_get (run scene es).given i ≡ Some true → (b : Body) → m.body ≡ b → CarriesMark b u k t → IsMarked (run scene es) r k t
       by_body i s g (Commit v p fc ms) q (e, j, z, y, key, le) =

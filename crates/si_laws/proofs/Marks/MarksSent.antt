@@ -6,10 +6,7 @@ use Rattle.si_laws.proofs.Changes.ReadLetters.{marks_act}
 use Rattle.si_laws.proofs.Marks.ReplyMarks.{rs_stays}
 use Rattle.str_model.proofs.Principle.SingleChanges.{Act, Where, act_abort, act_abort_came, act_accept, act_ack, act_ask, act_begin, act_certify, act_close, act_commit, act_commit_came, act_mark, act_put, act_refuse, act_reply, act_request, act_take, act_unwait, act_wait}
 use Rattle.str_model.proofs.Principle.Everywhere.{Stage, at_place, during}
-use Rattle.str_model.proofs.Lists.ListReads.{get_set, get_set_other, got_push, got_set}
-use Rattle.str_model.proofs.Lists.Members.{In, at_in, in_append, in_left, in_right, map_in}
 use Rattle.str_model.proofs.Changes.AnswerChanges.{tell_step}
-use Rattle.str_model.proofs.Changes.VersionsMet.{filter_in}
 use Rattle.si_laws.specs.Laws.Marks.{CarriesMark}
 use Rattle.std.proofs.Common.{List, None, Option, Some, ap, arith, eq-eqb, false, filter, inl, inr, refl, slice_get, slice_set, subst, sym, ℕ, ◌++◌, ◌∙◌, ◌≡◌, ◌≤◌}
 use Rattle.str_base.specs.declared.names.KeyId.{KeyId}
@@ -24,6 +21,9 @@ use Rattle.str_model.specs.declared.names.KeyMark.{KeyMark}
 use Rattle.str_model.specs.Owned.{Owns}
 use Rattle.str_model.specs.Views.{Aborted, Committed, Doing, Global, Local, Own, Remote, View, is_decided, lc_of, letter, name_of}
 use Rattle.str_scene.specs.Scenes.{Here, Scene, in_part, part_of, participants}
+use Rattle.str_base.proofs.Members.{at_in, filter_in, in_append, in_left, in_right, map_in}
+use Rattle.str_base.proofs.Lists.{get_set, get_set_other, got_push, got_set}
+use Rattle.str_base.specs.Members.{In}
 
 -- whoever is committed with a final timestamp was so before, or commits now
 pub data CommitStep (here : Here) (d e : Doing) : Type 0 where

@@ -8,10 +8,8 @@ use Rattle.si_laws.proofs.Sessions.SessionHolds.{length_copies}
 use Rattle.str_model.proofs.OwnFacts.PlacesInOrder.{get_set_cases}
 use Rattle.str_model.proofs.Principle.SingleChanges.{Act, Arrives, ComesToRead, IsAsked, Where, a_prepare, a_read, asked_before, asked_now}
 use Rattle.str_model.proofs.Principle.Everywhere.{IsSeen, Sent, Stage, at_place, during, everywhere, stage_of}
-use Rattle.str_model.proofs.Changes.SnapshotsGain.{and_left, and_right}
-use Rattle.str_model.proofs.Lists.ListReads.{get_push, get_set, get_set_other, got_replicate, got_set}
-use Rattle.str_model.proofs.Lists.Members.{In, in_append, in_at, in_left, in_right}
 use Rattle.str_model.proofs.Changes.AnswerChanges.{TellStep, t_begins, t_decides, t_goes, t_rests, tell_step}
+use Rattle.si_laws.proofs.Marks.ReadsAtMasters.{reply_master}
 use Rattle.si_laws.specs.Laws.Marks.{IsReplyTo, MarkedByReply}
 use Rattle.si_laws.specs.Standing.{Begun}
 use Rattle.std.proofs.Common.{List, Option, Some, [], ap, arith, inl, inr, length, ltb-true, refl, replicate, slice_get, slice_set, subst, subst₂, sym, true, ℕ, ◌&&◌, ◌++◌, ◌+◌, ◌<◌, ◌∙◌, ◌∷◌, ◌≡◌, ◌≤◌}
@@ -34,7 +32,11 @@ use Rattle.str_model.specs.Strange.{has_key, has_named, has_node}
 use Rattle.str_model.specs.Strange
 use Rattle.str_model.specs.Views.{Doing, Own, View, name_of}
 use Rattle.str_scene.specs.declared.names.Event.{Event}
-use Rattle.str_scene.specs.Scenes.{Here, Scene, nth}
+use Rattle.str_scene.specs.Scenes.{Here, Scene, is_master, nth, part_of}
+use Rattle.str_base.proofs.Tests.{and_true_left, and_true_right}
+use Rattle.str_base.proofs.Lists.{get_push, get_set, get_set_other, got_replicate, got_set}
+use Rattle.str_base.proofs.Members.{in_append, in_at, in_left, in_right}
+use Rattle.str_base.specs.Members.{In}
 
 -- the transaction began with this timestamp
 pub record HasRs (scene : Scene) (s : Stage) (tx : TxId) (rs : ℕ) : Type 0 where
@@ -128,10 +130,10 @@ module _ (scene : Scene) (s : Stage) (i : ℕ) (v : View) (input : Input) (w : W
     come_rs from tx k t c =
         let g : Sent s c.0 = subst (IsSeen s) c.1 seen in
         let there : In c.0 s.sent = in_at s.sent g.0 c.0 g.1 in
-        let named : has_named (at_place scene i) c.0.body ≡ true = and_right (has_node (at_place scene i) c.0.sender) (has_named (at_place scene i) c.0.body)
-        (and_right (same_node c.0.receiver (at_place scene i).node) (has_node (at_place scene i) c.0.sender && has_named (at_place scene i) c.0.body) c.4) in
+        let named : has_named (at_place scene i) c.0.body ≡ true = and_true_right (has_node (at_place scene i) c.0.sender) (has_named (at_place scene i) c.0.body)
+        (and_true_right (same_node c.0.receiver (at_place scene i).node) (has_node (at_place scene i) c.0.sender && has_named (at_place scene i) c.0.body) c.4) in
         let named' : has_named (at_place scene i) (ReadReq tx k t) ≡ true = ap (has_named (at_place scene i)) (sym c.3) ∙ named in
-        let key : has_key (at_place scene i) k ≡ true = and_left (has_key (at_place scene i) k) (Strange.below_limit t) (and_right (has_node (at_place scene i) tx.node) (has_key (at_place scene i) k && Strange.below_limit t) named') in
+        let key : has_key (at_place scene i) k ≡ true = and_true_left (has_key (at_place scene i) k) (Strange.below_limit t) (and_true_right (has_node (at_place scene i) tx.node) (has_key (at_place scene i) k && Strange.below_limit t) named') in
         let less : k.0 < length scene.keys.names = ltb-true k.0 (length scene.keys.names) key in
         (h.requests c.0 (in_left s.sent d.sent c.0 there) tx k t c.3, marked_now d.view k t.0 (omega (arith, less, h.marks i d.view there_d)) c.5)
 
@@ -149,7 +151,7 @@ module _ (scene : Scene) (s : Stage) (i : ℕ) (v : View) (input : Input) (w : W
     ]
       where
         fresh_ : ReadLetter (at_place scene i) input d e m → HasRs scene (during s i e) tx rs.0
-        fresh_ (rl_request n l x own b) =
+        fresh_ (rl_request n l x own to b) =
             let same : ReadReq (name_of (at_place scene i) n) l (stamp x.snap.rs) ≡ ReadReq tx k rs = sym b ∙ q in
             let name : name_of (at_place scene i) n ≡ tx = cc same in
             let time : x.snap.rs ≡ rs.0 = cc same in
@@ -168,7 +170,7 @@ module _ (scene : Scene) (s : Stage) (i : ℕ) (v : View) (input : Input) (w : W
     ]
       where
         fresh_ : ReadLetter (at_place scene i) input d e m → Left scene (during s i e) m.sender tx k
-        fresh_ (rl_request n l x own b) = absurd (cc (b, q))
+        fresh_ (rl_request n l x own to b) = absurd (cc (b, q))
         fresh_ (rl_reply t l r c u gc g f b z) =
             let same : ReadReply t l c u (stamp gc) ≡ ReadReply tx k a by fc = sym b ∙ q in
             let tx_is : t ≡ tx = cc same in
@@ -240,7 +242,7 @@ rs_of scene w t x rs b h =
     let same : x ≡ h.x = one_of x h.x (nth h.view.own (h.i + 1)) own (to_nth h.view.own h.i h.x h.own) in
     ap (λ (z : Own). z.snap.rs) same ∙ h.rs_is
 
-pub marked_by_reply : (scene : Scene) (es : List Event) → MarkedByReply (run scene es)
+pub marked_by_reply : (scene : Scene) (es : List Event) → MarkedByReply scene (run scene es)
 marked_by_reply scene es i m t x k sent is b = by_body m.body refl is
   where
     by_left : Left scene (stage_of (run scene es)) m.sender t k → (v : View) × (nth (run scene es).nodes m.sender.0 ≡ Some v) × (x.snap.rs ≤ mark_of v.marks k)
@@ -249,9 +251,11 @@ marked_by_reply scene es i m t x k sent is b = by_body m.body refl is
         let there : nth (run scene es).nodes m.sender.0 ≡ Some l.view = ap (λ (z : NodeId). nth (run scene es).nodes z.0) l.node ∙ to_nth (run scene es).nodes l.n l.view l.there in
         (l.view, there, omega (arith, r, l.mark))
 
-    by_body : (body : Body) → m.body ≡ body → IsReplyTo body t k → (v : View) × (nth (run scene es).nodes m.sender.0 ≡ Some v) × (x.snap.rs ≤ mark_of v.marks k)
-    by_body (ReadReply u l a by fc) q (e, f) =
-        by_left (subst₂ (λ (y : TxId) (z : KeyId). Left scene (stage_of (run scene es)) m.sender y z) e f ((far_reads scene es).replies m (in_at (run scene es).sent i m sent) u l a by fc q))
+    by_body : (body : Body) → m.body ≡ body → IsReplyTo body t k → (is_master scene m.sender (part_of scene k) ≡ true) × ((v : View) × (nth (run scene es).nodes m.sender.0 ≡ Some v) × (x.snap.rs ≤ mark_of v.marks k))
+    by_body (ReadReply u l a by fc) q (e, f) = (
+      subst (λ z. is_master scene m.sender (part_of scene z) ≡ true) f (reply_master scene es m (in_at (run scene es).sent i m sent) u l a by fc q),
+      by_left (subst₂ (λ (y : TxId) (z : KeyId). Left scene (stage_of (run scene es)) m.sender y z) e f ((far_reads scene es).replies m (in_at (run scene es).sent i m sent) u l a by fc q)),
+    )
     by_body (ReadReq u l rs) q z = absurd z
     by_body (Prepare u p rs lc ws) q z = absurd z
     by_body (Refusal u p by l) q z = absurd z

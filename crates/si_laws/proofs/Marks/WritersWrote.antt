@@ -7,8 +7,6 @@ use Rattle.si_laws.proofs.Changes.ReadLetters.{ReadLetter, is_other, letters_act
 use Rattle.si_laws.proofs.Sources.GivenVersions.{OwnFrom, change_from, got_from, serve_from, still_from}
 use Rattle.str_model.proofs.Principle.SingleChanges.{Act, Comes, Where, act_abort, act_abort_came, act_accept, act_ack, act_ask, act_begin, act_certify, act_close, act_commit, act_commit_came, act_mark, act_put, act_refuse, act_reply, act_request, act_take, act_unwait, act_wait}
 use Rattle.str_model.proofs.Principle.Everywhere.{IsSeen, Sent, Stage, at_place, during, stage_of}
-use Rattle.str_model.proofs.Lists.ListReads.{get_set, get_set_other, got_push, got_replicate, got_set}
-use Rattle.str_model.proofs.Lists.Members.{In, in_append, in_at, in_filter, in_insert_all, in_left, in_map, in_right, in_without}
 use Rattle.std.proofs.Common.{Bool, List, None, Option, Some, ap, filter, inl, inr, map, refl, replicate, slice_get, slice_set, subst, subst₂, sym, ℕ, ◌++◌, ◌∙◌, ◌≡◌}
 use Rattle.str_base.specs.declared.names.KeyId.{KeyId}
 use Rattle.str_base.specs.declared.names.NodeId.{NodeId}
@@ -28,6 +26,9 @@ use Rattle.str_model.specs.Proposals.{proposed}
 use Rattle.str_model.specs.Runs.{opening, opening_view}
 use Rattle.str_model.specs.Views.{Aborted, Committed, Doing, Global, Local, Own, Remote, View, lc_of, name_of}
 use Rattle.str_scene.specs.Scenes.{Here, Scene, in_part, participants}
+use Rattle.str_base.proofs.Lists.{get_set, get_set_other, got_push, got_replicate, got_set}
+use Rattle.str_base.proofs.Members.{in_append, in_at, in_filter, in_insert_all, in_left, in_map, in_right, in_without}
+use Rattle.str_base.specs.Members.{In}
 
 -- the transaction was certified with a write of the key
 pub record WroteKey (scene : Scene) (s : Stage) (u : TxId) (k : KeyId) : Type 0 where
@@ -177,7 +178,7 @@ module _ (scene : Scene) (s : Stage) (i : ℕ) (v : View) (input : Input) (w : W
   ]
     where
       fresh_ : ReadLetter (at_place scene i) input d e m → WroteKey scene (during s i e) u k
-      fresh_ (rl_request n l x own b) = absurd (cc (b, q))
+      fresh_ (rl_request n l x own to b) = absurd (cc (b, q))
       fresh_ (rl_reply z l r c o gc g f b y) =
           let same : ReadReply z l c o _ ≡ ReadReply tx k a by fc = sym b ∙ q in
           let key : l ≡ k = cc same in

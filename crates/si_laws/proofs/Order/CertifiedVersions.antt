@@ -6,9 +6,6 @@ use Rattle.si_laws.proofs.Stages.LinksKept.{answer_known}
 use Rattle.si_laws.proofs.Stages.ParticipantSeats.{of_nth, seat_of, to_nth}
 use Rattle.str_model.proofs.Changes.PairWords.{Has}
 use Rattle.str_model.proofs.Principle.Everywhere.{Stage, at_place, stage_of}
-use Rattle.str_model.proofs.Lists.ListReads.{same_or_not}
-use Rattle.str_model.proofs.Lists.Members.{In}
-use Rattle.str_model.proofs.Changes.VersionsMet.{filter_in}
 use Rattle.si_laws.specs.Standing.{Begun, IsCommitted}
 use Rattle.std.proofs.Common.{List, Some, ap, eq-eqb, false, filter, inl, inr, refl, slice_get, subst, subst₂, sym, true, ℕ, ◌+◌, ◌∙◌, ◌≡◌, ◌≢◌, ◌≤◌, ◌⊎◌}
 use Rattle.str_base.specs.Versions.{settled}
@@ -25,6 +22,9 @@ use Rattle.str_model.specs.Proposals.{is_pair}
 use Rattle.str_model.specs.Runs.{World}
 use Rattle.str_model.specs.Views.{Committed, Own, View, is_decided, lc_of, name_of}
 use Rattle.str_scene.specs.Scenes.{Scene, hosts, in_part, nth, part_of}
+use Rattle.str_base.proofs.Members.{filter_in}
+use Rattle.std.proofs.lemmas.Bool.{cases_eq}
+use Rattle.str_base.specs.Members.{In}
 
 -- the version is of the transaction, of the key, and in the key's partition
 pub record IsOf (scene : Scene) (tx : TxId) (k : KeyId) (q : Version) : Type 0 where
@@ -108,7 +108,7 @@ module _ (scene : Scene) (s : Stage) (h : Linked scene s) where
   -- of a committed transaction, at each replica of what it wrote
   pub committed_stands : (t : TxId) (x : Own) (st : BegunAt scene s t x) (fc : ℕ) → IsCommitted x fc → (w : Write) → In w x.writes → (r : NodeId) → hosts scene r (part_of scene w.key) ≡ true
       → FoundAt t fc w r
-  committed_stands t x st fc cm w m r hosted = by_place (same_or_not r.0 (st.n + 1))
+  committed_stands t x st fc cm w m r hosted = by_place (cases_eq r.0 (st.n + 1))
     where
       good : OwnGood (at_place scene st.n) st.view.versions st.i x
       good = h.home st.n st.view st.there st.i x st.own

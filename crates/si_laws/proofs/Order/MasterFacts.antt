@@ -1,14 +1,12 @@
 -- The order of versions at a master, over every run.
 use Rattle.si_laws.proofs.Dependencies.AroundLocal.{Stand}
-use Rattle.str_model.proofs.Changes.PairWords.{same_part-is, same_pair}
+use Rattle.str_model.proofs.Changes.PairWords.{same_pair}
 use Rattle.si_laws.proofs.Stages.LinkedStates.{AreWrites, IsCertified, Linked, certified_stays}
 use Rattle.si_laws.proofs.Stages.LinksKept.{placed_foreign, placed_unknown, placed_writes}
 use Rattle.str_model.proofs.Changes.MasterChanges.{AreDistinct, VersionAct, comes_distinct, one_write, va_accept, va_came, va_commit, va_fewer, va_locals, va_take, version_act}
 use Rattle.str_model.proofs.Changes.VersionChanges.{Placed, by_master, by_slave}
 use Rattle.str_model.proofs.Principle.SingleChanges.{Act, Where, it_comes, it_waits}
 use Rattle.str_model.proofs.Principle.Everywhere.{IsSeen, Stage, at_place, during}
-use Rattle.str_model.proofs.Lists.ListReads.{get_set}
-use Rattle.str_model.proofs.Lists.Members.{In, in_filter, in_right}
 use Rattle.std.proofs.Common.{List, Some, ap, inl, inr, refl, slice_get, slice_set, subst, sym, true, ℕ, ◌+◌, ◌∙◌, ◌∷◌, ◌≡◌, ◌≢◌, ◌≤◌, ◌⊎◌}
 use Rattle.str_base.specs.Versions.{settled}
 use Rattle.str_base.specs.declared.names.Kind.TheVariants.{Final, Local as LocalKind, Pre}
@@ -24,6 +22,10 @@ use Rattle.str_model.specs.declared.messages.Body.TheVariants.{Prepare, Replicat
 use Rattle.str_model.specs.declared.messages.Input.{Input}
 use Rattle.str_model.specs.declared.messages.Waiter.TheVariants.{Held}
 use Rattle.str_scene.specs.Scenes.{Scene, in_part, is_master, part_of}
+use Rattle.str_base.proofs.SameNames.{same_part-is}
+use Rattle.str_base.proofs.Lists.{get_set}
+use Rattle.str_base.proofs.Members.{in_filter, in_right}
+use Rattle.str_base.specs.Members.{In}
 
 -- q is final at or below the snapshot of r's transaction
 pub record IsBefore (scene : Scene) (s : Stage) (q r : Version) : Type 0 where

@@ -1,7 +1,6 @@
 -- The order of versions at a master, over every run.
 use Rattle.si_laws.proofs.Dependencies.LocalsApart.{around_after, stand_after, stand_opening}
 use Rattle.si_laws.proofs.Dependencies.AroundLocal.{AroundAfter, Stand, after_above, after_below, after_final}
-use Rattle.str_model.proofs.Changes.PairWords.{same_tx-is}
 use Rattle.si_laws.proofs.Dependencies.AroundKept.{stand-act}
 use Rattle.si_laws.proofs.Order.CertifiedVersions.{begun_at}
 use Rattle.si_laws.proofs.Stages.LinkedStates.{IsCertified, Linked, one_certified, one_of}
@@ -11,8 +10,6 @@ use Rattle.si_laws.proofs.Order.OrderKept.{masters_step}
 use Rattle.si_laws.proofs.Stages.ParticipantSeats.{of_nth}
 use Rattle.str_model.proofs.Principle.SingleChanges.{Act, Where}
 use Rattle.str_model.proofs.Principle.Everywhere.{IsSeen, Stage, at_place, during, everywhere, stage_of}
-use Rattle.str_model.proofs.Lists.ListReads.{get_set, get_set_other, got_replicate, got_set}
-use Rattle.str_model.proofs.Lists.Members.{In, in_at}
 use Rattle.si_laws.specs.Commits.{seen}
 use Rattle.si_laws.specs.Laws.Apart.{IsOrdered, OnePre, OrderAtMaster, OrderHolds}
 use Rattle.si_laws.specs.Standing.{Begun}
@@ -32,6 +29,10 @@ use Rattle.str_model.specs.declared.messages.Waiter.TheVariants.{Held}
 use Rattle.str_scene.specs.SceneLimits.{IsScene}
 use Rattle.str_scene.specs.Scenes.{Scene, is_master, nth}
 use Rattle.str_scene.specs.declared.names.Event.{Event}
+use Rattle.str_base.proofs.SameNames.{cases_tx, is-same_tx, same_tx-is}
+use Rattle.str_base.proofs.Lists.{get_set, get_set_other, got_replicate, got_set}
+use Rattle.str_base.proofs.Members.{in_at}
+use Rattle.str_base.specs.Members.{In}
 
 -- what holds of every state: of messages, around Local versions, and at masters
 pub record Governed (scene : Scene) (s : Stage) : Type 0 where
@@ -73,16 +74,6 @@ governed scene es = everywhere scene (Governed scene) (governed-keeps scene) (go
 
 -- ---- the laws
 
-same_names : (a b : TxId) → a ≡ b → same_tx a b ≡ true
-same_names a b q = rw (eq-eqb a.node.0 b.node.0 (ap (λ (z : TxId). z.node.0) q), eq-eqb a.seq b.seq (ap (λ (z : TxId). z.seq) q)) refl
-
-same_or_other : (t u : TxId) → (t ≡ u) ⊎ (t ≢ u)
-same_or_other t u = by_test (same_tx t u) refl
-  where
-    by_test : (b : Bool) → same_tx t u ≡ b → (t ≡ u) ⊎ (t ≢ u)
-    by_test true e = inl (same_tx-is t u e)
-    by_test false e = inr (λ q. absurd (cc (same_names t u q, e)))
-
 -- a master has one Pre version of a key at most
 pub one_pre : (scene : Scene) (events : List Event) (n : NodeId) (v : View) → nth (run scene events).nodes n.0 ≡ Some v → OnePre scene n v
 one_pre scene events n v is q r hq hr key kq kr mas =
@@ -91,7 +82,7 @@ one_pre scene events n v is q r hq hr key kq kr mas =
     let mas' : is_master scene (record { 0 = p.0 + 1 }) q.part ≡ true = subst (λ (z : NodeId). is_master scene z q.part ≡ true) (λ j. record { 0 = p.1 j }) mas in
     let iq = in_at v.versions hq.0 q hq.1 in
     let ir = in_at v.versions hr.0 r hr.1 in
-    elim (same_or_other q.tx r.tx) [
+    elim (cases_tx q.tx r.tx) [
       | inl t ↦ h.one p.0 v p.2 q r iq ir kq kr t key
       | inr f ↦ (elim (h.order p.0 v p.2 q r iq ir key mas' f (λ z. cc (z, kq)) (λ z. cc (z, kr))) [
         | inl b ↦ absurd (cc (b.final, kq))

@@ -9,9 +9,7 @@ use Rattle.str_model.proofs.OwnFacts.LocalOwners.{open-fate}
 use Rattle.str_model.proofs.Changes.VersionChanges.{WaitStep, by_master, w_fewer, w_more, wait_step}
 use Rattle.str_model.proofs.Principle.SingleChanges.{Act, Arrives, IsHere, Where, a_prepare, a_read}
 use Rattle.str_model.proofs.Principle.Everywhere.{IsSeen, Stage, at_place, during}
-use Rattle.str_model.proofs.Lists.ListReads.{get_set_other, got_set}
 use Rattle.str_model.proofs.Changes.VersionsMet.{accept_met}
-use Rattle.str_model.proofs.Lists.Members.{In, in_append}
 use Rattle.std.proofs.Common.{List, Some, [], ap, arith, false, inl, inr, refl, slice_get, slice_set, subst, sym, true, ℕ, ◌+◌, ◌-◌, ◌∙◌, ◌∷◌, ◌≡◌, ◌≢◌, ◌⊎◌}
 use Rattle.str_base.specs.Versions.{is_undecided, of_pair, settled}
 use Rattle.str_base.specs.declared.names.Kind.TheVariants.{Final, Local as LocalKind, Pre}
@@ -35,6 +33,9 @@ use Rattle.str_model.specs.declared.messages.Input.{Input}
 use Rattle.str_model.specs.declared.messages.Waiter.TheVariants.{Held}
 use Rattle.str_model.specs.declared.messages.Waiter.{Waiter}
 use Rattle.str_scene.specs.Scenes.{Scene, is_master, part_of}
+use Rattle.str_base.proofs.Lists.{get_set_other, got_set}
+use Rattle.str_base.proofs.Members.{in_append}
+use Rattle.str_base.specs.Members.{In}
 
 module _ (scene : Scene) (s : Stage) (i : ℕ) (v : View) (input : Input) (w : Where) (d e : Doing) (is : slice_get s.nodes i ≡ Some v) (seen : IsSeen s input) (act : Act (at_place scene i) input w d e)
     (h : Linked scene (during s i d)) (st : Stand (at_place scene i) d.view) (m : Masters scene (during s i d)) where

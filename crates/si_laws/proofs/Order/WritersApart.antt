@@ -5,13 +5,12 @@ use Rattle.str_model.proofs.OwnFacts.AtHome.{OwnGood}
 use Rattle.si_laws.proofs.Stages.LinkedStates.{IsCertified, one_certified, one_of}
 use Rattle.si_laws.proofs.Order.OrderAtMaster.{governed, one_pre}
 use Rattle.si_laws.proofs.Order.MasterFacts.{IsBefore}
-use Rattle.str_model.proofs.OwnFacts.ScriptsCovered.{ScriptGood, WritesKey, eval_keys, or_first, scripts_after}
+use Rattle.str_model.proofs.OwnFacts.ScriptsCovered.{ScriptGood, WritesKey, eval_keys, scripts_after}
 use Rattle.si_laws.proofs.Stages.ParticipantSeats.{of_nth}
 use Rattle.si_laws.proofs.Sessions.SessionAnswers.{committed_phase, entry, session_holds}
-use Rattle.si_laws.proofs.Sessions.SessionHolds.{get_within, good_everywhere}
+use Rattle.si_laws.proofs.Sessions.SessionHolds.{good_everywhere}
 use Rattle.str_model.proofs.Changes.PairWords.{any_has}
 use Rattle.str_model.proofs.Principle.Everywhere.{at_place, stage_of}
-use Rattle.str_model.proofs.Lists.Members.{In}
 use Rattle.si_laws.specs.Commits.{seen}
 use Rattle.si_laws.specs.Laws.Apart.{ApartHolds}
 use Rattle.si_laws.specs.SnapshotIsolation.{IsAnswer, IsCommittedAt, NoOverlap}
@@ -37,6 +36,10 @@ use Rattle.str_scene.specs.declared.names.Event.{Event}
 use Rattle.str_scene.specs.declared.names.Op.TheVariants.{Abort as Stop, Add, Del, Get, Need, Put, Puts}
 use Rattle.str_scene.specs.declared.names.Op.{Op}
 use Rattle.str_scene.specs.declared.names.TxPlace.{TxPlace}
+use Rattle.std.proofs.lemmas.Bool.{or_left}
+use Rattle.str_base.proofs.Lists.{slice_get_there}
+use Rattle.str_base.specs.Members.{In}
+use Rattle.str_model.proofs.ViewFacts.MarksRise.{script_op}
 
 none_above : {A : Type 0} (xs : List A) (n j : ℕ) (x : A) → slice_get xs n ≡ None → slice_get xs j ≡ Some x → j < n
 none_above [] n j x e f = absurd (cc f)
@@ -55,34 +58,22 @@ key_of_table version table (Get l) k o q = absurd q
 key_of_table version table (Need l n) k o q = absurd q
 key_of_table version table Stop k o q = absurd q
 
--- each operation of a script of the scene is one of the scene
-pub script_op : (scene : Scene) → IsScene scene → (place : TxPlace) (j : ℕ) (op : Op) → slice_get (script_at scene place) j ≡ Some op → IsOp scene.version scene.keys op
-script_op scene ok place j op e = by_session (nth scene.sessions place.session.0) refl e
-  where
-    by_script : (s : Session) (i : ℕ) → slice_get scene.sessions i ≡ Some s → (o : Option (List Op)) → nth s.txs place.index ≡ o → slice_get (or_none o) j ≡ Some op → IsOp scene.version scene.keys op
-    by_script s i is None q f = absurd (cc f)
-    by_script s i is (Some ops) q f = let t = of_nth s.txs place.index ops q in ((ok.sessions i s is).scripts t.0 ops t.2).ops j op f
-
-    by_session : (o : Option Session) → nth scene.sessions place.session.0 ≡ o → slice_get (ops_at o place.index) j ≡ Some op → IsOp scene.version scene.keys op
-    by_session None q f = absurd (cc f)
-    by_session (Some s) q f = let t = of_nth scene.sessions place.session.0 s q in by_script s t.0 t.2 (nth s.txs place.index) refl f
-
 -- a key of the table has a master
 pub master_of : (scene : Scene) → IsScene scene → (k : KeyId) → k.0 < length scene.keys.names → (r : NodeId) × (is_master scene r (part_of scene k) ≡ true) × (hosts scene r (part_of scene k) ≡ true)
 master_of scene ok k less =
-    let key = get_within scene.keys.names k.0 less in
+    let key = slice_get_there scene.keys.names k.0 less in
     let part : part_of scene k ≡ key.0.1 = ap named_part key.1 in
     let exists = (ok.table.keys k.0 key.0 key.1).part in
     by_part key.0.1.0 refl exists part
   where
     by_row : (row : List NodeId) → 1 ≤ length row → (r : NodeId) × (leads r row ≡ true) × (list_any (λ n. same_node n r) row ≡ true)
     by_row [] le = absurd (omega (arith, le))
-    by_row (r ∷ rs) le = (r, eq-eqb r.0 r.0 refl, or_first (same_node r r) (list_any (λ n. same_node n r) rs) (eq-eqb r.0 r.0 refl))
+    by_row (r ∷ rs) le = (r, eq-eqb r.0 r.0 refl, or_left (same_node r r) (list_any (λ n. same_node n r) rs) (eq-eqb r.0 r.0 refl))
 
     by_part : {p : PartId} (m : ℕ) → p.0 ≡ m → Exists m (length scene.parts) → part_of scene k ≡ p → (r : NodeId) × (is_master scene r (part_of scene k) ≡ true) × (hosts scene r (part_of scene k) ≡ true)
     by_part {p} zero q x part = absurd (omega (arith, x.0))
     by_part {p} (suc i) q x part =
-        let row = get_within scene.parts i (omega (arith, x.1)) in
+        let row = slice_get_there scene.parts i (omega (arith, x.1)) in
         let all : replicas scene (part_of scene k) ≡ row.0 = ap (λ (z : PartId). or_none (nth scene.parts z.0)) part ∙ (ap (λ (z : ℕ). or_none (nth scene.parts z)) q ∙ ap or_none row.1) in
         let m = by_row row.0 (ok.rows i row.0 row.1).some in
         (m.0, subst (λ (zs : List NodeId). leads m.0 zs ≡ true) (sym all) m.1, subst (λ (zs : List NodeId). list_any (λ n. same_node n m.0) zs ≡ true) (sym all) m.2)

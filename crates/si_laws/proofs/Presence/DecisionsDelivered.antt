@@ -2,12 +2,10 @@
 use Rattle.si_laws.proofs.Presence.DecisionsDone.{after_step, decided_step, step_in}
 use Rattle.si_laws.proofs.Stages.LinkedStates.{one_of}
 use Rattle.si_laws.proofs.Stages.ParticipantSeats.{of_nth, to_nth}
-use Rattle.si_laws.proofs.Sessions.SessionHolds.{length_copies, length_set}
+use Rattle.si_laws.proofs.Sessions.SessionHolds.{length_copies}
 use Rattle.str_model.proofs.Changes.PairWords.{Has}
 use Rattle.str_model.proofs.Principle.StepPaths.{StepTo, step-path}
 use Rattle.str_model.proofs.Principle.Everywhere.{at_place, run-append}
-use Rattle.str_model.proofs.Lists.ListReads.{got_set}
-use Rattle.str_model.proofs.Lists.Members.{In, in_at}
 use Rattle.si_laws.specs.Laws.Presence.{Decides}
 use Rattle.std.proofs.Common.{Bool, List, None, Option, Some, [], ap, arith, false, inl, inr, length, refl, replicate, slice_get, slice_set, subst, subst₂, suc, sym, true, zero, ℕ, ◌++◌, ◌+◌, ◌-◌, ◌<◌, ◌∙◌, ◌∷◌, ◌≡◌, ◌≢◌, ◌⊎◌}
 use Rattle.std.proofs.lemmas.Option.{slice_get_within}
@@ -27,6 +25,10 @@ use Rattle.str_model.specs.declared.messages.Message.{Message}
 use Rattle.str_scene.specs.Scenes.{Scene, Session, hosts, nth}
 use Rattle.str_scene.specs.declared.names.Event.TheVariants.{Client as ClientEvent, Deliver as DeliverEvent}
 use Rattle.str_scene.specs.declared.names.Event.{Event}
+use Rattle.str_base.proofs.Lists.{got_set}
+use Rattle.str_base.proofs.Members.{in_at}
+use Rattle.str_base.specs.Members.{In}
+use Rattle.std.proofs.lemmas.List.{length-set}
 
 -- the node that a message goes to, counted from 0
 abbrev pub GoesTo : Message → ℕ → Type 0
@@ -50,7 +52,7 @@ none_given (suc k) zero e = cc e
 none_given (suc k) (suc j) e = none_given k j e
 
 -- what was given was given before
-given_before : (xs : List Bool) (k j : ℕ) → slice_get (xs ++ replicate k false) j ≡ Some true → slice_get xs j ≡ Some true
+pub given_before : (xs : List Bool) (k j : ℕ) → slice_get (xs ++ replicate k false) j ≡ Some true → slice_get xs j ≡ Some true
 given_before [] k j e = absurd (none_given k j e)
 given_before (x ∷ xs) k zero e = e
 given_before (x ∷ xs) k (suc j) e = given_before xs k j e
@@ -125,7 +127,7 @@ module _ (scene : Scene) where
       now_given j g = elim (got_set w.given (idx - 1) j true true g) [ inl z ↦ inl (omega (arith, z.0, at_.1)) | inr z ↦ inr z.1 ]
 
       len_ : length (slice_set w.given (idx - 1) true) ≡ length w.sent
-      len_ = length_set w.given (idx - 1) true ∙ h.len
+      len_ = length-set w.given (idx - 1) true ∙ h.len
 
       by_view : (o : Option View) → nth w.nodes m.receiver.0 ≡ o → Delivered (Runs.step_at scene e m.receiver (Deliver m) (Runs.give idx w) o)
       by_view None r = record {

@@ -3,7 +3,6 @@ use Rattle.si_laws.proofs.Dependencies.LeftAlone.{done-grows}
 use Rattle.str_model.proofs.Changes.PairWords.{Has, any_has, same_pair}
 use Rattle.str_model.proofs.Principle.SingleChanges.{Act, InTurn, InWait, Where, along}
 use Rattle.str_model.proofs.Principle.StepPaths.{StepTo, step-keeps, turn-path, wait_turns-path}
-use Rattle.str_model.proofs.Lists.Members.{In, in_right}
 use Rattle.si_laws.specs.Laws.Presence.{Decides}
 use Rattle.std.proofs.Common.{Bool, List, None, Option, Some, [], ap, false, if◌then◌else◌, inl, length, not, option_map, refl, subst, suc, sym, true, zero, ℕ, ◌&&◌, ◌∙◌, ◌∷◌, ◌≡◌}
 use Rattle.str_base.specs.Versions.{same_node}
@@ -27,6 +26,8 @@ use Rattle.str_model.specs.declared.messages.Input.{Input}
 use Rattle.str_model.specs.declared.messages.Message.{Message}
 use Rattle.str_model.specs.declared.names.KeyMark.{KeyMark}
 use Rattle.str_scene.specs.Scenes.{Here, hosts}
+use Rattle.str_base.proofs.Members.{in_right}
+use Rattle.str_base.specs.Members.{In}
 
 -- the view after a step, or as it was where the step is idle
 abbrev pub after_step : Option Doing → View → View

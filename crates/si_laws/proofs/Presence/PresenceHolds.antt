@@ -5,11 +5,10 @@ use Rattle.si_laws.proofs.Presence.DecisionsDelivered.{Delivered, delivered}
 use Rattle.si_laws.proofs.Stages.LinkedStates.{one_of, pre_of}
 use Rattle.si_laws.proofs.Stages.AllLinksKept.{linked}
 use Rattle.si_laws.proofs.Stages.ParticipantSeats.{of_nth, to_nth}
-use Rattle.si_laws.proofs.Sessions.SessionHolds.{get_within}
-use Rattle.str_model.proofs.Changes.PairWords.{Has, any_has, has_at, not_both}
+use Rattle.str_model.proofs.Changes.PairWords.{Has, any_has}
 use Rattle.str_model.proofs.Principle.Everywhere.{stage_of}
-use Rattle.str_model.proofs.Lists.Members.{In, at_in, in_at}
-use Rattle.si_laws.specs.Laws.Presence.{AnsweredPresent, CommittedPresent, DecidedUntold, Holds, IsStanding, NeverTold, NotDone, PresenceByBound, PresenceHolds, PresenceStands}
+use Rattle.si_laws.specs.Laws.Presence.{AnsweredPresent, CommittedPresent, DecidedUntold, Holds, IsStanding, NeverTold, NotDone, PresenceHolds, PresenceStands}
+use Rattle.si_laws.specs.Laws.Times.{TimesBounded}
 use Rattle.si_laws.specs.Standing.{Begun, IsCommitted, Wrote}
 use Rattle.std.proofs.Common.{Bool, List, Some, arith, false, inl, inr, refl, slice_get, subst, subst₂, sym, true, ℕ, ◌+◌, ◌∙◌, ◌≡◌}
 use Rattle.std.proofs.lemmas.Option.{slice_get_within}
@@ -26,6 +25,10 @@ use Rattle.str_model.specs.Views.{Own, View}
 use Rattle.str_scene.specs.SceneLimits.{IsScene}
 use Rattle.str_scene.specs.Scenes.{Scene, hosts, nth, part_of}
 use Rattle.str_scene.specs.declared.names.Event.{Event}
+use Rattle.std.proofs.lemmas.Bool.{false_from_ne_true}
+use Rattle.str_base.proofs.Members.{any_in, at_in, in_at}
+use Rattle.str_base.proofs.Lists.{slice_get_there}
+use Rattle.str_base.specs.Members.{In}
 
 -- ---- by done lists
 
@@ -35,7 +38,7 @@ module _ (scene : Scene) (events : List Event) where
   not_done_at r tx p n v is there none u g =
       let there' : nth (run scene events).nodes r.0 ≡ Some v = subst (λ (z : NodeId). nth (run scene events).nodes z.0 ≡ Some v) (sym is) (to_nth (run scene events).nodes n v there) in
       let same : v ≡ u = one_of v u (nth (run scene events).nodes r.0) there' g in
-      not_both (is_done u tx p) (λ y. none (any_has (is_pair tx p) v.done (subst (λ (z : View). is_done z tx p ≡ true) (sym same) y)))
+      false_from_ne_true (is_done u tx p) (λ y. none (any_has (is_pair tx p) v.done (subst (λ (z : View). is_done z tx p ≡ true) (sym same) y)))
 
   holds_there : (r : NodeId) (t : TxId) (k : KeyId) (q : Version) (n : ℕ) (v : View) → r ≡ record { 0 = n + 1 } → slice_get (run scene events).nodes n ≡ Some v → In q v.versions → q.tx ≡ t → q.key ≡ k
       → Holds (run scene events) r t k q
@@ -82,14 +85,14 @@ module _ (bound : Bounded) (scene : Scene) (ok : IsScene scene) (events : List E
       let d = delivered scene (decisions_are_valid bound scene ok) events in
       let n = of_nth (run scene events).nodes r.0 v there in
       let less = slice_get_within (run scene events).sent j m sent in
-      let g = get_within (run scene events).given j (omega (arith, less, d.len)) in
+      let g = slice_get_there (run scene events).given j (omega (arith, less, d.len)) in
       by_flag g.0 g.1 d n.0 (λ i. record { 0 = n.1 i }) n.2
     where
       by_flag : (b : Bool) → slice_get (run scene events).given j ≡ Some b → Delivered (run scene events) → (n : ℕ) → r ≡ record { 0 = n + 1 } → slice_get (run scene events).nodes n ≡ Some v
           → slice_get (run scene events).given j ≡ Some false
       by_flag false e d n is at_ = e
       by_flag true e d n is at_ =
-          let k = d.done_ j m tx p n v sent dec e (to ∙ is) at_ in absurd (cc (has_at (is_pair tx p) v.done k.0 k.1 k.2, none v there))
+          let k = d.done_ j m tx p n v sent dec e (to ∙ is) at_ in absurd (cc (any_in (is_pair tx p) v.done k.0 k.1 k.2, none v there))
 
   committed_present : CommittedPresent scene (run scene events)
   committed_present t x fc k r b c w hosted =
@@ -99,7 +102,7 @@ module _ (bound : Bounded) (scene : Scene) (ok : IsScene scene) (events : List E
   decided_untold : DecidedUntold (run scene events)
   decided_untold t x r k q b f h pre = untold_where r t q.part h.0 h.2 (undone_pre scene events t r k q h pre)
 
--- the law follows from the bound of timestamps, which keeps every decision from being strange
+-- where no timestamp reaches the limit, no decision is strange to its receiver
 pub presence_from : Bounded → PresenceHolds
 presence_from bound scene ok events = record {
   committed = committed_present bound scene ok events;
@@ -107,5 +110,5 @@ presence_from bound scene ok events = record {
   untold = decided_untold bound scene ok events;
 }
 
-pub presence_by_bound : PresenceByBound
+pub presence_by_bound : TimesBounded → PresenceHolds
 presence_by_bound b = presence_from (bounded_from b)

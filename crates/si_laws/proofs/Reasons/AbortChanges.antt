@@ -1,5 +1,5 @@
 -- How a transaction aborts between two moments that follow one another.
-use Rattle.std.proofs.Common.{Bool, List, None, Option, Some, [], ap, false, if◌then◌else◌, length, refl, slice_get, slice_set, subst, suc, sym, true, zero, ℕ, ◌+◌, ◌-◌, ◌∙◌, ◌∷◌, ◌≡◌}
+use Rattle.std.proofs.Common.{Bool, List, None, Option, Some, [], ap, false, if◌then◌else◌, length, refl, slice_get, slice_set, subst, suc, sym, true, zero, ℕ, ◌+◌, ◌-◌, ◌∙◌, ◌∷◌, ◌≡◌, ◌≢◌}
 use Rattle.dependency_set.specs.Snapshots.{Snap}
 use Rattle.dependency_set.specs.declared.names.Dep.{Dep}
 use Rattle.str_base.specs.declared.names.Cause.{Cause}
@@ -18,6 +18,7 @@ use Rattle.str_base.specs.Values.{is_below}
 use Rattle.str_model.specs.declared.messages.Arrived.{Arrived}
 use Rattle.str_model.specs.declared.messages.Body.TheVariants.{Refuse as Refusal, Replicate}
 use Rattle.str_model.specs.declared.messages.Input.{Input}
+use Rattle.str_model.specs.declared.messages.Input.TheVariants.{Client}
 use Rattle.str_model.specs.Acts.{aborted, asked, certified, closed, committed, decided_as, in_phase, marked, requested, with_asked}
 use Rattle.str_model.specs.Arrivals
 use Rattle.str_model.specs.Arrivals.{evict, held_key}
@@ -32,17 +33,26 @@ use Rattle.str_model.specs.Turns.{Away, CertTurn, Certified, Conflict, DepTurn, 
 use Rattle.str_model.specs.Views.{Aborted, Active, CertWait, Closing, Committed, Doing, Global, Local, Own, Phase, ReadWait, Remote, Reply, View, is_decided, lc_of, name_of, put}
 use Rattle.str_model.proofs.Principle.SingleChanges.{Comes}
 use Rattle.str_model.proofs.Changes.SnapshotsGain.{if_elim}
-use Rattle.str_model.proofs.Lists.ListReads.{get_set}
 use Rattle.str_model.proofs.Changes.DependencyLooks.{after_look}
+use Rattle.str_base.proofs.Lists.{get_set}
+
+-- the input is a client step of the transaction's session
+abbrev pub IsStep : Input → Own → Type 0
+IsStep input x = (t : ℕ) × (input ≡ Client x.place.session t)
+
+-- it is to be certified: its client step finds its script at its end and has writes, or it waits for certification
+pub data AsksNow (here : Here) (input : Input) (x : Own) : Type 0 where
+  now_at_end : IsStep input x → x.phase ≡ Active → own_op here x ≡ None → x.writes ≢ [] → AsksNow here input x
+  now_waiting : x.phase ≡ CertWait → AsksNow here input x
 
 -- why the p-th own transaction, which stood like x at a moment d, has aborted at the next one
 pub data AbortedBy (here : Here) (input : Input) (d : Doing) (p : ℕ) (x : Own) (cause : Cause) : Type 0 where
   ab_lost : (q f : ℕ) (es : List Dep) → dep_turn d.view.own x.snap ≡ Lost q f es → IsLost (record { node = here.node; seq = q }) ≡ cause → AbortedBy here input d p x cause
   ab_late : (q fc f : ℕ) (es : List Dep) → dep_turn d.view.own x.snap ≡ Late q fc f es → IsLate (record { node = here.node; seq = q }) (stamp fc) ≡ cause → AbortedBy here input d p x cause
-  ab_met : (snap : Snap) (u : TxId) (k : KeyId) → snap.rs ≡ x.snap.rs → (v : View) → v.versions ≡ d.view.versions → cert_turn here v snap x.writes ≡ Conflict u k → ByConflict u k here.node ≡ cause → AbortedBy here input d p x cause
+  ab_met : (snap : Snap) (u : TxId) (k : KeyId) → AsksNow here input x → snap.rs ≡ x.snap.rs → (v : View) → v.versions ≡ d.view.versions → cert_turn here v snap x.writes ≡ Conflict u k → ByConflict u k here.node ≡ cause → AbortedBy here input d p x cause
   ab_evicted : (from : NodeId) (a : Arrived) (w : Write) → Comes here input from (Replicate a.tx a.part a.rs a.lc a.writes) → held_key d.view.versions (name_of here p) a.writes ≡ Some w
       → ByConflict a.tx w.key here.node ≡ cause → AbortedBy here input d p x cause
-  ab_stop : own_op here x ≡ Some Stop → Wish ≡ cause → AbortedBy here input d p x cause
+  ab_stop : IsStep input x → x.phase ≡ Active → own_op here x ≡ Some Stop → Wish ≡ cause → AbortedBy here input d p x cause
   ab_refused : (from : NodeId) (t : TxId) (q : PartId) (u : TxId) (k : KeyId) → Comes here input from (Refusal t q u k) → own_named here t d ≡ Some x → p ≡ t.seq - 1 → has_asked x.parts q ≡ true
       → is_master here.scene from q ≡ true → ByConflict u k from ≡ cause → AbortedBy here input d p x cause
   ab_wish : x.phase ≡ Closing true → x.snap.deps ≡ [] → Wish ≡ cause → AbortedBy here input d p x cause
@@ -90,10 +100,10 @@ module _ (here : Here) (input : Input) (p : ℕ) where
   finish_next_open None v x o = o
   finish_next_open (Some op) v x o = finish_open op v x o
 
-  at_own_is : (f : Own → Doing → Doing) (d : Doing) (x : Own) → Owns d.view p x → is_decided x.phase ≡ false → Scripts.at_own p f d ≡ f x d
+  pub at_own_is : (f : Own → Doing → Doing) (d : Doing) (x : Own) → Owns d.view p x → is_decided x.phase ≡ false → Scripts.at_own p f d ≡ f x d
   at_own_is f d x own op = ap (λ o. Scripts.of_own f o d) own ∙ ap (λ b. Scripts.unless_decided b (f x) d) op
 
-  at_own_decided : (f : Own → Doing → Doing) (d : Doing) (x : Own) → Owns d.view p x → is_decided x.phase ≡ true → Scripts.at_own p f d ≡ d
+  pub at_own_decided : (f : Own → Doing → Doing) (d : Doing) (x : Own) → Owns d.view p x → is_decided x.phase ≡ true → Scripts.at_own p f d ≡ d
   at_own_decided f d x own op = ap (λ o. Scripts.of_own f o d) own ∙ ap (λ b. Scripts.unless_decided b (f x) d) op
 
   -- a read leaves it undecided
@@ -115,32 +125,32 @@ module _ (here : Here) (input : Input) (p : ℕ) where
   again_reply_open k x (Away n) d own op = open_not d x own op
 
   -- a certification aborts it by what it has met
-  cert_done_by : (t : CertTurn) (d e : Doing) (x z : Own) (lc : Option ℕ) (cause : Cause) (y : Own) → Owns e.view p z → is_decided z.phase ≡ false → z.snap.rs ≡ x.snap.rs → z.writes ≡ x.writes → e.view.versions ≡ d.view.versions
+  cert_done_by : (t : CertTurn) (d e : Doing) (x z : Own) (lc : Option ℕ) (cause : Cause) (y : Own) → AsksNow here input x → Owns e.view p z → is_decided z.phase ≡ false → z.snap.rs ≡ x.snap.rs → z.writes ≡ x.writes → e.view.versions ≡ d.view.versions
       → cert_turn here e.view z.snap z.writes ≡ t → Owns (Scripts.cert_done here p z t e).view p y → y.phase ≡ Aborted lc cause → AbortedBy here input d p x cause
   unfolding certified
-  cert_done_by (Certified l snap) d e x z lc cause y own op rs ws vs t own' a =
+  cert_done_by (Certified l snap) d e x z lc cause y asks own op rs ws vs t own' a =
       absurd (let s : Local l ≡ Aborted lc cause = ap (λ (u : Own). u.phase) (set_owns e.view.own p z (record z { snap = snap; parts = participants here.scene here.node z.writes; phase = Local l }) y own own') ∙ a in cc s)
-  cert_done_by (Conflict u k) d e x z lc cause y own op rs ws vs t own' a =
-      ab_met z.snap u k rs e.view vs (ap (λ w. cert_turn here e.view z.snap w) (sym ws) ∙ t) (aborted_cause (ByConflict u k here.node) cause lc z y e own own' a)
-  cert_done_by (WaitGate by) d e x z lc cause y own op rs ws vs t own' a = absurd (put_open e z (in_phase CertWait z) own refl y lc cause own' a)
+  cert_done_by (Conflict u k) d e x z lc cause y asks own op rs ws vs t own' a =
+      ab_met z.snap u k asks rs e.view vs (ap (λ w. cert_turn here e.view z.snap w) (sym ws) ∙ t) (aborted_cause (ByConflict u k here.node) cause lc z y e own own' a)
+  cert_done_by (WaitGate by) d e x z lc cause y asks own op rs ws vs t own' a = absurd (put_open e z (in_phase CertWait z) own refl y lc cause own' a)
 
-  pub certify_by : (d e : Doing) (x z : Own) (lc : Option ℕ) (cause : Cause) (y : Own) → Owns e.view p z → is_decided z.phase ≡ false → z.snap.rs ≡ x.snap.rs → z.writes ≡ x.writes → e.view.versions ≡ d.view.versions
+  pub certify_by : (d e : Doing) (x z : Own) (lc : Option ℕ) (cause : Cause) (y : Own) → AsksNow here input x → Owns e.view p z → is_decided z.phase ≡ false → z.snap.rs ≡ x.snap.rs → z.writes ≡ x.writes → e.view.versions ≡ d.view.versions
       → Owns (Scripts.certify_now here p z e).view p y → y.phase ≡ Aborted lc cause → AbortedBy here input d p x cause
   unfolding Scripts.certify_now
-  certify_by d e x z lc cause y own op rs ws vs own' a = cert_done_by (cert_turn here e.view z.snap z.writes) d e x z lc cause y own op rs ws vs refl own' a
+  certify_by d e x z lc cause y asks own op rs ws vs own' a = cert_done_by (cert_turn here e.view z.snap z.writes) d e x z lc cause y asks own op rs ws vs refl own' a
 
-  again_by : (ph : Phase) (d e : Doing) (x z : Own) (lc : Option ℕ) (cause : Cause) (y : Own) → Owns e.view p z → is_decided z.phase ≡ false → z.snap.rs ≡ x.snap.rs → z.writes ≡ x.writes → e.view.versions ≡ d.view.versions
+  again_by : (ph : Phase) (d e : Doing) (x z : Own) (lc : Option ℕ) (cause : Cause) (y : Own) → x.phase ≡ ph → Owns e.view p z → is_decided z.phase ≡ false → z.snap.rs ≡ x.snap.rs → z.writes ≡ x.writes → e.view.versions ≡ d.view.versions
       → Owns (Pass.again_own here p ph z e).view p y → y.phase ≡ Aborted lc cause → AbortedBy here input d p x cause
-  again_by (ReadWait k) d e x z lc cause y own op rs ws vs own' a = absurd (read_now_open k z e own op y lc cause own' a)
-  again_by (Reply k v by fc) d e x z lc cause y own op rs ws vs own' a = absurd (again_reply_open k z (reply_turn here z.snap v by fc) e own op y lc cause own' a)
-  again_by CertWait d e x z lc cause y own op rs ws vs own' a = certify_by d e x z lc cause y own op rs ws vs own' a
-  again_by Active d e x z lc cause y own op rs ws vs own' a = absurd (open_not e z own op y lc cause own' a)
-  again_by (Remote k) d e x z lc cause y own op rs ws vs own' a = absurd (open_not e z own op y lc cause own' a)
-  again_by (Closing b) d e x z lc cause y own op rs ws vs own' a = absurd (open_not e z own op y lc cause own' a)
-  again_by (Local l) d e x z lc cause y own op rs ws vs own' a = absurd (open_not e z own op y lc cause own' a)
-  again_by (Global l) d e x z lc cause y own op rs ws vs own' a = absurd (open_not e z own op y lc cause own' a)
-  again_by (Committed l f) d e x z lc cause y own op rs ws vs own' a = absurd (open_not e z own op y lc cause own' a)
-  again_by (Aborted l c) d e x z lc cause y own op rs ws vs own' a = absurd (open_not e z own op y lc cause own' a)
+  again_by (ReadWait k) d e x z lc cause y ph own op rs ws vs own' a = absurd (read_now_open k z e own op y lc cause own' a)
+  again_by (Reply k v by fc) d e x z lc cause y ph own op rs ws vs own' a = absurd (again_reply_open k z (reply_turn here z.snap v by fc) e own op y lc cause own' a)
+  again_by CertWait d e x z lc cause y ph own op rs ws vs own' a = certify_by d e x z lc cause y (now_waiting ph) own op rs ws vs own' a
+  again_by Active d e x z lc cause y ph own op rs ws vs own' a = absurd (open_not e z own op y lc cause own' a)
+  again_by (Remote k) d e x z lc cause y ph own op rs ws vs own' a = absurd (open_not e z own op y lc cause own' a)
+  again_by (Closing b) d e x z lc cause y ph own op rs ws vs own' a = absurd (open_not e z own op y lc cause own' a)
+  again_by (Local l) d e x z lc cause y ph own op rs ws vs own' a = absurd (open_not e z own op y lc cause own' a)
+  again_by (Global l) d e x z lc cause y ph own op rs ws vs own' a = absurd (open_not e z own op y lc cause own' a)
+  again_by (Committed l f) d e x z lc cause y ph own op rs ws vs own' a = absurd (open_not e z own op y lc cause own' a)
+  again_by (Aborted l c) d e x z lc cause y ph own op rs ws vs own' a = absurd (open_not e z own op y lc cause own' a)
 
   -- the cause of one that has aborted before it would be tried again
   left_cause : (c cause : Cause) (lc : Option ℕ) (z y : Own) (d : Doing) → Owns d.view p z → Owns (Scripts.at_own p (λ u. Pass.again_own here p u.phase u) (aborted here p c z d)).view p y
@@ -163,7 +173,7 @@ module _ (here : Here) (input : Input) (p : ℕ) where
       let z : Own = record x { snap = record (x.snap) { ffc = ffc; deps = ds } } in
       let e : Doing = put p z d in
       let at : Owns e.view p z = get_set d.view.own p x z own in
-      again_by z.phase d e x z lc cause y at op refl refl refl (subst (λ (u : Doing). Owns u.view p y) (at_own_is (λ u. Pass.again_own here p u.phase u) e z at op) own') a
+      again_by z.phase d e x z lc cause y refl at op refl refl refl (subst (λ (u : Doing). Owns u.view p y) (at_own_is (λ u. Pass.again_own here p u.phase u) e z at op) own') a
 
   pub half_by : (d : Doing) (x : Own) (lc : Option ℕ) (cause : Cause) (y : Own) → Owns d.view p x → is_decided x.phase ≡ false → Owns (half_turn here p d).view p y → y.phase ≡ Aborted lc cause → AbortedBy here input d p x cause
   unfolding half_turn

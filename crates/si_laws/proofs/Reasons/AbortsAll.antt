@@ -38,9 +38,11 @@ use Rattle.str_model.proofs.Principle.SingleChanges.{Comes, InTurn, InWait}
 use Rattle.str_model.proofs.Principle.StepPaths.{close-path, half_turn-path, waiter_turn-waited}
 use Rattle.str_model.proofs.Principle.NextMoments.{Link, evict_linked_to, l_close, l_evict, l_half, l_rule, l_wait, last_of, valid}
 use Rattle.str_model.proofs.Principle.MomentPaths.{take_is}
-use Rattle.str_model.proofs.Lists.ListReads.{get_set_other, same_or_not}
 use Rattle.si_laws.proofs.Reasons.AbortChanges.{AbortedBy, ab_refused, aborted_cause, evict_by, half_by, turn_by}
-use Rattle.si_laws.proofs.Reasons.AbortLinks.{Case, by_if, client_case, kept_case, left_alone, master_case, read_req_case, same_case, set_case}
+use Rattle.si_laws.proofs.Reasons.AbortLinks.{Case, client_case, kept_case, left_alone, same_case, set_case}
+use Rattle.si_laws.proofs.Reasons.QuietRules.{by_if, master_quiet, named_owns, read_req_quiet}
+use Rattle.str_base.proofs.Lists.{get_set_other}
+use Rattle.std.proofs.lemmas.Bool.{and_parts, cases_eq}
 
 -- an abort leaves the others
 aborted_other : (here : Here) (i p : ℕ) (cause : Cause) (z : Own) (d : Doing) → p ≢ i → slice_get (aborted here i cause z d).view.own p ≡ slice_get d.view.own p
@@ -64,17 +66,6 @@ evict_other here a i p d n = by_own (slice_get d.view.own i)
 
 module _ (here : Here) (input : Input) (p : ℕ) where
   module _ (d : Doing) (x : Own) (lc : Option ℕ) (cause : Cause) (y : Own) (own : Owns d.view p x) (op : is_decided x.phase ≡ false) where
-    named_get : (tx : TxId) (z : Own) → own_named here tx d ≡ Some z → slice_get d.view.own (tx.seq - 1) ≡ Some z
-    named_get tx z e = by_node (same_node tx.node here.node) e
-      where
-        got : (n : ℕ) → nth d.view.own n ≡ Some z → slice_get d.view.own (n - 1) ≡ Some z
-        got zero f = absurd (cc f)
-        got (suc n) f = rw sub-one f
-
-        by_node : (b : Bool) → (if b then nth d.view.own tx.seq else None) ≡ Some z → slice_get d.view.own (tx.seq - 1) ≡ Some z
-        by_node true f = got tx.seq f
-        by_node false f = absurd (cc f)
-
     reply_case : (tx : TxId) (k : KeyId) (a : Value) (by : Option TxId) (fc : ℕ) (r : Doing) → Returns.read_reply here tx k a by fc d ≡ Some r → Case here input p d x lc cause y r
     unfolding Returns.read_reply
     reply_case tx k a by fc r e = by_own (own_named here tx d) refl e
@@ -84,8 +75,8 @@ module _ (here : Here) (input : Input) (p : ℕ) where
 
         by_phase : (z : Own) (ph : Phase) → own_named here tx d ≡ Some z → z.phase ≡ ph → Returns.reply_phase (tx.seq - 1) z k a by fc ph d ≡ Some r → Case here input p d x lc cause y r
         by_phase z (Remote l) n f q =
-            let s = by_if here input p d x lc cause y own op (same_key l k) (Some (put (tx.seq - 1) (in_phase (Reply k a by fc) z) d)) r q in
-            set_case here input p d x lc cause y own op (tx.seq - 1) z (in_phase (Reply k a by fc) z) r (named_get tx z n) refl (cc s.1)
+            let s = by_if (same_key l k) (Some (put (tx.seq - 1) (in_phase (Reply k a by fc) z) d)) r q in
+            set_case here input p d x lc cause y own op (tx.seq - 1) z (in_phase (Reply k a by fc) z) r (named_owns here tx d z n) refl (cc s.1)
         by_phase z _ n f q = absurd (cc q)
 
         by_own : (o : Option Own) → own_named here tx d ≡ o → Returns.reply_own (tx.seq - 1) k a by fc o d ≡ Some r → Case here input p d x lc cause y r
@@ -98,7 +89,7 @@ module _ (here : Here) (input : Input) (p : ℕ) where
       where
         by_kept : (z : Own) (l : ℕ) (o : Option (List Asked)) → own_named here tx d ≡ Some z → z.phase ≡ Global l → Returns.ack_kept (tx.seq - 1) z o d ≡ Some r → Case here input p d x lc cause y r
         by_kept z l None n f g = absurd (cc g)
-        by_kept z l (Some parts) n f g = set_case here input p d x lc cause y own op (tx.seq - 1) z (record z { parts = parts }) r (named_get tx z n) (ap is_decided f) (cc g)
+        by_kept z l (Some parts) n f g = set_case here input p d x lc cause y own op (tx.seq - 1) z (record z { parts = parts }) r (named_owns here tx d z n) (ap is_decided f) (cc g)
 
         by_phase : (z : Own) (ph : Phase) → own_named here tx d ≡ Some z → z.phase ≡ ph → Returns.ack_phase (tx.seq - 1) z from q ts ph d ≡ Some r → Case here input p d x lc cause y r
         by_phase z (Global l) n f g = by_kept z l (Returns.with_ack z.parts q from ts) n f g
@@ -112,17 +103,13 @@ module _ (here : Here) (input : Input) (p : ℕ) where
     unfolding Returns.refuse_rule
     refuse_case from tx q u k r c e = by_own (own_named here tx d) refl e
       where
-        both : (a b : Bool) → (a && b) ≡ true → (a ≡ true) × (b ≡ true)
-        both true b g = (refl, g)
-        both false b g = absurd (cc g)
-
         by_phase : (z : Own) (ph : Phase) → own_named here tx d ≡ Some z → z.phase ≡ ph → Returns.refuse_phase here (tx.seq - 1) z from q u k ph d ≡ Some r → Case here input p d x lc cause y r
         by_phase z (Global l) n f g o a =
-            let s = by_if here input p d x lc cause y own op (has_asked z.parts q && is_master here.scene from q) (Some (aborted here (tx.seq - 1) (ByConflict u k from) z d)) r g in
+            let s = by_if (has_asked z.parts q && is_master here.scene from q) (Some (aborted here (tx.seq - 1) (ByConflict u k from) z d)) r g in
             let is : aborted here (tx.seq - 1) (ByConflict u k from) z d ≡ r = cc s.1 in
-            let t = both (has_asked z.parts q) (is_master here.scene from q) s.0 in
-            elim (same_or_not p (tx.seq - 1)) [
-              | inl w ↦ (let at : Some z ≡ Some x = sym (named_get tx z n) ∙ (ap (λ b. slice_get d.view.own b) (sym w) ∙ own) in
+            let t = and_parts (has_asked z.parts q) (is_master here.scene from q) s.0 in
+            elim (cases_eq p (tx.seq - 1)) [
+              | inl w ↦ (let at : Some z ≡ Some x = sym (named_owns here tx d z n) ∙ (ap (λ b. slice_get d.view.own b) (sym w) ∙ own) in
                   let zx : z ≡ x = cc at in
                   let run : Owns (aborted here p (ByConflict u k from) x d).view p y =
                   subst (λ b. Owns (aborted here b (ByConflict u k from) x d).view p y) (sym w)
@@ -140,26 +127,26 @@ module _ (here : Here) (input : Input) (p : ℕ) where
     body_case : (m : Message) (b : Body) (r : Doing) → input ≡ Deliver m → m.body ≡ b → is_valid here m ≡ true → ((tx : TxId) (q : PartId) (rs lc : Ts) (ws : List Write) → b ≡ Replicate tx q rs lc ws → ⊥)
         → Steps.body_rule here m.sender b d ≡ Some r → Case here input p d x lc cause y r
     unfolding Arrivals.prepare_rule commit_came abort_came
-    body_case m (ReadReq tx k rs) r i f v n e = same_case here input p d x lc cause y own op r (read_req_case here input p d x lc cause y own op tx k rs.0 r e)
+    body_case m (ReadReq tx k rs) r i f v n e = same_case here input p d x lc cause y own op r (read_req_quiet here tx k rs.0 d r e).own
     body_case m (ReadReply tx k a by fc) r i f v n e = reply_case tx k a by fc.0 r e
     body_case m (Prepare tx q rs l ws) r i f v n e =
         let a : Arrived = record { tx = tx; part = q; rs = rs; lc = l; writes = ws } in
-        same_case here input p d x lc cause y own op r (master_case here input p d x lc cause y own op a (prepare_turn here d.view a) r e)
+        same_case here input p d x lc cause y own op r (master_quiet here a (prepare_turn here d.view a) d r e).own
     body_case m (Refusal tx q u k) r i f v n e = refuse_case m.sender tx q u k r (m, i, refl, f, v) e
     body_case m (Replicate tx q rs l ws) r i f v n e = absurd (n tx q rs l ws refl)
     body_case m (Ack tx q ts) r i f v n e = ack_case m.sender tx q ts.0 r e
     body_case m (Commit tx q fc ms) r i f v n e =
-        let s = by_if here input p d x lc cause y own op (decides here tx q d.view) (Some (commit_came tx q fc.0 ms d)) r e in
+        let s = by_if (decides here tx q d.view) (Some (commit_came tx q fc.0 ms d)) r e in
         let is : commit_came tx q fc.0 ms d ≡ r = cc s.1 in same_case here input p d x lc cause y own op r (ap (λ (z : Doing). z.view.own) (sym is))
     body_case m (Abort tx q) r i f v n e =
-        let s = by_if here input p d x lc cause y own op (decides here tx q d.view) (Some (abort_came tx q (drop_held tx q d.view.waiters) d)) r e in
+        let s = by_if (decides here tx q d.view) (Some (abort_came tx q (drop_held tx q d.view.waiters) d)) r e in
         let is : abort_came tx q (drop_held tx q d.view.waiters) d ≡ r = cc s.1 in same_case here input p d x lc cause y own op r (ap (λ (z : Doing). z.view.own) (sym is))
 
   -- the rule of an input, from the last eviction on
   rule_case : (i : Input) (start r : Doing) (x : Own) (lc : Option ℕ) (cause : Cause) (y : Own) → input ≡ i → rule here i start ≡ Some r → Owns (last_of start (input_moments here i start)).view p x → is_decided x.phase ≡ false
       → Case here input p (last_of start (input_moments here i start)) x lc cause y r
   unfolding rule taken
-  rule_case (Client s t) start r x lc cause y e q own op = client_case here input p start x lc cause y own op s t r q
+  rule_case (Client s t) start r x lc cause y e q own op = client_case here input p start x lc cause y own op s t r e q
   rule_case (Deliver m) start r x lc cause y e q own op = by_body m.body refl own
     where
       valid_m : is_valid here m ≡ true
@@ -194,7 +181,7 @@ module _ (here : Here) (input : Input) (p : ℕ) where
   -- between two moments that follow one another
   pub link_by : (start d e : Doing) (x : Own) (lc : Option ℕ) (cause : Cause) (y : Own) → Link here input start d e → Owns d.view p x → is_decided x.phase ≡ false → Owns e.view p y → y.phase ≡ Aborted lc cause → AbortedBy here input d p x cause
   link_by start d e x lc cause y (l_evict from a i c) own op o f =
-      elim (same_or_not p i) [
+      elim (cases_eq p i) [
         | inl s ↦ (let n : p ≡ i = s in
             subst (λ k. AbortedBy here input (evict here a k start) p x cause) s
             (evict_by here input p from a (evict here a p start) x lc cause y c (subst (λ k. Owns (evict here a k start).view p x) (sym s) own) op
@@ -203,14 +190,14 @@ module _ (here : Here) (input : Input) (p : ℕ) where
       ]
   link_by start d e x lc cause y (l_rule r q) own op o f = rule_case input start r x lc cause y refl q own op o f
   link_by start d e x lc cause y (l_half i r) own op o f =
-      elim (same_or_not p i) [
+      elim (cases_eq p i) [
         | inl s ↦ (let q : half_turn here i (pass_to here i r) ≡ half_turn here p (pass_to here i r) = ap (λ k. half_turn here k (pass_to here i r)) (sym s) in
             half_by here input p (pass_to here i r) x lc cause y own op (subst (λ (z : Doing). Owns z.view p y) q o) f)
         | inr s ↦ kept_case here input p (pass_to here i r) x lc cause y own op (half_turn here i (pass_to here i r))
             (left_alone here input p (InTurn i) (pass_to here i r) (half_turn here i (pass_to here i r)) (λ z. cc z) (λ z. s z) (half_turn-path here input (InTurn i) i (pass_to here i r) refl)) o f
       ]
   link_by start d e x lc cause y (l_close i r) own op o f =
-      elim (same_or_not p i) [
+      elim (cases_eq p i) [
         | inl s ↦ (let q : turn here i (pass_to here i r) ≡ turn here p (pass_to here i r) = ap (λ k. turn here k (pass_to here i r)) (sym s) in
             turn_by here input p (pass_to here i r) (half_turn here i (pass_to here i r)) x lc cause y (ap (λ k. half_turn here k (pass_to here i r)) s) own op (subst (λ (z : Doing). Owns z.view p y) q o) f)
         | inr s ↦ kept_case here input p (half_turn here i (pass_to here i r)) x lc cause y own op (turn here i (pass_to here i r))

@@ -12,13 +12,14 @@ use Rattle.str_model.specs.Views.{Aborted, Committed, Doing, Own, Phase, View, i
 use Rattle.str_scene.specs.Scenes.{Scene}
 use Rattle.str_model.proofs.Principle.SingleChanges.{Act, Where}
 use Rattle.str_model.proofs.Principle.Everywhere.{Stage, at_place, during, everywhere}
-use Rattle.str_model.proofs.Lists.ListReads.{get_set, get_set_other, got_set}
-use Rattle.str_model.proofs.Lists.Members.{In, in_append, in_at, in_left, in_right}
 use Rattle.str_model.proofs.Changes.OwnChanges.{own_step}
 use Rattle.str_model.proofs.Changes.AnswerChanges.{TellStep, in_release, outcome_of, t_begins, t_decides, t_goes, t_rests, tell_step, told}
 use Rattle.si_laws.proofs.Reasons.CommitsAfter.{place_nth}
 use Rattle.str_model.proofs.Changes.PairWords.{decided-step}
 use Rattle.si_laws.specs.Laws.Reasons.{CausesNamed}
+use Rattle.str_base.proofs.Lists.{get_set, get_set_other, got_set}
+use Rattle.str_base.proofs.Members.{in_append, in_at, in_left, in_right}
+use Rattle.str_base.specs.Members.{In}
 
 -- the transaction of the answer stands aborted with this cause
 record NamedIn (s : Stage) (a : Answer) (cause : Cause) : Type 0 where
@@ -37,7 +38,7 @@ record NamedIn (s : Stage) (a : Answer) (cause : Cause) : Type 0 where
 AllNamed : Stage → Type 0
 AllNamed s = (a : Answer) (cause : Cause) → In a s.answers → a.outcome ≡ Aborts cause → NamedIn s a cause
 
-outcome_cause : (p : Phase) (gets : List Got) (cause : Cause) → is_decided p ≡ true → outcome_of p gets ≡ Aborts cause → (lc : Option ℕ) × (p ≡ Aborted lc cause)
+pub outcome_cause : (p : Phase) (gets : List Got) (cause : Cause) → is_decided p ≡ true → outcome_of p gets ≡ Aborts cause → (lc : Option ℕ) × (p ≡ Aborted lc cause)
 outcome_cause (Committed lc fc) gets cause d e = absurd (cc e)
 outcome_cause (Aborted lc c) gets cause d e = let same : c ≡ cause = cc e in (lc, ap (Aborted lc) same)
 outcome_cause _ gets cause d e = absurd (cc d)

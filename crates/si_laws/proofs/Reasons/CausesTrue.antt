@@ -25,15 +25,18 @@ use Rattle.str_model.proofs.Principle.Everywhere.{at_each_event, at_place}
 use Rattle.str_model.proofs.Principle.StepPaths.{step-keeps}
 use Rattle.str_model.proofs.Principle.LaterMoments.{Took, moment_of, took}
 use Rattle.str_model.proofs.Principle.NextMoments.{linked}
-use Rattle.str_model.proofs.Lists.Members.{In, at_in, in_filter, in_flat_map}
 use Rattle.si_laws.proofs.Reasons.AbortsAll.{link_by}
-use Rattle.si_laws.proofs.Reasons.AbortChanges.{AbortedBy, ab_evicted, ab_late, ab_lost, ab_met, ab_refused, ab_stop, ab_wish}
-use Rattle.si_laws.proofs.Reasons.CommitsAfter.{committed_is, nth_place, place_nth, stand_moment}
-use Rattle.str_model.proofs.ViewFacts.MarksRise.{same_key-is}
+use Rattle.si_laws.proofs.Reasons.AbortChanges.{AbortedBy, AsksNow, IsStep, ab_evicted, ab_late, ab_lost, ab_met, ab_refused, ab_stop, ab_wish, now_at_end, now_waiting}
+use Rattle.si_laws.proofs.Reasons.CommitsAfter.{committed_is, place_nth, stand_moment}
 use Rattle.str_model.proofs.OwnFacts.UnmetNeeds.{AllNeedy, needy-act}
 use Rattle.si_laws.proofs.Scripts.ReadsEvaluate.{find_is}
 use Rattle.si_laws.specs.Standing.{IsAborted, IsCommitted}
-use Rattle.si_laws.specs.TrueCause.{AbortsAt, DependedOn, TrueWish}
+use Rattle.si_laws.specs.TrueCause.{AbortsAt, AsksToCommit, DependedOn, IsStepOf, TrueWish, at_end, waiting}
+use Rattle.str_base.proofs.Members.{at_in, in_filter, in_flat_map}
+use Rattle.str_base.proofs.SameNames.{same_key-is}
+use Rattle.si_laws.proofs.Stages.ParticipantSeats.{of_nth}
+use Rattle.str_base.specs.Members.{In}
+use Rattle.std.proofs.lemmas.Bool.{or_cases}
 
 -- ---- the look at the dependencies
 
@@ -101,10 +104,6 @@ conflict_is here v snap ws u k e = by_found (find (conflicts snap.rs) (met ws v.
     kind_of LocalKind q = absurd (cc q)
     kind_of Final q = absurd (cc q)
 
-    either : (a b : Bool) → (a || b) ≡ true → (a ≡ true) ⊎ (b ≡ true)
-    either true b q = inl refl
-    either false b q = inr q
-
     by_found : (o : Option Version) → find (conflicts snap.rs) (met ws v.versions) ≡ o → Turns.cert_after here v snap ws o ≡ Conflict u k
         → (q : Version) × (In q v.versions) × (q.tx ≡ u) × (q.key ≡ k) × ((q.kind ≡ Pre) ⊎ (snap.rs < q.ts.0)) × ((w : Write) × (In w ws) × (w.key ≡ k))
     by_found None f q = absurd (by_gate _ _ _ _ q)
@@ -118,7 +117,7 @@ conflict_is here v snap ws u k e = by_found (find (conflicts snap.rs) (met ws v.
           c.0,
           tx,
           key,
-          elim (either (is_pre x.kind) (nat_lt snap.rs x.ts.0) g.1) [ inl z ↦ inl (kind_of x.kind z) | inr z ↦ inr (ltb-true snap.rs x.ts.0 z) ],
+          elim (or_cases (is_pre x.kind) (nat_lt snap.rs x.ts.0) g.1) [ inl z ↦ inl (kind_of x.kind z) | inr z ↦ inr (ltb-true snap.rs x.ts.0 z) ],
           (r.0, r.1, sym (same_key-is x.key r.0.key c.1) ∙ key),
         )
 
@@ -135,8 +134,8 @@ module _ (scene : Scene) (ok : IsScene scene) (es : List Event) where
   aborts_by j t d x cause a =
       let k = took scene es j a.before.0 t.node a.before.1 a.before.2 in
       let here = at_place scene k.takes.place in
-      let p = nth_place d.view.own t.seq x a.stood in
-      let g = nth_place a.next.view.own t.seq a.gone a.stands in
+      let p = of_nth d.view.own t.seq x a.stood in
+      let g = of_nth a.next.view.own t.seq a.gone a.stands in
       let same : Some a.after.0 ≡ Some a.before.0 = sym a.after.1 ∙ a.before.1 in
       let is : a.after.0 ≡ a.before.0 = cc same in
       let first = ap (λ ms. slice_get ms a.moment) (sym k.takes.moments) ∙ a.before.3 in
@@ -152,6 +151,16 @@ module _ (scene : Scene) (ok : IsScene scene) (es : List Event) where
     where
       one : suc a.moment ≡ a.moment + 1
       one = omega arith
+
+  -- the event is a client step of its session
+  step_is : (j : ℕ) (t : TxId) (d : Doing) (x : Own) (cause : Cause) (a : AbortsAt (trace scene es) j t d x cause) (b : Aborts j t d x cause a) → IsStep b.took_.takes.input x → IsStepOf (trace scene es) j x
+  step_is j t d x cause a b st = (a.before.0, st.0, a.before.1, b.took_.takes.given ∙ ap Some st.1)
+
+  -- it was to be certified
+  pub asks_is : (j : ℕ) (t : TxId) (d : Doing) (x : Own) (cause : Cause) (a : AbortsAt (trace scene es) j t d x cause) (b : Aborts j t d x cause a)
+      → AsksNow (at_place scene b.took_.takes.place) b.took_.takes.input x → AsksToCommit scene (trace scene es) j t x
+  asks_is j t d x cause a b (now_at_end st ph e n) = at_end (step_is j t d x cause a b st) ph e n
+  asks_is j t d x cause a b (now_waiting ph) = waiting ph
 
   -- the dependency with this fate, as it stands
   dep_stands : (j : ℕ) (t : TxId) (d : Doing) (x : Own) (cause : Cause) (a : AbortsAt (trace scene es) j t d x cause) (b : Aborts j t d x cause a) (q : ℕ) (f : Turns.Fate) → DepOf d.view.own x.snap.deps q f
@@ -174,9 +183,9 @@ module _ (scene : Scene) (ok : IsScene scene) (es : List Event) where
           let name : record { node = record { 0 = b.took_.takes.place + 1 }; seq = q } ≡ u = cc c in
           let r = dep_stands j t d x (IsLost u) a b q Turns.Gone (turn_found d.view.own x.snap (Lost q g es) e) u (sym name) in (r.0, r.1, gone_is r.0 r.2)
       by_kind b (ab_late q fc g es e c) = absurd (cc c)
-      by_kind b (ab_met snap v k rs w vs e c) = absurd (cc c)
+      by_kind b (ab_met snap v k asks rs w vs e c) = absurd (cc c)
       by_kind b (ab_evicted from v w m e c) = absurd (cc c)
-      by_kind b (ab_stop e c) = absurd (cc c)
+      by_kind b (ab_stop st ph e c) = absurd (cc c)
       by_kind b (ab_refused from v q w k m n e f g c) = absurd (cc c)
       by_kind b (ab_wish e f c) = absurd (cc c)
 
@@ -193,9 +202,9 @@ module _ (scene : Scene) (ok : IsScene scene) (es : List Event) where
           let r = dep_stands j t d x (IsLate u ts) a b q (Turns.CommittedAt fc) f.0 u (sym name) in
           (r.0, r.1, committed_is r.0 ts.0 (r.2 ∙ ap Turns.CommittedAt at), omega (arith, f.1, at))
       by_kind b (ab_lost q g es e c) = absurd (cc c)
-      by_kind b (ab_met snap v k rs w vs e c) = absurd (cc c)
+      by_kind b (ab_met snap v k asks rs w vs e c) = absurd (cc c)
       by_kind b (ab_evicted from v w m e c) = absurd (cc c)
-      by_kind b (ab_stop e c) = absurd (cc c)
+      by_kind b (ab_stop st ph e c) = absurd (cc c)
       by_kind b (ab_refused from v q w k m n e f g c) = absurd (cc c)
       by_kind b (ab_wish e f c) = absurd (cc c)
 
@@ -205,11 +214,11 @@ module _ (scene : Scene) (ok : IsScene scene) (es : List Event) where
       at_each_event scene ok AllNeedy (λ here i x own. absurd (cc own)) (λ here good input u e p h. step-keeps here input (λ d. AllNeedy here d.view) (λ w d f a s. needy-act here input w d f a s) (starts u) e p h) events n v is
 
   -- a wish stands at an abort, or at a need that is not met, and no dependency is left
-  pub wish_true : (j : ℕ) (t : TxId) (d : Doing) (x : Own) → AbortsAt (trace scene es) j t d x Wish → TrueWish scene t x
+  pub wish_true : (j : ℕ) (t : TxId) (d : Doing) (x : Own) → AbortsAt (trace scene es) j t d x Wish → TrueWish scene (trace scene es) j t x
   wish_true j t d x a = by_kind (aborts_by j t d x Wish a) (aborts_by j t d x Wish a).by
     where
-      by_kind : (b : Aborts j t d x Wish a) → AbortedBy (at_place scene b.took_.takes.place) b.took_.takes.input d b.place x Wish → TrueWish scene t x
-      by_kind b (ab_stop e c) = inl e
+      by_kind : (b : Aborts j t d x Wish a) → AbortedBy (at_place scene b.took_.takes.place) b.took_.takes.input d b.place x Wish → TrueWish scene (trace scene es) j t x
+      by_kind b (ab_stop st ph e c) = inl (step_is j t d x Wish a b st, ph, e)
       by_kind b (ab_wish e f c) =
           let k = b.took_ in
           let here = at_place scene k.takes.place in
@@ -217,6 +226,6 @@ module _ (scene : Scene) (ok : IsScene scene) (es : List Event) where
           inr (e, f, (all b.place x b.owns).unmet e)
       by_kind b (ab_lost q g es e c) = absurd (cc c)
       by_kind b (ab_late q fc g es e c) = absurd (cc c)
-      by_kind b (ab_met snap v k rs w vs e c) = absurd (cc c)
+      by_kind b (ab_met snap v k asks rs w vs e c) = absurd (cc c)
       by_kind b (ab_evicted from v w m e c) = absurd (cc c)
       by_kind b (ab_refused from v q w k m n e f g c) = absurd (cc c)

@@ -17,8 +17,6 @@ use Rattle.str_model.proofs.Changes.SnapshotsGain.{Names}
 use Rattle.str_model.proofs.Principle.LaterMoments.{Took, first_of, got_below, later, moment_of, took, trace_prefix}
 use Rattle.str_model.proofs.Principle.NextMoments.{Link, linked}
 use Rattle.str_model.proofs.Principle.MomentPaths.{link_path}
-use Rattle.str_model.proofs.Lists.ListReads.{got_replicate, same_or_not}
-use Rattle.str_model.proofs.Lists.Members.{In}
 use Rattle.str_model.proofs.Changes.OwnChanges.{own_step}
 use Rattle.str_model.proofs.Principle.TraceEvents.{Was, was_from}
 use Rattle.si_laws.proofs.Dependencies.LocalsApart.{stand_after}
@@ -30,14 +28,10 @@ use Rattle.str_model.proofs.OwnFacts.LocalOwners.{same_own}
 use Rattle.str_model.proofs.Changes.PairWords.{decided-step}
 use Rattle.si_laws.specs.GateLaw.{CommittedBefore, HasCommitted, StandsAt}
 use Rattle.si_laws.specs.Standing.{IsCommitted}
-
--- a place from a number
-pub nth_place : {X : Type 0} (xs : List X) (s : ℕ) (x : X) → nth xs s ≡ Some x → (i : ℕ) × (s ≡ i + 1) × (slice_get xs i ≡ Some x)
-nth_place xs zero x e = absurd (cc e)
-nth_place xs (suc i) x e = (i, one, e)
-  where
-    one : suc i ≡ i + 1
-    one = omega arith
+use Rattle.str_base.proofs.Lists.{got_replicate}
+use Rattle.std.proofs.lemmas.Bool.{cases_eq}
+use Rattle.str_base.specs.Members.{In}
+use Rattle.si_laws.proofs.Stages.ParticipantSeats.{of_nth}
 
 pub place_nth : {X : Type 0} (xs : List X) (s i : ℕ) (x : X) → s ≡ i + 1 → slice_get xs i ≡ Some x → nth xs s ≡ Some x
 place_nth xs s i x e g = ap (λ k. nth xs k) (e ∙ one) ∙ g
@@ -173,7 +167,7 @@ module _ (scene : Scene) (ok : IsScene scene) (es : List Event) where
     which : (w : Where) → (w ≡ InTurn i) ⊎ (w ≢ InTurn i)
     which InRule = inr (λ q. cc q)
     which InWait = inr (λ q. cc q)
-    which (InTurn q) = elim (same_or_not q i) [ inl s ↦ inl (ap InTurn s) | inr s ↦ inr (λ e. s (cc e)) ]
+    which (InTurn q) = elim (cases_eq q i) [ inl s ↦ inl (ap InTurn s) | inr s ↦ inr (λ e. s (cc e)) ]
 
     -- whether it has committed
     has_committed : (v : View) → ((x : Own) × Owns v i x × HasCommitted x) ⊎ NotCommitted i v

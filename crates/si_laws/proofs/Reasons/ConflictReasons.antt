@@ -22,20 +22,21 @@ use Rattle.str_model.specs.Runs.{World, happens, opening, run, run_from}
 use Rattle.str_model.specs.Traces.{MomentAt, trace}
 use Rattle.str_model.specs.Views.{Doing, Own, View, name_of}
 use Rattle.str_model.proofs.Principle.Everywhere.{AtNode, Sent, Stage, at_place, during, run-append, stage_of, stays_at}
-use Rattle.str_model.proofs.Changes.SnapshotsGain.{and_left, and_right}
 use Rattle.str_model.proofs.Principle.LaterMoments.{Took, at_each_moment, to_end}
-use Rattle.str_model.proofs.Lists.ListReads.{get_set, got_set}
-use Rattle.str_model.proofs.Lists.Members.{In, at_in, in_at, in_left}
 use Rattle.si_laws.proofs.Reasons.AbortChanges.{AbortedBy, ab_evicted, ab_late, ab_lost, ab_met, ab_refused, ab_stop, ab_wish}
-use Rattle.str_model.proofs.Changes.PairWords.{same_tx-is}
-use Rattle.si_laws.proofs.Reasons.CausesTrue.{Aborts, aborts_by, conflict_is}
-use Rattle.si_laws.proofs.Reasons.CommitsAfter.{nth_place, place_nth}
-use Rattle.str_model.proofs.ViewFacts.MarksRise.{same_key-is}
+use Rattle.si_laws.proofs.Reasons.CausesTrue.{Aborts, aborts_by, asks_is, conflict_is}
+use Rattle.si_laws.proofs.Reasons.CommitsAfter.{place_nth}
 use Rattle.str_model.proofs.OwnFacts.LocalOwners.{same_own}
 use Rattle.si_laws.proofs.Reasons.KeysWritten.{WroteIn, WroteKey, Written, wrote-act, written-act, written_opening}
 use Rattle.si_laws.proofs.Scripts.ReadsEvaluate.{find_is}
 use Rattle.si_laws.specs.Standing.{Begun, Wrote}
-use Rattle.si_laws.specs.TrueCause.{AbortsAt, BothWrote, Delivered, Evicted, FoundAtHome, HasVersion, TrueConflict}
+use Rattle.si_laws.specs.TrueCause.{AbortsAt, BothWrote, Delivered, Evicted, HasVersion, TrueConflict}
+use Rattle.str_base.proofs.SameNames.{same_key-is, same_tx-is}
+use Rattle.str_base.proofs.Tests.{and_true_left, and_true_right}
+use Rattle.str_base.proofs.Lists.{get_set, got_set}
+use Rattle.str_base.proofs.Members.{at_in, in_at, in_left}
+use Rattle.si_laws.proofs.Stages.ParticipantSeats.{of_nth}
+use Rattle.str_base.specs.Members.{In}
 
 -- the own transaction of this place has written the key
 abbrev pub WroteAt : ℕ → KeyId → View → Type 0
@@ -97,7 +98,7 @@ module _ (scene : Scene) (ok : IsScene scene) (es : List Event) where
     where
       by_kind : (b : Aborts scene ok es j t d x (ByConflict u k n) a) → AbortedBy (at_place scene b.took_.takes.place) b.took_.takes.input d b.place x (ByConflict u k n)
           → TrueConflict scene (run scene es) (trace scene es) j t d x u k n ⊎ RefuseHere j t u k n
-      by_kind b (ab_met snap u' k' rs v vs e c) =
+      by_kind b (ab_met snap u' k' asks rs v vs e c) =
           let g = b.took_ in
           let eu : u' ≡ u = cc c in
           let ek : k' ≡ k = cc c in
@@ -111,7 +112,7 @@ module _ (scene : Scene) (ok : IsScene scene) (es : List Event) where
           let key : r.0.key ≡ k = r.3 ∙ ek in
           inl (
             (wrote_is x k (r.5.0, r.5.1, r.5.2 ∙ ek), w'.0, subst (λ z. Begun (run scene es) z w'.0) tx w'.1, subst (Wrote w'.0) key w'.2),
-            inl (inl (sym en ∙ sym g.node, (r.0, (at.0, at.1, tx, key), elim r.4 [ inl z ↦ inl z | inr z ↦ inr (omega (arith, z, rs)) ]))),
+            inl (inl (sym en ∙ sym g.node, (asks_is scene ok es j t d x (ByConflict u k n) a b asks, (r.0, (at.0, at.1, tx, key), elim r.4 [ inl z ↦ inl z | inr z ↦ inr (omega (arith, z, rs)) ])))),
           )
       by_kind b (ab_evicted from c w m h e) =
           let g = b.took_ in
@@ -122,10 +123,10 @@ module _ (scene : Scene) (ok : IsScene scene) (es : List Event) where
           let en : record { 0 = g.takes.place + 1 } ≡ n = cc e in
           let f = find_is (λ (z : Write). list_any (λ (y : Version). same_key y.key z.key && (of_tx (name_of here b.place) y && is_local y.kind)) d.view.versions) c.writes w h in
           let q = some_of (λ (y : Version). same_key y.key w.key && (of_tx (name_of here b.place) y && is_local y.kind)) d.view.versions f.1 in
-          let qkey : q.0.key ≡ w.key = same_key-is q.0.key w.key (and_left (same_key q.0.key w.key) (of_tx (name_of here b.place) q.0 && is_local q.0.kind) q.2) in
-          let rest = and_right (same_key q.0.key w.key) (of_tx (name_of here b.place) q.0 && is_local q.0.kind) q.2 in
-          let qtx : q.0.tx ≡ name_of here b.place = same_tx-is q.0.tx (name_of here b.place) (and_left (of_tx (name_of here b.place) q.0) (is_local q.0.kind) rest) in
-          let local = kind_is q.0.kind (and_right (of_tx (name_of here b.place) q.0) (is_local q.0.kind) rest) in
+          let qkey : q.0.key ≡ w.key = same_key-is q.0.key w.key (and_true_left (same_key q.0.key w.key) (of_tx (name_of here b.place) q.0 && is_local q.0.kind) q.2) in
+          let rest = and_true_right (same_key q.0.key w.key) (of_tx (name_of here b.place) q.0 && is_local q.0.kind) q.2 in
+          let qtx : q.0.tx ≡ name_of here b.place = same_tx-is q.0.tx (name_of here b.place) (and_true_left (of_tx (name_of here b.place) q.0) (is_local q.0.kind) rest) in
+          let local = kind_is q.0.kind (and_true_right (of_tx (name_of here b.place) q.0) (is_local q.0.kind) rest) in
           let name : name_of here b.place ≡ t = named t b.place g.takes.place (ap (λ (z : NodeId). z.0) g.node) b.seq in
           let all = written_moment j a.moment t.node d a.before g in
           let there = get_set (run scene g.from.early).nodes g.takes.place g.takes.view d.view g.takes.is in
@@ -189,12 +190,12 @@ module _ (scene : Scene) (ok : IsScene scene) (es : List Event) where
               by_node : (z : Bool) → same_node t'.node (record { 0 = i + 1 }) ≡ z → (if z then nth d.view.own t'.seq else None) ≡ Some x → t' ≡ t
               by_node true s g =
                   let n : t'.node.0 ≡ t.node.0 = eqb-true t'.node.0 (i + 1) s ∙ sym node in
-                  let p = nth_place d.view.own t'.seq x g in
+                  let p = of_nth d.view.own t'.seq x g in
                   let at : b.place ≡ p.0 = e ∙ (ap (λ y. y - 1) p.1 ∙ add-sub_cancel p.0 1) in
                   let q : t'.seq ≡ t.seq = omega (arith, p.1, at, seq) in
                   λ y. record { node = record { 0 = n y }; seq = q y }
               by_node false s g = absurd (cc g)
       by_kind b (ab_lost q f es e c) = absurd (cc c)
       by_kind b (ab_late q fc f es e c) = absurd (cc c)
-      by_kind b (ab_stop e c) = absurd (cc c)
+      by_kind b (ab_stop st ph e c) = absurd (cc c)
       by_kind b (ab_wish e f c) = absurd (cc c)

@@ -14,19 +14,20 @@ use Rattle.str_model.specs.Views.{Doing, Own}
 use Rattle.str_model.proofs.Principle.Everywhere.{at_place, run-append}
 use Rattle.str_model.proofs.Changes.SnapshotsGain.{Names}
 use Rattle.str_model.proofs.Principle.LaterMoments.{Took, later, took}
-use Rattle.str_model.proofs.Lists.ListReads.{get_set}
-use Rattle.str_model.proofs.Lists.Members.{in_at}
 use Rattle.str_model.proofs.Principle.TraceEvents.{ends_slice}
 use Rattle.si_laws.proofs.Dependencies.LocalsApart.{StandAfter, stand_after}
 use Rattle.si_laws.proofs.Dependencies.DependencyFates.{Fate, fate-act, gone_at, listed, settled_at}
-use Rattle.si_laws.proofs.Reasons.CommitsAfter.{listed_committed, nth_place, place_nth, stand_moment, still_open, strict}
+use Rattle.si_laws.proofs.Reasons.CommitsAfter.{listed_committed, place_nth, stand_moment, still_open, strict}
 use Rattle.si_laws.specs.GateLaw.{CascadesInOneEvent, CommittedBefore, DependenciesFirst, StandsAt}
 use Rattle.si_laws.specs.Standing.{IsAborted}
+use Rattle.str_base.proofs.Lists.{get_set}
+use Rattle.str_base.proofs.Members.{in_at}
+use Rattle.si_laws.proofs.Stages.ParticipantSeats.{of_nth}
 
 module _ (scene : Scene) (ok : IsScene scene) (es : List Event) where
   -- each that was in the dependency set at some moment committed first
   pub dependencies_first : DependenciesFirst (trace scene es)
-  dependencies_first j m j' m' t u x z sx cx sz dz = by_place (nth_place sx.0.view.own t.seq x sx.2) (nth_place sz.0.view.own t.seq z sz.2)
+  dependencies_first j m j' m' t u x z sx cx sz dz = by_place (of_nth sx.0.view.own t.seq x sx.2) (of_nth sz.0.view.own t.seq z sz.2)
     where
       names : Names u.seq z.snap.deps
       names = (dz.1.1, in_at z.snap.deps dz.1.0 dz.1.1 dz.1.2, dz.1.3)
@@ -57,7 +58,7 @@ module _ (scene : Scene) (ok : IsScene scene) (es : List Event) where
 
   -- in the event in which a transaction aborts, all that depend on it abort
   pub cascades : CascadesInOneEvent (trace scene es)
-  cascades j m l t u x z sx op dx last sz ab = by_place (nth_place sx.0.view.own t.seq x sx.2) (nth_place sz.0.view.own u.seq z sz.2)
+  cascades j m l t u x z sx op dx last sz ab = by_place (of_nth sx.0.view.own t.seq x sx.2) (of_nth sz.0.view.own u.seq z sz.2)
     where
       at_end : MomentAt (trace scene es) j l t.node sz.0
       at_end = (sz.1.0, sz.1.1, sz.1.2 ∙ ap Some dx.0, sz.1.3)

@@ -27,12 +27,14 @@ use Rattle.str_model.specs.Views.{Active, Closing, Doing, Own, View, name_of}
 use Rattle.str_model.proofs.Principle.SingleChanges.{Act, Arrives, Change, IsHere, Where, a_prepare, a_read, act_abort, act_abort_came, act_accept, act_ack, act_ask, act_begin, act_certify, act_close, act_commit, act_commit_came, act_mark, act_put, act_refuse, act_reply, act_request, act_take, act_unwait, act_wait, ch_away, ch_blind, ch_close, ch_gate, ch_known, ch_read, ch_reply, ch_resolve, ch_take, ch_wait, it_comes, it_waits}
 use Rattle.str_model.proofs.Principle.Everywhere.{IsSeen, Sent, Stage, at_place, during, stage_of}
 use Rattle.str_model.proofs.Changes.SnapshotsGain.{if_elim}
-use Rattle.str_model.proofs.Lists.ListReads.{get_push, get_set, get_set_other, got_replicate, got_set, same_or_not}
-use Rattle.str_model.proofs.Lists.Members.{In, in_append, in_at, in_filter, in_insert_all, in_left, in_map, in_right, in_without}
 use Rattle.si_laws.proofs.Sources.LetterSources.{LetterFrom, letter-act, lf_abort, lf_ack, lf_commit, lf_copy, lf_prepare, lf_refuse, lf_replicate, lf_reply, lf_request}
-use Rattle.str_model.proofs.ViewFacts.MarksRise.{same_key-is}
 use Rattle.str_model.proofs.OwnFacts.LocalOwners.{same_own}
 use Rattle.str_model.proofs.Changes.VersionChanges.{Placed, WaitStep, by_master, by_slave, w_fewer, w_more, wait_step}
+use Rattle.str_base.proofs.Lists.{get_push, get_set, get_set_other, got_replicate, got_set}
+use Rattle.std.proofs.lemmas.Bool.{cases_eq}
+use Rattle.str_base.proofs.Members.{in_append, in_at, in_filter, in_insert_all, in_left, in_map, in_right, in_without}
+use Rattle.str_base.proofs.SameNames.{same_key-is}
+use Rattle.str_base.specs.Members.{In}
 
 -- the key is one of these writes
 abbrev pub WroteKey : List Write → KeyId → Type 0
@@ -80,7 +82,7 @@ Keeps e i x k = (y : Own) × Owns e i y × WroteKey y.writes k
 
 set_keeps : (d e : View) (n i : ℕ) (x z y : Own) (k : KeyId) → Owns d i x → Owns d n z → e.own ≡ slice_set d.own n y → WroteKey x.writes k → (WroteKey z.writes k → WroteKey y.writes k) → Keeps e i x k
 set_keeps d e n i x z y k own is q h f =
-    elim (same_or_not i n) [
+    elim (cases_eq i n) [
       | inl s ↦ (y, subst (λ m. Owns e m y) (sym s) (rw q (get_set d.own n z y is)), f (subst (λ (u : Own). WroteKey u.writes k) (same_own d i n x z own is s) h))
       | inr s ↦ (x, rw q (get_set_other d.own n i y s ∙ own), h)
     ]

@@ -19,10 +19,11 @@ use Rattle.str_model.proofs.Principle.LastMoment.{EndsAt, last_moment}
 use Rattle.str_model.proofs.Principle.LaterMoments.{Took, first_of, got_below}
 use Rattle.str_model.proofs.Principle.NextMoments.{Link, linked}
 use Rattle.str_model.proofs.Principle.MomentPaths.{link_path}
-use Rattle.str_model.proofs.Lists.Members.{In, in_append}
 use Rattle.si_laws.proofs.Reasons.RefuseSent.{Judges, link_judged}
 use Rattle.str_model.proofs.Changes.VersionChanges.{sent_step}
 use Rattle.si_laws.proofs.Reasons.WithoutRefuse.{IsRefusal}
+use Rattle.str_base.proofs.Members.{in_append}
+use Rattle.str_base.specs.Members.{In}
 
 -- what an event sends: what its last moment has sent, where a node takes it
 pub record Sends (w : World) (h : Happening) (w' : World) : Type 0 where

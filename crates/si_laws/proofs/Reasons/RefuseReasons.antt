@@ -28,15 +28,11 @@ use Rattle.str_model.specs.Views.{Doing, Own, View, lc_of, name_of}
 use Rattle.str_model.proofs.Principle.SingleChanges.{Act, IsHere, IsMasters, Where, it_comes, it_waits}
 use Rattle.str_model.proofs.Principle.Everywhere.{IsSeen, Sent, Stage, at_place, during, run-append, stage_of, stays_at}
 use Rattle.str_model.proofs.Principle.LaterMoments.{Took, at_each_moment, moment_of, took, trace_prefix}
-use Rattle.str_model.proofs.Lists.ListReads.{get_set, got_set}
-use Rattle.str_model.proofs.Lists.Members.{In, at_in, in_at, in_filter, in_flat_map, in_left, in_right}
 use Rattle.str_model.proofs.Principle.TraceEvents.{ends_slice}
-use Rattle.str_model.proofs.Changes.PairWords.{same_part-is}
 use Rattle.si_laws.proofs.Reasons.CausesTrue.{Aborts, aborts_by, late_true, lost_true, wish_true}
 use Rattle.si_laws.proofs.Reasons.ConflictReasons.{RefuseHere, conflict_true, wrote_final, wrote_is, written_moment}
 use Rattle.si_laws.proofs.Stages.LinkedStates.{AreWrites, IsCertified, Linked, certified-lasts}
 use Rattle.si_laws.proofs.Stages.AllLinksKept.{linked, linked_step}
-use Rattle.str_model.proofs.ViewFacts.MarksRise.{same_key-is}
 use Rattle.str_model.proofs.OwnFacts.LocalOwners.{same_own}
 use Rattle.si_laws.proofs.Reasons.MessagesSent.{SentBy, Sending, sending, sent_by}
 use Rattle.str_model.proofs.Changes.OwnTurns.{own_change}
@@ -44,6 +40,10 @@ use Rattle.si_laws.proofs.Reasons.WritersFirst.{gate_law}
 use Rattle.si_laws.proofs.Scripts.ReadsEvaluate.{find_is}
 use Rattle.si_laws.specs.Laws.Reasons.{ReasonsHold}
 use Rattle.si_laws.specs.TrueCause.{AbortsAt, IsReason, IsTrue, TrueConflict}
+use Rattle.str_base.proofs.SameNames.{same_key-is, same_part-is}
+use Rattle.str_base.proofs.Lists.{get_set, got_set}
+use Rattle.str_base.proofs.Members.{at_in, in_at, in_filter, in_flat_map, in_left, in_right}
+use Rattle.str_base.specs.Members.{In}
 
 -- ---- what the master has found
 

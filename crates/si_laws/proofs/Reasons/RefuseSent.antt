@@ -36,12 +36,15 @@ use Rattle.str_model.specs.Turns.{Give, ServeTurn, ServeWait, serve_turn}
 use Rattle.str_model.specs.Views.{Doing, Global, Own, Phase, Remote, Reply, letter, put}
 use Rattle.str_model.specs.Waiters
 use Rattle.str_model.proofs.Principle.SingleChanges.{Comes, IsHere, it_comes, it_waits}
-use Rattle.str_model.proofs.Changes.SnapshotsGain.{and_left, and_right, if_elim}
+use Rattle.str_model.proofs.Changes.SnapshotsGain.{if_elim}
 use Rattle.str_model.proofs.Principle.NextMoments.{Link, evict_linked_to, l_close, l_evict, l_half, l_rule, l_wait, last_of, valid}
 use Rattle.str_model.proofs.Principle.MomentPaths.{take_is}
-use Rattle.str_model.proofs.Lists.Members.{In, in_append}
 use Rattle.str_model.proofs.Principle.OwnPaths.{IsFresh, nor_left, nor_right}
 use Rattle.si_laws.proofs.Reasons.WithoutRefuse.{IsRefusal, NoRefusal, NoneOf, NoneTo, client_none, evict_one_none, half_none, none_aborted, none_mapped, none_more, none_one, none_same, turn_none}
+use Rattle.std.proofs.lemmas.Bool.{not-true}
+use Rattle.str_base.proofs.Tests.{and_true_left, and_true_right}
+use Rattle.str_base.proofs.Members.{in_append}
+use Rattle.str_base.specs.Members.{In}
 
 -- the message is the Refuse of a Prepare that is here and is judged so
 pub record Judges (here : Here) (input : Input) (d : Doing) (m : Message) : Type 0 where
@@ -56,18 +59,14 @@ pub record Judges (here : Here) (input : Input) (d : Doing) (m : Message) : Type
 abbrev pub Judged : Here → Input → Doing → Doing → Type 0
 Judged here input d e = (m : Message) → In m e.sent → IsRefusal m.body → In m d.sent ⊎ Judges here input d m
 
-not_is : (b : Bool) → not b ≡ true → b ≡ false
-not_is true e = absurd cc
-not_is false e = refl
-
 fresh : (here : Here) (d : Doing) (a : Arrived) (u : TxId) (k : KeyId) → prepare_turn here d.view a ≡ Refuse u k → IsFresh here d a (Refuse u k)
 unfolding prepare_turn
 fresh here d a u k =
     if_elim (λ t. t ≡ Refuse u k → IsFresh here d a (Refuse u k))
     (is_master here.scene here.node a.part && (not (same_node a.tx.node here.node) && not (is_known d.view a.tx a.part || is_parked d.view a.tx a.part)))
     (master_turn d.view a) Ignore
-    (λ e h. let n = and_right _ _ (and_right _ _ e) in
-    record { is = h; unknown = nor_left (is_known d.view a.tx a.part) (is_parked d.view a.tx a.part) n; unparked = nor_right (is_known d.view a.tx a.part) (is_parked d.view a.tx a.part) n; mine = record { master = and_left _ _ e; foreign = not_is (same_node a.tx.node here.node) (and_left _ _ (and_right _ _ e)) } })
+    (λ e h. let n = and_true_right _ _ (and_true_right _ _ e) in
+    record { is = h; unknown = nor_left (is_known d.view a.tx a.part) (is_parked d.view a.tx a.part) n; unparked = nor_right (is_known d.view a.tx a.part) (is_parked d.view a.tx a.part) n; mine = record { master = and_true_left _ _ e; foreign = not-true (same_node a.tx.node here.node) (and_true_left _ _ (and_true_right _ _ e)) } })
     (λ e h. absurd (cc h))
 
 module _ (here : Here) (input : Input) where

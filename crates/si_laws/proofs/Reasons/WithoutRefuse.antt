@@ -30,7 +30,8 @@ use Rattle.str_model.specs.Scripts.{known, own_op}
 use Rattle.str_model.specs.Turns.{Away, CertTurn, Certified, Conflict, DepTurn, Keep, Late, Lost, Plain, ReadTurn, Speculative, Wait, WaitGate, cert_turn, dep_turn, left_by, read_turn, reply_turn}
 use Rattle.str_model.specs.Views.{Aborted, Active, CertWait, Closing, Committed, Doing, Global, Local, Own, Phase, ReadWait, Reply, is_decided, letter, name_of, put}
 use Rattle.str_model.proofs.Changes.SnapshotsGain.{if_elim}
-use Rattle.str_model.proofs.Lists.Members.{In, in_append, in_map}
+use Rattle.str_base.proofs.Members.{in_append, in_map}
+use Rattle.str_base.specs.Members.{In}
 
 -- the body is a Refuse
 abbrev pub IsRefusal : Body → Type 0

@@ -12,14 +12,15 @@ use Rattle.str_model.specs.Turns.{CommittedAt, own_fate}
 use Rattle.str_model.specs.Views.{Doing, Own, View, is_decided, lc_of}
 use Rattle.str_model.proofs.Principle.Everywhere.{during, stage_of}
 use Rattle.str_model.proofs.Principle.LaterMoments.{Took, at_each_moment, took}
-use Rattle.str_model.proofs.Lists.ListReads.{get_set, got_set}
-use Rattle.str_model.proofs.Lists.Members.{in_at}
 use Rattle.si_laws.proofs.Reasons.DependenciesFirst.{cascades, dependencies_first}
-use Rattle.si_laws.proofs.Reasons.CommitsAfter.{committed_is, decided_later, fate_own, nth_place, order, stand_moment, stood_before, strict}
+use Rattle.si_laws.proofs.Reasons.CommitsAfter.{committed_is, decided_later, fate_own, order, stand_moment, stood_before, strict}
 use Rattle.str_model.proofs.OwnFacts.LocalOwners.{same_own}
 use Rattle.si_laws.proofs.Sources.FinalsReported.{CommittedIn, ReadOk, Reported, reported-act, reported_opening, ro_committed, ro_gone, ro_listed}
 use Rattle.si_laws.specs.GateLaw.{CommittedBefore, GateLaw, HasCommitted, WritersFirst}
 use Rattle.si_laws.specs.Standing.{ReadFrom}
+use Rattle.str_base.proofs.Lists.{get_set, got_set}
+use Rattle.str_base.proofs.Members.{in_at}
+use Rattle.si_laws.proofs.Stages.ParticipantSeats.{of_nth}
 
 module _ (scene : Scene) (ok : IsScene scene) (es : List Event) where
   pub reported_moment : (j m : ℕ) (n : NodeId) (d : Doing) (a : MomentAt (trace scene es) j m n d) (t : Took scene es j a.0 n) → Reported scene (during (stage_of (run scene t.from.early)) t.takes.place d)
@@ -52,7 +53,7 @@ module _ (scene : Scene) (ok : IsScene scene) (es : List Event) where
 
   -- each writer that was read from committed first
   pub writers_first : WritersFirst (trace scene es)
-  writers_first j m t u x sx cx rx = by_place (nth_place sx.0.view.own t.seq x sx.2)
+  writers_first j m t u x sx cx rx = by_place (of_nth sx.0.view.own t.seq x sx.2)
     where
       n : NodeId
       n = t.node

@@ -1,8 +1,6 @@
 -- What a transaction has read gives what it has got and written: each change keeps it, and the answer of a commit has what was got.
 use Rattle.si_laws.proofs.Scripts.ReadsEvaluate.{CauseGives, Ends, Evaluates, PhaseGives, Wants, asks-ends, committed_none, ends-at, finish-gives, known_value, noted-gives, reads-wants}
-use Rattle.str_model.proofs.ViewFacts.MarksRise.{same_key-is}
 use Rattle.str_model.proofs.Principle.SingleChanges.{Act, Change, Needs, NeedsNone, Where, Why, act_abort, act_abort_came, act_accept, act_ack, act_ask, act_begin, act_certify, act_close, act_commit, act_commit_came, act_mark, act_put, act_refuse, act_reply, act_request, act_take, act_unwait, act_wait, at_abort, at_need, by_certification, by_eviction, by_late, by_lost, by_refusal, by_script, ch_away, ch_blind, ch_close, ch_gate, ch_known, ch_read, ch_reply, ch_resolve, ch_take, ch_wait}
-use Rattle.str_model.proofs.Lists.ListReads.{got_push, got_set}
 use Rattle.std.proofs.Common.{List, None, Option, Some, [], ap, false, inl, inr, refl, slice_get, slice_set, subst, sym, true, ℕ, ◌∙◌, ◌≡◌, ◌≢◌}
 use Rattle.str_base.specs.declared.names.Cause.TheVariants.{Conflict, Late, Lost, Wish}
 use Rattle.str_base.specs.declared.names.Cause.{Cause}
@@ -18,6 +16,8 @@ use Rattle.str_scene.specs.Scenes.{Here, participants}
 use Rattle.str_scene.specs.declared.names.Op.TheVariants.{Abort as Give, Add, Del, Get, Need, Put, Puts}
 use Rattle.str_scene.specs.declared.names.Op.{Op}
 use Rattle.str_scene.specs.declared.names.TxPlace.{TxPlace}
+use Rattle.str_base.proofs.Lists.{got_push, got_set}
+use Rattle.str_base.proofs.SameNames.{same_key-is}
 
 module _ (here : Here) where
   -- ---- each change

@@ -1,9 +1,7 @@
 -- What a transaction has read gives what it has got and written: the script, on each look that agrees with its reads, comes to where it stands.
 use Rattle.dependency_set.specs.Snapshots.{Snap, accept_final, holds, oldest}
-use Rattle.str_model.proofs.ViewFacts.MarksRise.{same_key-is}
 use Rattle.str_model.proofs.Principle.SingleChanges.{AsksCommit, Needs, NeedsNone, Reads, asks_again, asks_new, reads_again, reads_new}
 use Rattle.str_model.proofs.Changes.SnapshotsGain.{if_elim}
-use Rattle.str_model.proofs.Lists.Members.{In, in_left, in_right}
 use Rattle.std.proofs.Common.{Bool, List, None, Option, Some, [], add-one, ap, drop, false, find, if◌then◌else◌, inl, inr, refl, slice_get, subst, suc, sym, true, zero, ℕ, ◌++◌, ◌+◌, ◌∙◌, ◌∷◌, ◌≡◌, ◌≢◌, ◌⊎◌}
 use Rattle.str_base.specs.Values.{is_below, set_write}
 use Rattle.str_base.specs.Versions.{same_key}
@@ -24,6 +22,10 @@ use Rattle.str_model.specs.declared.names.ReadDone.{ReadDone}
 use Rattle.str_scene.specs.Scenes.{Here, script_at}
 use Rattle.str_scene.specs.declared.names.Op.TheVariants.{Abort as Give, Add, Del, Get, Need, Put, Puts}
 use Rattle.str_scene.specs.declared.names.Op.{Op}
+use Rattle.str_base.proofs.Members.{in_left, in_right}
+use Rattle.str_base.proofs.SameNames.{same_key-is}
+use Rattle.str_base.proofs.Lists.{drop_none, drop_there}
+use Rattle.str_base.specs.Members.{In}
 
 -- the look gives what was read
 abbrev pub Agrees : (KeyId → Value) → List ReadDone → Type 0
@@ -77,17 +79,6 @@ pub record Evaluates (here : Here) (x : Own) : Type 0 where
 
 -- ---- lists
 
-drop_got : {A : Type 0} (xs : List A) (i : ℕ) (x : A) → slice_get xs i ≡ Some x → drop i xs ≡ x ∷ drop (suc i) xs
-drop_got [] i x e = absurd cc
-drop_got (y ∷ ys) zero x e = (let r : y ≡ x = cc e in ap (λ z. z ∷ ys) r)
-drop_got (y ∷ ys) (suc i) x e = drop_got ys i x e
-
-drop_none : {A : Type 0} (xs : List A) (i : ℕ) → slice_get xs i ≡ None → drop i xs ≡ []
-drop_none [] zero e = refl
-drop_none [] (suc i) e = refl
-drop_none (y ∷ ys) zero e = absurd cc
-drop_none (y ∷ ys) (suc i) e = drop_none ys i e
-
 pub find_is : {A : Type 0} (p : A → Bool) (xs : List A) (x : A) → find p xs ≡ Some x → (In x xs) × (p x ≡ true)
 find_is p [] x e = absurd (cc e)
 find_is p (y ∷ ys) x e = by_test (p y) refl e (find_is p ys x)
@@ -135,7 +126,7 @@ module _ (here : Here) where
       → eval_from look (drop (suc x.next) (text x)) ws gs ≡ eval_from look (op ∷ drop (suc x.next) (text x)) x.writes x.gets
       → eval_from look (drop x.next (text x)) x.writes x.gets ≡ eval (text x) look → eval_from look (drop (x.next + 1) (text x)) ws gs ≡ eval (text x) look
   next_gives x op look ws gs e step g =
-      ap (λ m. eval_from look (drop m (text x)) ws gs) (add-one x.next) ∙ (step ∙ (ap (λ os. eval_from look os x.writes x.gets) (sym (drop_got (text x) x.next op e)) ∙ g))
+      ap (λ m. eval_from look (drop m (text x)) ws gs) (add-one x.next) ∙ (step ∙ (ap (λ os. eval_from look os x.writes x.gets) (sym (drop_there (text x) x.next op e)) ∙ g))
 
   pub finish-gives : (x : Own) (op : Op) (v : Value) → own_op here x ≡ Some op → ((k : KeyId) × Needs op k) ⊎ NeedsNone op → IsValue x op v → Gave here x → Evaluates here (finish op v x)
   finish-gives x (Get k) v e n val g = record {
@@ -156,7 +147,7 @@ module _ (here : Here) where
       halts : is_below v m ≡ true → (look : KeyId → Value) → Agrees look x.reads → eval_from look (drop x.next (text x)) x.writes x.gets ≡ record { gets = x.gets; writes = x.writes; stop = Unmet }
       halts q look ag =
           let s : is_below (value_at look x.writes k) m ≡ true = ap (λ z. is_below z m) (val look ag k refl) ∙ q in
-          ap (λ os. eval_from look os x.writes x.gets) (drop_got (text x) x.next (Need k m) e)
+          ap (λ os. eval_from look os x.writes x.gets) (drop_there (text x) x.next (Need k m) e)
           ∙ ap (λ (b : Bool). if b then record { gets = x.gets; writes = x.writes; stop = Unmet } else eval_from look (drop (suc x.next) (text x)) x.writes x.gets) s
 
       passes : is_below v m ≡ false → (look : KeyId → Value) → Agrees look x.reads

@@ -19,11 +19,12 @@ use Rattle.si_laws.specs.SnapshotIsolation.{IsAnswer, IsPlaced}
 use Rattle.str_base.specs.Versions.{stamp}
 use Rattle.str_model.specs.Views.{Aborted, Committed, Own, Phase, View, is_decided}
 use Rattle.str_model.proofs.Principle.Everywhere.{at_place, stage_of}
-use Rattle.str_model.proofs.Lists.Members.{in_at}
-use Rattle.si_laws.proofs.Sessions.SessionHolds.{Good, NodeGood, get_within, good_everywhere}
+use Rattle.si_laws.proofs.Sessions.SessionHolds.{Good, NodeGood, good_everywhere}
 use Rattle.si_laws.proofs.Sessions.SessionOrder.{Made, Told, told_in}
 use Rattle.str_model.proofs.OwnFacts.PlacesInOrder.{PlacedIn}
 use Rattle.str_model.proofs.Changes.AnswerChanges.{outcome_of}
+use Rattle.str_base.proofs.Members.{in_at}
+use Rattle.str_base.proofs.Lists.{slice_get_there}
 
 -- ---- places in a filtered list
 
@@ -77,7 +78,7 @@ entry scene ok w h i a is =
     let n = h.named a (in_at w.answers i a is) in
     let p : PlacedIn scene n.0 a.place = n.1 in
     let node : Exists p.text.node.0 scene.nodes = session_node scene ok a.place.session.0 p.text p.session in
-    let v = get_within w.nodes n.0 (omega (arith, node.1, p.node, h.count)) in
+    let v = slice_get_there w.nodes n.0 (omega (arith, node.1, p.node, h.count)) in
     let g : NodeGood scene n.0 w.answers v.0 = h.nodes n.0 v.0 v.1 in
     let s : ℕ = a.place.session.0 in
     let t : Told (at_place scene n.0) s v.0.own (filter (told_in s) w.answers) = g.told_ s p.text p.session p.node in

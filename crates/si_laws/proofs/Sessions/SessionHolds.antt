@@ -11,14 +11,17 @@ use Rattle.str_model.specs.Views.{Doing, View, starts}
 use Rattle.str_model.proofs.Principle.SingleChanges.{Act, Where}
 use Rattle.str_model.proofs.Principle.StepPaths.{StepPath, step-keeps}
 use Rattle.str_model.proofs.Principle.Everywhere.{IsSeen, Stage, at_place, during, stage_of, steps_everywhere}
-use Rattle.str_model.proofs.Lists.ListReads.{got_replicate, got_set}
-use Rattle.str_model.proofs.Lists.Members.{In, in_append}
 use Rattle.str_model.proofs.Changes.OwnChanges.{own_step}
 use Rattle.str_model.proofs.OwnFacts.PlacesInOrder.{InOrder, PlacedIn, order-step}
 use Rattle.si_laws.proofs.Scripts.EvaluationKept.{AllEvaluate, decision-ends, gives-act}
 use Rattle.si_laws.proofs.Sessions.SessionOrder.{Told, ours-step, rising-step, told-step, told_in}
-use Rattle.str_model.proofs.Changes.AnswerChanges.{Rising, none_pass, not_true, r_none, tell_step}
+use Rattle.str_model.proofs.Changes.AnswerChanges.{Rising, none_pass, r_none, tell_step}
 use Rattle.str_model.proofs.OwnFacts.NodeTimes.{timed-step, timed_opening}
+use Rattle.std.proofs.lemmas.Bool.{false_from_ne_true}
+use Rattle.str_base.proofs.Lists.{got_replicate, got_set, slice_get_there}
+use Rattle.str_base.proofs.Members.{in_append}
+use Rattle.str_base.specs.Members.{In}
+use Rattle.std.proofs.lemmas.List.{length-set}
 
 -- what holds of a node
 pub record NodeGood (scene : Scene) (n : ℕ) (answers : List Answer) (v : View) : Type 0 where
@@ -58,25 +61,15 @@ mid_start : (scene : Scene) (n : ℕ) (old : List Answer) (v : View) → NodeGoo
 mid_start scene n old v h =
     record { good = subst (λ (xs : List Answer). NodeGood scene n xs v) (sym (append-nil old)) h; up = r_none; ours = λ a k. absurd k }
 
-pub length_set : {A : Type 0} (xs : List A) (i : ℕ) (y : A) → length (slice_set xs i y) ≡ length xs
-length_set [] i y = refl
-length_set (x ∷ xs) zero y = refl
-length_set (x ∷ xs) (suc i) y = ap suc (length_set xs i y)
-
 pub length_copies : {A : Type 0} (n : ℕ) (y : A) → length (replicate n y) ≡ n
 length_copies zero y = refl
 length_copies (suc n) y = ap suc (length_copies n y)
-
-pub get_within : {A : Type 0} (xs : List A) (i : ℕ) → i < length xs → (x : A) × (slice_get xs i ≡ Some x)
-get_within [] i h = absurd (omega arith)
-get_within (x ∷ xs) zero h = (x, refl)
-get_within (x ∷ xs) (suc i) h = get_within xs i (omega (arith, h))
 
 -- a session is of one node
 other_session : (scene : Scene) (i s : ℕ) (text : Session) (bs : List Answer) → nth scene.sessions s ≡ Some text → text.node.0 ≢ i + 1
     → ((a : Answer) → In a bs → PlacedIn scene i a.place) → filter (told_in s) bs ≡ []
 other_session scene i s text bs q n ours =
-    none_pass (told_in s) bs (λ a k. not_true (told_in s a) (λ t.
+    none_pass (told_in s) bs (λ a k. false_from_ne_true (told_in s a) (λ t.
     let p = ours a k in
     let e : a.place.session.0 ≡ s = eqb-true a.place.session.0 s t in
     let both : Some p.text ≡ Some text = sym p.session ∙ (ap (λ m. nth scene.sessions m) e ∙ q) in
@@ -91,7 +84,7 @@ good-keeps scene s i v input e is seen p h =
     record {
       nodes = λ n u g. by_node m n u (got_set s.nodes i n e.view u g);
       named = λ a k. elim (in_append s.answers e.released a k) [ inl j ↦ h.named a j | inr j ↦ (i, m.ours a j) ];
-      count = length_set s.nodes i e.view ∙ h.count;
+      count = length-set s.nodes i e.view ∙ h.count;
     }
   where
     by_node : Mid scene i s.answers e → (n : ℕ) (u : View) → ((n ≡ i) × (u ≡ e.view)) ⊎ ((n ≢ i) × (slice_get s.nodes n ≡ Some u)) → NodeGood scene n (s.answers ++ e.released) u

@@ -1,6 +1,6 @@
 -- Sessions: own transactions stand in order of their places, and a session's answers are those of its decided ones.
 use Rattle.std.proofs.Common.{Bool, List, Some, [], ap, append_assoc, arith, eqb-true, false, filter, inl, inr, length, refl, slice_get, slice_set, subst, sym, true, ℕ, ◌++◌, ◌+◌, ◌<◌, ◌==◌, ◌∙◌, ◌∷◌, ◌≡◌, ◌≢◌, ◌≤◌, ◌⊎◌}
-use Rattle.std.proofs.lemmas.Bool.{cases_lt, cases_order}
+use Rattle.std.proofs.lemmas.Bool.{cases_lt, cases_order, false_from_ne_true}
 use Rattle.std.proofs.lemmas.List.{length-append}
 use Rattle.std.proofs.lemmas.List.Elements.{filter-append}
 use Rattle.str_scene.specs.declared.names.TxPlace.{TxPlace}
@@ -14,10 +14,11 @@ use Rattle.str_model.specs.declared.names.Got.{Got}
 use Rattle.si_laws.proofs.Scripts.ReadsEvaluate.{Ends}
 use Rattle.str_model.proofs.Principle.SingleChanges.{NextPlace, is_first, is_next}
 use Rattle.str_model.proofs.Changes.SnapshotsGain.{if_elim}
-use Rattle.str_model.proofs.Lists.ListReads.{get_push, get_set, got_push, got_set}
-use Rattle.str_model.proofs.Lists.Members.{In, at_in, in_right}
-use Rattle.str_model.proofs.Changes.AnswerChanges.{IsLastOf, Rising, TellStep, in_release, last_index-none, last_index-some, not_true, release-last, release-other, release-rising, t_begins, t_decides, t_goes, t_rests, told}
+use Rattle.str_model.proofs.Changes.AnswerChanges.{IsLastOf, Rising, TellStep, in_release, last_index-none, last_index-some, release-last, release-other, release-rising, t_begins, t_decides, t_goes, t_rests, told}
 use Rattle.str_model.proofs.OwnFacts.PlacesInOrder.{InOrder, PlacedIn, get_set_cases}
+use Rattle.str_base.proofs.Lists.{get_push, get_set, got_push, got_set}
+use Rattle.str_base.proofs.Members.{at_in, filter_in, in_right}
+use Rattle.str_base.specs.Members.{In}
 
 -- the answer is of the session
 abbrev pub told_in : ℕ → Answer → Bool
@@ -137,7 +138,7 @@ told_more here n s i x y gets own all is opn dec p ends of_y ord h =
 
     here_index : y.place.index ≡ length all + 1
     here_index =
-        ap (λ (m : TxPlace). m.index) p ∙ (h.last i x is of_x (λ j z less g. not_true (z.place.session.0 == s) (not_later j z less g)) ∙ ap (λ b. place_after b (length all)) opn)
+        ap (λ (m : TxPlace). m.index) p ∙ (h.last i x is of_x (λ j z less g. false_from_ne_true (z.place.session.0 == s) (not_later j z less g)) ∙ ap (λ b. place_after b (length all)) opn)
 
     by_answer : (c : ℕ) (a : Answer) → ((c ≡ length all) × (a ≡ told here i y gets)) ⊎ (slice_get all c ≡ Some a) → Made here (slice_set own i y) a × (a.place.index ≡ c + 1)
     by_answer c a (inl q) =
@@ -156,11 +157,6 @@ told_more here n s i x y gets own all is opn dec p ends of_y ord h =
         | inr more_ ↦ absurd (not_later k z more_ c.1 ofs)
       ])
     ]
-
-filter_in : {A : Type 0} (p : A → Bool) (xs : List A) (x : A) → In x xs → p x ≡ true → In x (filter p xs)
-filter_in p [] x h e = absurd h
-filter_in p (y ∷ xs) x (inl q) e = rw (ap p q ∙ e) (inl q)
-filter_in p (y ∷ xs) x (inr h) e = if_elim (In x) (p y) (y ∷ filter p xs) (filter p xs) (λ t. inr (filter_in p xs x h e)) (λ t. filter_in p xs x h e)
 
 -- what a change leaves of the answers of a session
 pub told-step : (here : Here) (n s : ℕ) (old : List Answer) (d e : Doing) → TellStep here d e

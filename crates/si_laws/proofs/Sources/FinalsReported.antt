@@ -26,8 +26,6 @@ use Rattle.str_model.specs.Views.{Doing, Own, Reply, View, is_decided, name_of}
 use Rattle.str_model.proofs.Principle.SingleChanges.{Act, Arrives, IsAsked, Where, a_prepare, a_read, asked_before, asked_now}
 use Rattle.str_model.proofs.Principle.Everywhere.{IsSeen, Sent, Stage, at_place, during, stage_of}
 use Rattle.str_model.proofs.Changes.SnapshotsGain.{Names}
-use Rattle.str_model.proofs.Lists.ListReads.{get_set, get_set_other, got_replicate, got_set}
-use Rattle.str_model.proofs.Lists.Members.{In, in_append, in_at, in_left, in_right}
 use Rattle.str_model.proofs.Changes.OwnChanges.{OwnStep, own_step, rests, starts_one, turns_one}
 use Rattle.si_laws.proofs.Dependencies.AroundLocal.{named_more}
 use Rattle.si_laws.proofs.Dependencies.LeftAlone.{carried}
@@ -42,6 +40,10 @@ use Rattle.str_model.proofs.Changes.PairWords.{decided-step}
 use Rattle.str_model.proofs.OwnFacts.DependenciesStand.{open_opening}
 use Rattle.str_model.proofs.OwnFacts.NodeTimes.{becomes-rs}
 use Rattle.si_laws.specs.Standing.{IsAborted}
+use Rattle.str_base.proofs.Lists.{get_push, get_set, get_set_other, got_replicate, got_set}
+use Rattle.str_base.proofs.Members.{in_append, in_at, in_left, in_right}
+use Rattle.str_base.specs.Members.{In}
+use Rattle.std.proofs.lemmas.Bool.{cases_eq}
 
 -- the transaction has committed at fc at its own node
 pub record CommittedIn (s : Stage) (u : TxId) (fc : ℕ) : Type 0 where
@@ -87,9 +89,9 @@ pub record Reported (scene : Scene) (s : Stage) : Type 0 where
 -- an own transaction keeps its timestamp
 rs_stays : (d e : View) (i : ℕ) (x : Own) → OwnStep d e → Owns d i x → (y : Own) × Owns e i y × (y.snap.rs ≡ x.snap.rs)
 rs_stays d e i x (rests q f) own = (x, rw q own, refl)
-rs_stays d e i x (starts_one place rs le q f) own = (x, rw q (Rattle.str_model.proofs.Lists.ListReads.get_push d.own i _ x own), refl)
+rs_stays d e i x (starts_one place rs le q f) own = (x, rw q (get_push d.own i _ x own), refl)
 rs_stays d e i x (turns_one n z y is q b) own =
-    elim (Rattle.str_model.proofs.Lists.ListReads.same_or_not i n) [
+    elim (cases_eq i n) [
       | inl s ↦ (y, subst (λ k. Owns e k y) (sym s) (rw q (get_set d.own n z y is)), becomes-rs d d.floor e.floor z y b ∙ ap (λ (u : Own). u.snap.rs) (same_own d n i z x is own (sym s)))
       | inr s ↦ (x, rw q (get_set_other d.own n i y s ∙ own), refl)
     ]

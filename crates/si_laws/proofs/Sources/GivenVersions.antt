@@ -1,9 +1,8 @@
 -- What a read and a reply give is a version of the key.
 use Rattle.dependency_set.specs.Snapshots.{Snap, accept_final, holds, oldest}
-use Rattle.str_model.proofs.ViewFacts.MarksRise.{finish-looks, same_key-is}
+use Rattle.str_model.proofs.ViewFacts.MarksRise.{finish-looks}
 use Rattle.str_model.proofs.Principle.SingleChanges.{Change, Comes, ReadsTo, ch_away, ch_blind, ch_close, ch_gate, ch_known, ch_read, ch_reply, ch_resolve, ch_take, ch_wait, to_final, to_local}
-use Rattle.str_model.proofs.Changes.SnapshotsGain.{and_left, if_elim, in_last}
-use Rattle.str_model.proofs.Lists.Members.{In, in_append, in_filter}
+use Rattle.str_model.proofs.Changes.SnapshotsGain.{if_elim, in_last}
 use Rattle.si_laws.proofs.Changes.ReadTurns.{reply-is}
 use Rattle.std.proofs.Common.{Bool, List, None, Option, Some, [], ap, false, filter, if◌then◌else◌, inl, inr, nat_le, refl, slice_get, subst, subst₂, sym, true, ℕ, ◌&&◌, ◌+◌, ◌-◌, ◌∙◌, ◌∷◌, ◌≡◌}
 use Rattle.str_base.specs.declared.names.KeyId.{KeyId}
@@ -27,6 +26,10 @@ use Rattle.str_model.specs.Views.{Active, Closing, Doing, Own, Reply, View}
 use Rattle.str_scene.specs.declared.names.Op.TheVariants.{Abort as Stop, Add, Del, Get, Need, Put, Puts}
 use Rattle.str_scene.specs.declared.names.Op.{Op}
 use Rattle.str_scene.specs.Scenes.{Here, first_or, hosts_key, part_of, replicas}
+use Rattle.str_base.proofs.Tests.{and_true_left}
+use Rattle.str_base.proofs.Members.{in_append, in_filter}
+use Rattle.str_base.proofs.SameNames.{same_key-is}
+use Rattle.str_base.specs.Members.{In}
 
 -- the writer is that of a version of the key
 abbrev pub FromVersion : List Version → KeyId → Option TxId → Type 0
@@ -41,7 +44,7 @@ TurnFrom vs k (Away n) = Unit {0}
 visible_from : (vs : List Version) (k : KeyId) (r : ℕ) (q : Version) → visible vs k r ≡ Some q → In q vs × (q.key ≡ k)
 visible_from vs k r q e = elim (in_last None (filter (λ (x : Version). same_key x.key k && nat_le x.ts.0 r) vs) q e) [
   | inl z ↦ absurd (cc z)
-  | inr j ↦ (let f = in_filter (λ (x : Version). same_key x.key k && nat_le x.ts.0 r) vs q j in (f.0, same_key-is q.key k (and_left (same_key q.key k) (nat_le q.ts.0 r) f.1)))
+  | inr j ↦ (let f = in_filter (λ (x : Version). same_key x.key k && nat_le x.ts.0 r) vs q j in (f.0, same_key-is q.key k (and_true_left (same_key q.key k) (nat_le q.ts.0 r) f.1)))
 ]
 
 of_version : (vs : List Version) (k : KeyId) (q : Version) (by : Option TxId) → In q vs → q.key ≡ k → by ≡ Some q.tx → FromVersion vs k by

@@ -25,9 +25,10 @@ use Rattle.str_model.specs.Views.{Committed, Doing, Own, is_decided, lc_of, lett
 use Rattle.str_scene.specs.Scenes.{Here, first_or, in_part, leads, others, replicas}
 use Rattle.str_model.proofs.Principle.SingleChanges.{Act, Comes, IsHere, Serves, Where, act_abort, act_abort_came, act_accept, act_ack, act_ask, act_begin, act_certify, act_close, act_commit, act_commit_came, act_mark, act_put, act_refuse, act_reply, act_request, act_take, act_unwait, act_wait}
 use Rattle.str_model.proofs.Changes.SnapshotsGain.{if_elim}
-use Rattle.str_model.proofs.Lists.ListReads.{get_set}
-use Rattle.str_model.proofs.Lists.Members.{In, in_append, in_filter, in_insert_all, in_map, in_without}
 use Rattle.str_model.proofs.Changes.PairWords.{hosted_name, pair-is}
+use Rattle.str_base.proofs.Lists.{get_set}
+use Rattle.str_base.proofs.Members.{in_append, in_filter, in_insert_all, in_map, in_without}
+use Rattle.str_base.specs.Members.{In}
 
 -- where a new message comes from
 pub data LetterFrom (here : Here) (input : Input) (d e : Doing) (b : Body) : Type 0 where

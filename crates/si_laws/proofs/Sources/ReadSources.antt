@@ -22,12 +22,13 @@ use Rattle.str_model.specs.Scripts.{finish, finish_next, noted, own_op}
 use Rattle.str_model.specs.Views.{Aborted, Active, Closing, Committed, Doing, Global, Local, Own, Remote, Reply, is_decided, lc_of}
 use Rattle.str_model.proofs.Principle.SingleChanges.{Act, Change, Comes, GoesOn, ReadsTo, Where, act_abort, act_abort_came, act_accept, act_ack, act_ask, act_begin, act_certify, act_close, act_commit, act_commit_came, act_mark, act_put, act_refuse, act_reply, act_request, act_take, act_unwait, act_wait, ch_away, ch_blind, ch_close, ch_gate, ch_known, ch_read, ch_reply, ch_resolve, ch_take, ch_wait, to_final, to_local}
 use Rattle.str_model.proofs.Changes.SnapshotsGain.{Names, if_elim}
-use Rattle.str_model.proofs.Lists.ListReads.{got_push, got_set}
-use Rattle.str_model.proofs.Lists.Members.{In, in_append}
 use Rattle.si_laws.proofs.Dependencies.AroundKept.{cert_rs}
 use Rattle.str_model.proofs.ViewFacts.MarksRise.{finish-looks, finish_next-looks}
 use Rattle.si_laws.proofs.Changes.ReadTurns.{local-is, plain-is, reply-is}
 use Rattle.si_laws.proofs.Sources.GivenVersions.{finish_reply}
+use Rattle.str_base.proofs.Lists.{got_push, got_set}
+use Rattle.str_base.proofs.Members.{in_append}
+use Rattle.str_base.specs.Members.{In}
 
 -- where a read comes from
 pub data ReadBack (d : Doing) (i : ℕ) (y : Own) (r : ReadDone) : Type 0 where

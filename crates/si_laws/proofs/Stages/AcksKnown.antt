@@ -26,12 +26,14 @@ use Rattle.str_base.specs.Versions.{insert_all, of_pair, same_node, stamp}
 use Rattle.str_model.specs.Views.{Doing, View, letter, name_of}
 use Rattle.str_model.proofs.Principle.SingleChanges.{Act, Comes, IsHere, Where, act_abort, act_abort_came, act_accept, act_ack, act_ask, act_begin, act_certify, act_close, act_commit, act_commit_came, act_mark, act_put, act_refuse, act_reply, act_request, act_take, act_unwait, act_wait, it_comes, it_waits}
 use Rattle.str_model.proofs.Principle.Everywhere.{IsSeen, Stage, at_place, during, everywhere, stage_of}
-use Rattle.str_model.proofs.Changes.SnapshotsGain.{and_right, if_elim}
-use Rattle.str_model.proofs.Lists.ListReads.{get_set, get_set_other, got_replicate, got_set}
-use Rattle.str_model.proofs.Lists.Members.{In, in_all_new, in_append, in_at, in_left, in_map, in_right, map_in}
+use Rattle.str_model.proofs.Changes.SnapshotsGain.{if_elim}
 use Rattle.str_model.proofs.Changes.VersionChanges.{wait_step}
-use Rattle.str_model.proofs.Changes.PairWords.{Has, SomeWrites, has_at, same_pair, some_step, valid_some}
+use Rattle.str_model.proofs.Changes.PairWords.{Has, SomeWrites, same_pair, some_step, valid_some}
 use Rattle.si_laws.proofs.Stages.PairsForward.{rank_two, second-act}
+use Rattle.str_base.proofs.Members.{any_in, in_all_new, in_append, in_at, in_left, in_map, in_right, map_in}
+use Rattle.str_base.proofs.Tests.{and_true_right}
+use Rattle.str_base.proofs.Lists.{get_set, get_set_other, got_replicate, got_set}
+use Rattle.str_base.specs.Members.{In}
 
 -- a new Ack is of this node, and its pair's versions stand
 pub record IsNew (here : Here) (e : Doing) (m : Message) : Type 0 where
@@ -59,7 +61,7 @@ module _ (here : Here) (input : Input) (w : Where) where
 
   pub comes_some : (from : NodeId) (a : Arrived) (b : Body) → Comes here input from b → has_named here b ≡ Strange.has_named_writes here a.tx a.part a.rs a.lc a.writes → (x : Write) × In x a.writes
   comes_some from a b c q =
-      let named : has_named here c.0.body ≡ true = and_right (Strange.has_node here c.0.sender) (has_named here c.0.body) (and_right (same_node c.0.receiver here.node) (Strange.has_node here c.0.sender && has_named here c.0.body) c.4) in
+      let named : has_named here c.0.body ≡ true = and_true_right (Strange.has_node here c.0.sender) (has_named here c.0.body) (and_true_right (same_node c.0.receiver here.node) (Strange.has_node here c.0.sender && has_named here c.0.body) c.4) in
       valid_some here a.tx a.part a.rs a.lc a.writes (sym q ∙ (ap (has_named here) (sym c.3) ∙ named))
 
   here_some : (d : Doing) (a : Arrived) → SomeWrites d.view → IsHere here input d a → (x : Write) × In x a.writes
@@ -183,6 +185,6 @@ acks_known scene ok es n k v m is sent from tx p ts b other =
     let h : Acked (stage_of (run scene es)) = everywhere scene Acked (acked-keeps scene) (acked_opening scene) es in
     rank_two (is_done v tx p) (list_any (of_pair tx p) v.versions) (is_parked v tx p)
     (elim (h.acks m (in_at (run scene es).sent k m sent) n v is from tx p ts b other) [
-      | inl x ↦ inl (has_at (is_pair tx p) v.done x.0 x.1 x.2)
-      | inr x ↦ inr (has_at (of_pair tx p) v.versions x.0 x.1 x.2)
+      | inl x ↦ inl (any_in (is_pair tx p) v.done x.0 x.1 x.2)
+      | inr x ↦ inr (any_in (of_pair tx p) v.versions x.0 x.1 x.2)
     ])

@@ -11,8 +11,6 @@ use Rattle.str_model.proofs.Changes.VersionChanges.{WaitStep, by_master, version
 use Rattle.str_model.proofs.Changes.OwnTurns.{OwnChange, o_aborts, o_acks, o_asks, o_begins, o_certifies, o_closes, o_commits, o_puts, o_rests, own_change}
 use Rattle.str_model.proofs.Principle.SingleChanges.{Act, Arrives, IsMasters, Where, a_prepare, a_read}
 use Rattle.str_model.proofs.Principle.Everywhere.{IsSeen, Stage, at_place, during, everywhere, stage_of}
-use Rattle.str_model.proofs.Lists.ListReads.{got_push, got_replicate, got_set}
-use Rattle.str_model.proofs.Lists.Members.{In, in_append, in_filter, in_insert_all, in_left, in_map}
 use Rattle.std.proofs.Common.{List, Some, [], ap, arith, eqb-true, filter, inl, inr, map, not, refl, replicate, slice_get, slice_set, subst, subst₂, sym, true, ℕ, ◌&&◌, ◌+◌, ◌∙◌, ◌∷◌, ◌≡◌, ◌≢◌}
 use Rattle.str_base.specs.Versions.{of_pair, same_part, same_tx, settled, without}
 use Rattle.str_base.specs.declared.names.Kind.TheVariants.{Pre}
@@ -34,6 +32,9 @@ use Rattle.str_model.specs.declared.messages.Waiter.TheVariants.{Held}
 use Rattle.str_model.specs.declared.messages.Waiter.{Waiter}
 use Rattle.str_scene.specs.Scenes.{Scene}
 use Rattle.str_scene.specs.declared.names.Event.{Event}
+use Rattle.str_base.proofs.Lists.{got_push, got_replicate, got_set}
+use Rattle.str_base.proofs.Members.{in_append, in_filter, in_insert_all, in_left, in_map}
+use Rattle.str_base.specs.Members.{In}
 
 module _ (scene : Scene) (s : Stage) (i : ℕ) (v : View) (input : Input) (w : Where) (d e : Doing) (is : slice_get s.nodes i ≡ Some v) (seen : IsSeen s input) (act : Act (at_place scene i) input w d e)
     (h : Linked scene (during s i d)) where

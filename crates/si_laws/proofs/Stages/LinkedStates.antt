@@ -7,8 +7,6 @@ use Rattle.str_model.proofs.Changes.PairWords.{Has, decided-step}
 use Rattle.str_model.proofs.Changes.OwnTurns.{OwnChange, o_aborts, o_acks, o_asks, o_begins, o_certifies, o_closes, o_commits, o_puts, o_rests, own_change}
 use Rattle.str_model.proofs.Principle.SingleChanges.{Act, Where}
 use Rattle.str_model.proofs.Principle.Everywhere.{Stage, at_place, during}
-use Rattle.str_model.proofs.Lists.ListReads.{get_push, get_set, get_set_other, got_set, same_or_not}
-use Rattle.str_model.proofs.Lists.Members.{In}
 use Rattle.str_model.proofs.Changes.OwnChanges.{own_step}
 use Rattle.std.proofs.Common.{List, Option, Some, ap, arith, filter, inl, inr, refl, slice_get, slice_set, subst, subst₂, sym, true, ℕ, ◌+◌, ◌∙◌, ◌≡◌, ◌≢◌, ◌⊎◌}
 use Rattle.str_base.specs.Versions.{settled}
@@ -31,6 +29,9 @@ use Rattle.str_model.specs.declared.messages.Input.{Input}
 use Rattle.str_model.specs.declared.messages.Message.{Message}
 use Rattle.str_model.specs.declared.messages.Waiter.TheVariants.{Held}
 use Rattle.str_scene.specs.Scenes.{Here, Scene, in_part}
+use Rattle.str_base.proofs.Lists.{get_push, get_set, get_set_other, got_set}
+use Rattle.std.proofs.lemmas.Bool.{cases_eq}
+use Rattle.str_base.specs.Members.{In}
 
 -- the transaction is certified, undecided or not, with this snapshot, timestamp and writes; all of that stays
 pub record IsCertified (scene : Scene) (s : Stage) (tx : TxId) (rs lc : ℕ) (ws : List Write) : Type 0 where
@@ -165,7 +166,7 @@ module _ (here : Here) (input : Input) (d e : View) (i lc : ℕ) (x : Own) (own 
 
   set_lasts : (j : ℕ) (x' y : Own) → Owns d j x' → e.own ≡ slice_set d.own j y → (lc_of x'.phase ≡ Some lc → lc_of y.phase ≡ Some lc) → (lc_of x'.phase ≡ Some lc → y.writes ≡ x'.writes) → y.snap.rs ≡ x'.snap.rs
       → LastsAs e i lc x
-  set_lasts j x' y o q f g r = by_place (same_or_not i j)
+  set_lasts j x' y o q f g r = by_place (cases_eq i j)
     where
       by_place : (i ≡ j) ⊎ (i ≢ j) → LastsAs e i lc x
       by_place (inl k) =

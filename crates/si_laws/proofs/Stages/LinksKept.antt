@@ -11,9 +11,6 @@ use Rattle.str_model.proofs.Changes.PairWords.{Has, same_pair}
 use Rattle.si_laws.proofs.Stages.PairsForward.{done-act}
 use Rattle.str_model.proofs.Principle.SingleChanges.{Act, Comes, IsHere, Where, it_comes, it_waits}
 use Rattle.str_model.proofs.Principle.Everywhere.{IsSeen, Sent, Stage, at_place, during}
-use Rattle.str_model.proofs.Changes.SnapshotsGain.{and_left}
-use Rattle.str_model.proofs.Lists.ListReads.{get_set, get_set_other, got_set}
-use Rattle.str_model.proofs.Lists.Members.{In, in_all_new, in_append, in_at, in_left, in_right, map_in}
 use Rattle.std.proofs.Common.{List, Some, ap, arith, eq-eqb, eqb-true, false, filter, inl, inr, map, refl, slice_get, slice_set, subst, subst₂, sym, true, ℕ, ◌&&◌, ◌++◌, ◌+◌, ◌∙◌, ◌∷◌, ◌≡◌, ◌≢◌, ◌⊎◌}
 use Rattle.str_base.specs.Versions.{insert_all, of_pair, same_node, same_part, same_tx, settled, stamp}
 use Rattle.str_base.specs.declared.names.NodeId.{NodeId}
@@ -37,6 +34,10 @@ use Rattle.str_model.specs.declared.messages.Waiter.TheVariants.{Held}
 use Rattle.str_model.specs.declared.names.KeyMark.{KeyMark}
 use Rattle.str_scene.specs.Scenes.{Scene, in_part}
 use Rattle.str_model.specs.Strange
+use Rattle.str_base.proofs.Tests.{and_true_left}
+use Rattle.str_base.proofs.Lists.{get_set, get_set_other, got_set}
+use Rattle.str_base.proofs.Members.{in_all_new, in_append, in_at, in_left, in_right, map_in}
+use Rattle.str_base.specs.Members.{In}
 
 -- a version of the pair stands where the pair is kept
 pub kept_known : (scene : Scene) (s : Stage) (v : View) (tx : TxId) (p : PartId) (ts : Ts) (ws : List Write) → (w : Write) × In w ws → Kept scene s v tx p ts ws → Knows tx p v
@@ -104,7 +105,7 @@ module _ (scene : Scene) (s : Stage) (i : ℕ) (v : View) (input : Input) (w : W
 
   pub receiver_here : (from : NodeId) (b : Body) → (c : Comes (at_place scene i) input from b) → c.0.receiver.0 ≡ i + 1
   receiver_here from b c =
-      eqb-true c.0.receiver.0 (i + 1) (and_left (same_node c.0.receiver (at_place scene i).node) (Strange.has_node (at_place scene i) c.0.sender && Strange.has_named (at_place scene i) c.0.body) c.4)
+      eqb-true c.0.receiver.0 (i + 1) (and_true_left (same_node c.0.receiver (at_place scene i).node) (Strange.has_node (at_place scene i) c.0.sender && Strange.has_named (at_place scene i) c.0.body) c.4)
 
   pub writes_stay : (tx : TxId) (p : PartId) (rs lc : ℕ) (ws : List Write) → AreWrites scene (during s i d) tx p rs lc ws → AreWrites scene (during s i e) tx p rs lc ws
   writes_stay tx p rs lc ws r = (r.0, certified_stays scene s i v input w d e is act tx rs lc r.0 r.1, r.2)

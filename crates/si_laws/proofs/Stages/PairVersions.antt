@@ -1,10 +1,7 @@
 -- What a single change does to the versions of a pair of another node's transaction.
 use Rattle.str_model.proofs.Changes.PairChanges.{Is, one_pair}
-use Rattle.str_model.proofs.Changes.PairWords.{Has, has_at, joined_pair, keep_without, not_both, pair_same}
+use Rattle.str_model.proofs.Changes.PairWords.{Has, joined_pair, keep_without, pair_same}
 use Rattle.str_model.proofs.Principle.SingleChanges.{Act, Comes, IsHere, Where, act_abort, act_abort_came, act_accept, act_ack, act_ask, act_begin, act_certify, act_close, act_commit, act_commit_came, act_mark, act_put, act_refuse, act_reply, act_request, act_take, act_unwait, act_wait, left_waiting}
-use Rattle.str_model.proofs.Changes.SnapshotsGain.{and_left, and_right}
-use Rattle.str_model.proofs.Lists.Members.{In, in_all_new, in_all_old, in_append, in_right, map_in}
-use Rattle.str_model.proofs.Changes.VersionsMet.{filter_in}
 use Rattle.std.proofs.Common.{Bool, List, [], ap, eqb-true, false, filter, inl, inr, map, not, refl, subst₂, sym, true, ℕ, ◌&&◌, ◌++◌, ◌+◌, ◌==◌, ◌∙◌, ◌∷◌, ◌≡◌, ◌≢◌}
 use Rattle.str_base.specs.Versions.{of_pair, of_tx, same_node, same_part, same_tx, settled, without}
 use Rattle.str_base.specs.declared.names.NodeId.{NodeId}
@@ -21,6 +18,10 @@ use Rattle.str_model.specs.declared.messages.Body.TheVariants.{Abort, Commit}
 use Rattle.str_model.specs.declared.messages.Input.{Input}
 use Rattle.str_model.specs.declared.names.KeyMark.{KeyMark}
 use Rattle.str_scene.specs.Scenes.{Here, hosts}
+use Rattle.std.proofs.lemmas.Bool.{false_from_ne_true}
+use Rattle.str_base.proofs.Members.{any_in, filter_in, in_all_new, in_all_old, in_append, in_right, map_in}
+use Rattle.str_base.proofs.Tests.{and_true_left, and_true_right}
+use Rattle.str_base.specs.Members.{In}
 
 module _ (here : Here) (input : Input) (w : Where) (tx : TxId) (p : PartId) where
   abbrev pub IsDone : View → Type 0
@@ -47,22 +48,22 @@ module _ (here : Here) (input : Input) (w : Where) (tx : TxId) (p : PartId) wher
   not_done : (d : Doing) (t : TxId) (q : PartId) → Is here input w tx p t q → decides here t q d.view ≡ true → IsDone d.view → ⊥
   not_done d t q s c k =
       let o = one_pair t tx q p s in
-      let n : not (is_done d.view t q) ≡ true = and_right (not (same_node t.node here.node)) (not (is_done d.view t q)) (and_right (hosts here.scene here.node q) (not (same_node t.node here.node) && not (is_done d.view t q)) c) in
-      let y : is_done d.view tx p ≡ true = has_at (is_pair tx p) d.view.done k.0 k.1 k.2 in
+      let n : not (is_done d.view t q) ≡ true = and_true_right (not (same_node t.node here.node)) (not (is_done d.view t q)) (and_true_right (hosts here.scene here.node q) (not (same_node t.node here.node) && not (is_done d.view t q)) c) in
+      let y : is_done d.view tx p ≡ true = any_in (is_pair tx p) d.view.done k.0 k.1 k.2 in
       let z : is_done d.view t q ≡ true = subst₂ (λ a b. is_done d.view a b ≡ true) (sym o.0) (sym o.1) y in
       absurd (cc (ap not z, n))
 
   -- a version of the pair is not one of another pair
   of_other : (t : TxId) (q : PartId) (v : Version) → (same_tx t tx && same_part q p) ≡ false → of_pair tx p v ≡ true → of_pair t q v ≡ false
-  of_other t q v f e = not_both (of_pair t q v) (λ g. absurd (cc (joined_pair v.tx tx t v.part p q e g, f)))
+  of_other t q v f e = false_from_ne_true (of_pair t q v) (λ g. absurd (cc (joined_pair v.tx tx t v.part p q e g, f)))
 
   of_same : (t : TxId) (q : PartId) (v : Version) → (same_tx t tx && same_part q p) ≡ true → of_pair tx p v ≡ true → of_pair t q v ≡ true
   of_same t q v s e = let o = one_pair t tx q p s in subst₂ (λ a b. of_pair a b v ≡ true) (sym o.0) (sym o.1) e
 
   module _ (other : tx.node.0 ≢ here.node.0) where
     foreign_ : (i : ℕ) (v : Version) → of_pair tx p v ≡ true → of_tx (name_of here i) v ≡ false
-    foreign_ i v e = not_both (of_tx (name_of here i) v) (λ q.
-        other (sym (pair_same v.tx tx v.part p e).node ∙ eqb-true v.tx.node.0 here.node.0 (and_left (same_node v.tx.node here.node) (v.tx.seq == i + 1) q)))
+    foreign_ i v e = false_from_ne_true (of_tx (name_of here i) v) (λ q.
+        other (sym (pair_same v.tx tx v.part p e).node ∙ eqb-true v.tx.node.0 here.node.0 (and_true_left (same_node v.tx.node here.node) (v.tx.seq == i + 1) q)))
 
     pub pair_step : (d e : Doing) → Act here input w d e → PairStep d e
     unfolding begun marked aborted committed closed certified asked acked requested accepted taken refused waits replied commit_came abort_came

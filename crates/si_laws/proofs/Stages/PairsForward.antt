@@ -20,11 +20,13 @@ use Rattle.str_base.specs.Versions.{of_pair, of_tx, same_node, same_part, same_t
 use Rattle.str_model.specs.Views.{Doing, View, name_of}
 use Rattle.str_model.proofs.Principle.SingleChanges.{Act, IsHere, Served, Where, act_abort, act_abort_came, act_accept, act_ack, act_ask, act_begin, act_certify, act_close, act_commit, act_commit_came, act_mark, act_put, act_refuse, act_reply, act_request, act_take, act_unwait, act_wait, it_comes, it_waits, left_waiting, s_read}
 use Rattle.str_model.proofs.Principle.Everywhere.{IsSeen, Stage, at_each_node, at_place, during, ever_after, run-append, stage_of}
-use Rattle.str_model.proofs.Changes.SnapshotsGain.{and_left}
-use Rattle.str_model.proofs.Lists.ListReads.{get_set, get_set_other, got_set}
-use Rattle.str_model.proofs.Lists.Members.{In, in_all_new, in_all_old, in_append, in_left, in_right, map_in}
 use Rattle.str_model.proofs.Changes.VersionChanges.{wait_step}
-use Rattle.str_model.proofs.Changes.PairWords.{Has, SomeWrites, any_has, has_at, joined_pair, keep_held, keep_without, not_both, pair_same, some_step}
+use Rattle.str_model.proofs.Changes.PairWords.{Has, SomeWrites, any_has, joined_pair, keep_held, keep_without, pair_same, some_step}
+use Rattle.std.proofs.lemmas.Bool.{false_from_ne_true}
+use Rattle.str_base.proofs.Members.{any_in, in_all_new, in_all_old, in_append, in_left, in_right, map_in}
+use Rattle.str_base.proofs.Tests.{and_true_left}
+use Rattle.str_base.proofs.Lists.{get_set, get_set_other, got_set}
+use Rattle.str_base.specs.Members.{In}
 
 -- ---- names
 
@@ -70,9 +72,9 @@ module _ (here : Here) (input : Input) (w : Where) (tx : TxId) (p : PartId) (oth
   done-act d e (act_abort_came from t q d' c h) k = pushed d.view ((t, q) ∷ []) k
 
   foreign : (i : ℕ) (x : Version) → of_pair tx p x ≡ true → of_tx (name_of here i) x ≡ false
-  foreign i x e = not_both (of_tx (name_of here i) x) (λ q.
+  foreign i x e = false_from_ne_true (of_tx (name_of here i) x) (λ q.
       let a = pair_same x.tx tx x.part p e in
-      let b : x.tx.node.0 ≡ here.node.0 = eqb-true x.tx.node.0 here.node.0 (and_left (same_node x.tx.node here.node) (x.tx.seq == i + 1) q) in
+      let b : x.tx.node.0 ≡ here.node.0 = eqb-true x.tx.node.0 here.node.0 (and_true_left (same_node x.tx.node here.node) (x.tx.seq == i + 1) q) in
       other (sym a.node ∙ b))
 
   stands-act : (d e : Doing) → Act here input w d e → Stands d.view → Done e.view ⊎ Stands e.view
@@ -245,13 +247,13 @@ stages_forward scene ok early late n v u is js tx p other =
     )) early late v u is js h
 
     done_of : (z : View) → Has (is_pair tx p) z.done → is_done z tx p ≡ true
-    done_of z h = has_at (is_pair tx p) z.done h.0 h.1 h.2
+    done_of z h = any_in (is_pair tx p) z.done h.0 h.1 h.2
 
     stands_of : (z : View) → Has (of_pair tx p) z.versions → list_any (of_pair tx p) z.versions ≡ true
-    stands_of z h = has_at (of_pair tx p) z.versions h.0 h.1 h.2
+    stands_of z h = any_in (of_pair tx p) z.versions h.0 h.1 h.2
 
     waits_of : (z : View) → Has (holds_pair tx p) z.waiters → is_parked z tx p ≡ true
-    waits_of z h = has_at (holds_pair tx p) z.waiters h.0 h.1 h.2
+    waits_of z h = any_in (holds_pair tx p) z.waiters h.0 h.1 h.2
 
     by_tests : (a b c : Bool) → is_done v tx p ≡ a → list_any (of_pair tx p) v.versions ≡ b → is_parked v tx p ≡ c → rank (stage_by a b c) ≤ rank (pair_stage u tx p)
     by_tests true b c x y z = rank_three (is_done u tx p) (list_any (of_pair tx p) u.versions) (is_parked u tx p) (done_of u (three (any_has (is_pair tx p) v.done x)))

@@ -1,10 +1,7 @@
 -- Who takes part in a transaction: the replicas, but its origin, of each partition that it wrote in.
 use Rattle.partition_map.specs.declared.rows.Asked.{Asked}
 use Rattle.str_model.proofs.OwnFacts.AtHome.{OwnGood, seats}
-use Rattle.str_model.proofs.Changes.PairWords.{any_has, has_at, not_both}
-use Rattle.str_model.proofs.Lists.ListReads.{same_or_not}
-use Rattle.str_model.proofs.Lists.Members.{In, in_filter, in_flat_map, in_left, in_map, in_right, map_in}
-use Rattle.str_model.proofs.Changes.VersionsMet.{filter_in}
+use Rattle.str_model.proofs.Changes.PairWords.{any_has}
 use Rattle.std.proofs.Common.{List, None, Option, Some, [], add-one, ap, arith, eq-eqb, eqb-true, flat_map, inl, inr, length, map, not, refl, slice_get, subst, subst₂, suc, sym, true, zero, ℕ, ◌+◌, ◌<◌, ◌∙◌, ◌∷◌, ◌≡◌, ◌≢◌, ◌≤◌, ◌⊎◌}
 use Rattle.std.proofs.lemmas.Option.{slice_get_within}
 use Rattle.std.specs.List.{list_any, range_with_len}
@@ -15,6 +12,9 @@ use Rattle.str_base.specs.declared.names.Version.{Version}
 use Rattle.str_base.specs.declared.names.Write.{Write}
 use Rattle.str_model.specs.Views.{Own, lc_of}
 use Rattle.str_scene.specs.Scenes.{Here, Scene, all_parts, hosts, in_part, nth, or_none, others, part_of, participants, replicas, unasked, written_parts}
+use Rattle.std.proofs.lemmas.Bool.{cases_eq, false_from_ne_true}
+use Rattle.str_base.proofs.Members.{any_in, filter_in, in_filter, in_flat_map, in_left, in_map, in_right, map_in}
+use Rattle.str_base.specs.Members.{In}
 
 pub of_nth : {A : Type 0} (xs : List A) (n : ℕ) (x : A) → nth xs n ≡ Some x → (i : ℕ) × (n ≡ i + 1) × (slice_get xs i ≡ Some x)
 of_nth xs zero x e = absurd (cc e)
@@ -33,7 +33,7 @@ above b c l f = grind (arith, l, f)
 
 pub range_in : (a n k : ℕ) → a ≤ k → k < a + n → In k (range_with_len a n)
 range_in a zero k le less = absurd (omega (arith, le, less))
-range_in a (suc n) k le less = by_first (same_or_not a k) (λ l. range_in (a + 1) n k l (omega (arith, less)))
+range_in a (suc n) k le less = by_first (cases_eq a k) (λ l. range_in (a + 1) n k l (omega (arith, less)))
   where
     by_first : (a ≡ k) ⊎ (a ≢ k) → (a + 1 ≤ k → In k (range_with_len (a + 1) n)) → (a ≡ k) ⊎ In k (range_with_len (a + 1) n)
     by_first (inl e) rec = inl e
@@ -59,11 +59,11 @@ takes_part scene origin r ws w h k other =
     let p : PartId = part_of scene w.key in
     let e = part_exists scene r p k in
     let all : In p (all_parts scene) = map_in (λ (n : ℕ). record { 0 = n }) (range_with_len 1 (length scene.parts)) p.0 (range_in 1 (length scene.parts) p.0 e.0 e.1) in
-    let own : list_any (in_part scene p) ws ≡ true = has_at (in_part scene p) ws w h (eq-eqb p.0 p.0 refl) in
+    let own : list_any (in_part scene p) ws ≡ true = any_in (in_part scene p) ws w h (eq-eqb p.0 p.0 refl) in
     let written : In p (written_parts scene ws) = filter_in (λ (q : PartId). list_any (in_part scene q) ws) (all_parts scene) p all own in
     let host = any_has (λ (n : NodeId). same_node n r) (replicas scene p) k in
     let is : host.0 ≡ r = λ j. record { 0 = eqb-true host.0.0 r.0 host.2 j } in
-    let not_origin : not (same_node host.0 origin) ≡ true = ap not (not_both (same_node host.0 origin) (λ q. other (ap (λ (z : NodeId). z.0) (sym is) ∙ eqb-true host.0.0 origin.0 q))) in
+    let not_origin : not (same_node host.0 origin) ≡ true = ap not (false_from_ne_true (same_node host.0 origin) (λ q. other (ap (λ (z : NodeId). z.0) (sym is) ∙ eqb-true host.0.0 origin.0 q))) in
     let there : In host.0 (others origin (replicas scene p)) = filter_in (λ (n : NodeId). not (same_node n origin)) (replicas scene p) host.0 host.1 not_origin in (
       unasked p host.0,
       flat_map_in (λ (q : PartId). map (unasked q) (others origin (replicas scene q))) (written_parts scene ws) p (unasked p host.0) written (map_in (unasked p) (others origin (replicas scene p)) host.0 there),
@@ -83,7 +83,7 @@ seat_known scene origin ws a h =
     let m = in_map (unasked r.0) (others origin (replicas scene r.0)) a r.2 in
     let f = in_filter (λ (n : NodeId). not (same_node n origin)) (replicas scene r.0) m.0 m.1 in
     subst (λ (z : Asked). SeatKnown scene origin z.part z.node) m.2 (record {
-      hosted = has_at (λ (n : NodeId). same_node n m.0) (replicas scene r.0) m.0 f.0 (eq-eqb m.0.0 m.0.0 refl);
+      hosted = any_in (λ (n : NodeId). same_node n m.0) (replicas scene r.0) m.0 f.0 (eq-eqb m.0.0 m.0.0 refl);
       other = λ e. cc (ap not (eq-eqb m.0.0 origin.0 e), f.1);
       replica = f.0;
     })

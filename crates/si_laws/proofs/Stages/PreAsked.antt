@@ -21,9 +21,10 @@ use Rattle.str_base.specs.Versions.{of_pair, of_tx, settled, without}
 use Rattle.str_model.specs.Views.{Doing, View, name_of}
 use Rattle.str_model.proofs.Principle.SingleChanges.{Act, Arrives, IsHere, Where, a_prepare, a_read, it_comes, it_waits}
 use Rattle.str_model.proofs.Principle.Everywhere.{IsSeen, Sent, Stage, at_place, during, everywhere, stage_of}
-use Rattle.str_model.proofs.Lists.ListReads.{get_set, get_set_other, got_replicate, got_set}
-use Rattle.str_model.proofs.Lists.Members.{In, at_in, in_append, in_at, in_insert_all, in_left, in_map, in_right, in_without}
 use Rattle.str_model.proofs.Changes.VersionChanges.{Letter, Placed, SentStep, VersionStep, WaitStep, by_master, by_slave, l_ask, l_copy, l_other, sent_step, v_decided, v_finals, v_locals, v_pres, v_rests, v_without, version_step, w_fewer, w_more, wait_step}
+use Rattle.str_base.proofs.Lists.{get_set, get_set_other, got_replicate, got_set}
+use Rattle.str_base.proofs.Members.{at_in, in_append, in_at, in_insert_all, in_left, in_map, in_right, in_without}
+use Rattle.str_base.specs.Members.{In}
 
 -- what is kept
 record Kept (s : Stage) : Type 0 where

@@ -9,8 +9,6 @@ use Rattle.si_laws.proofs.Times.ProposalsCounted.{acks_in, one_for}
 use Rattle.str_model.proofs.Principle.SingleChanges.{Act, Where, act_abort, act_abort_came, act_accept, act_ack, act_ask, act_begin, act_certify, act_close, act_commit, act_commit_came, act_mark, act_put, act_refuse, act_reply, act_request, act_take, act_unwait, act_wait, it_comes, it_waits}
 use Rattle.str_model.proofs.Principle.Everywhere.{IsSeen, Stage, at_place, during, everywhere, stage_of}
 use Rattle.str_model.proofs.Changes.SnapshotsGain.{if_elim}
-use Rattle.str_model.proofs.Lists.ListReads.{get_set}
-use Rattle.str_model.proofs.Lists.Members.{In, in_append, in_right}
 use Rattle.si_laws.specs.Numbers.{is_ack}
 use Rattle.std.proofs.Common.{List, Some, [], ap, append-nil, append_assoc, arith, filter, inl, inr, length, length-append, map, refl, slice_get, slice_set, subst, sym, true, ℕ, ◌++◌, ◌∙◌, ◌∷◌, ◌≡◌}
 use Rattle.std.proofs.lemmas.List.Sums.{sum_by-cons}
@@ -34,6 +32,9 @@ use Rattle.str_model.specs.Runs.{run}
 use Rattle.str_model.specs.Views.{Doing, Own, View, letter, name_of}
 use Rattle.str_scene.specs.declared.names.Event.{Event}
 use Rattle.str_scene.specs.Scenes.{Here, Scene, first_or, hosts, in_part, is_master, leads, others, replicas}
+use Rattle.str_base.proofs.Lists.{get_set}
+use Rattle.str_base.proofs.Members.{in_append, in_right}
+use Rattle.str_base.specs.Members.{In}
 
 -- a transaction, a partition and a node
 pub record AckKey : Type 0 where

@@ -1,9 +1,8 @@
 -- At most 1024 transactions begin: their places differ, and are places of the scene.
-use Rattle.si_laws.proofs.Times.NoRepeats.{Once, fits, map_length, once_append, range_length}
+use Rattle.si_laws.proofs.Times.NoRepeats.{Once, fits, map_length, once_append}
 use Rattle.si_laws.proofs.Stages.ParticipantSeats.{of_nth, range_in}
 use Rattle.si_laws.proofs.Sessions.SessionHolds.{good_everywhere}
 use Rattle.str_model.proofs.OwnFacts.PlacesInOrder.{InOrder, PlacedIn}
-use Rattle.str_model.proofs.Lists.Members.{In, at_in, in_append, in_left, in_map, in_right, map_in}
 use Rattle.std.proofs.Common.{List, Some, [], ap, arith, inl, inr, length, length-append, map, refl, slice_get, subst, suc, sym, zero, ℕ, ◌++◌, ◌+◌, ◌∙◌, ◌∷◌, ◌≡◌, ◌≤◌}
 use Rattle.std.proofs.lemmas.List.Sums.{sum_by-cons}
 use Rattle.std.specs.List.{range_with_len, sum_by}
@@ -13,6 +12,9 @@ use Rattle.str_scene.specs.declared.names.Event.{Event}
 use Rattle.str_scene.specs.declared.names.TxPlace.{TxPlace}
 use Rattle.str_scene.specs.SceneLimits.{IsScene}
 use Rattle.str_scene.specs.Scenes.{Scene, Session, nth}
+use Rattle.std.proofs.lemmas.List.FromFn.{length-range_with_len}
+use Rattle.str_base.proofs.Members.{at_in, in_append, in_left, in_map, in_right, map_in}
+use Rattle.str_base.specs.Members.{In}
 
 -- how many transactions began
 abbrev pub own_total : List View → ℕ
@@ -51,7 +53,7 @@ scene_length n (s ∷ ss) =
     let rec = scene_length (suc n) ss in
     let a = length-append (session_places n (length s.txs)) (scene_places (suc n) ss) in
     let m : length (session_places n (length s.txs)) ≡ length (range_with_len 1 (length s.txs)) = map_length (λ j. (n, j)) (range_with_len 1 (length s.txs)) in
-    let r = range_length 1 (length s.txs) in
+    let r = length-range_with_len 1 (length s.txs) in
     let c = sum_by-cons (λ (s : Session). length s.txs) s ss in omega (arith, rec, a, m, r, c)
 
 in_scene : (n i : ℕ) (ss : List Session) (s : Session) (j : ℕ) → slice_get ss i ≡ Some s → 1 ≤ j → j ≤ length s.txs → In (n + i, j) (scene_places n ss)

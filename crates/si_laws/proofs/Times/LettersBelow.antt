@@ -5,7 +5,6 @@ use Rattle.str_model.proofs.ViewFacts.PartsBelow.{gate_below}
 use Rattle.str_model.proofs.ViewFacts.TimesBelow.{BodyBelow, ServeBelow, ViewBelow, body_higher, mark_below, own_at, serve_below}
 use Rattle.str_model.proofs.Principle.SingleChanges.{Act, Where, act_abort, act_abort_came, act_accept, act_ack, act_ask, act_begin, act_certify, act_close, act_commit, act_commit_came, act_mark, act_put, act_refuse, act_reply, act_request, act_take, act_unwait, act_wait}
 use Rattle.str_model.proofs.Changes.SnapshotsGain.{if_elim}
-use Rattle.str_model.proofs.Lists.Members.{In, in_append, in_map}
 use Rattle.std.proofs.Common.{true, List, [], ap, arith, filter, inl, inr, map, subst, ℕ, ◌++◌, ◌+◌, ◌<◌, ◌∷◌, ◌≡◌, ◌≤◌}
 use Rattle.str_base.specs.declared.names.NodeId.{NodeId}
 use Rattle.str_base.specs.declared.names.PartId.{PartId}
@@ -23,6 +22,8 @@ use Rattle.str_model.specs.declared.names.KeyMark.{KeyMark}
 use Rattle.str_model.specs.Proposals.{proposed}
 use Rattle.str_model.specs.Views.{Doing, Own, View, letter, name_of}
 use Rattle.str_scene.specs.Scenes.{Here, first_or, in_part, leads, others, replicas}
+use Rattle.str_base.proofs.Members.{in_append, in_map}
+use Rattle.str_base.specs.Members.{In}
 
 abbrev pub AllBelow : ℕ → List Message → Type 0
 AllBelow b ms = (m : Message) → In m ms → BodyBelow b m.body

@@ -3,7 +3,9 @@ use Rattle.std.proofs.Common.{Bool, List, Some, [], ap, arith, filter, inl, inr,
 use Rattle.std.specs.List.{range_with_len}
 use Rattle.si_laws.proofs.Stages.ParticipantSeats.{in_range}
 use Rattle.str_model.proofs.Changes.SnapshotsGain.{if_elim}
-use Rattle.str_model.proofs.Lists.Members.{In, at_in, in_append, in_filter, in_map}
+use Rattle.std.proofs.lemmas.List.FromFn.{length-range_with_len}
+use Rattle.str_base.proofs.Members.{at_in, in_append, in_filter, in_map}
+use Rattle.str_base.specs.Members.{In}
 
 -- nothing stands twice
 abbrev pub Once : {A : Type 0} → List A → Type 0
@@ -59,7 +61,3 @@ once_places (x ∷ xs) f = (
 pub once_range : (a n : ℕ) → Once (range_with_len a n)
 once_range a zero = tt
 once_range a (suc n) = (λ h. (let r = in_range (a + 1) n a h in absurd (omega (arith, r.0))), once_range (a + 1) n)
-
-pub range_length : (a n : ℕ) → length (range_with_len a n) ≡ n
-range_length a zero = refl
-range_length a (suc n) = ap suc (range_length (a + 1) n)

@@ -1,12 +1,10 @@
 -- A transaction has at most 112 participants: at most 16 written partitions, each with at most 7 replicas beside the origin.
 use Rattle.partition_map.specs.declared.rows.Asked.{Asked}
-use Rattle.si_laws.proofs.Times.NoRepeats.{Once, fits, map_length, once_filter, once_map, once_places, once_range, range_length}
+use Rattle.si_laws.proofs.Times.NoRepeats.{Once, fits, map_length, once_filter, once_map, once_places, once_range}
 use Rattle.str_model.proofs.OwnFacts.AtHome.{OwnGood, seats}
 use Rattle.str_model.proofs.OwnFacts.ScriptsCovered.{ScriptGood, WritesKey}
 use Rattle.si_laws.proofs.Stages.ParticipantSeats.{flat_map_in, range_in}
-use Rattle.str_model.proofs.Changes.PairWords.{any_has, has_at}
-use Rattle.str_model.proofs.Changes.SnapshotsGain.{and_left, and_right}
-use Rattle.str_model.proofs.Lists.Members.{In, at_in, in_at, in_filter, in_map, map_in}
+use Rattle.str_model.proofs.Changes.PairWords.{any_has}
 use Rattle.str_model.specs.Owned.{wrote_key}
 use Rattle.std.proofs.Common.{List, None, Option, Some, [], ap, arith, eq-eqb, eqb-true, flat_map, inl, inr, length, length-append, map, not, refl, slice_get, subst, suc, sym, true, zero, ℕ, ◌*◌, ◌∷◌, ◌≡◌, ◌≤◌}
 use Rattle.std.specs.List.{list_any, range_with_len}
@@ -23,6 +21,12 @@ use Rattle.str_scene.specs.declared.names.Op.TheVariants.{Abort as Stop, Add, De
 use Rattle.str_scene.specs.declared.names.TxPlace.{TxPlace}
 use Rattle.str_scene.specs.SceneLimits.{Exists, IsRow, IsScene, key_of}
 use Rattle.str_scene.specs.Scenes.{Here, Scene, Session, all_parts, in_part, nth, ops_at, or_none, others, part_of, participants, replicas, script_at, unasked, written_parts}
+use Rattle.std.proofs.lemmas.List.FromFn.{length-range_with_len}
+use Rattle.str_base.proofs.Members.{any_in, at_in, in_at, in_filter, in_map, map_in}
+use Rattle.str_base.proofs.Tests.{and_true_left, and_true_right}
+use Rattle.str_base.proofs.SameNames.{node_by_number, part_by_number}
+use Rattle.str_base.specs.Members.{In}
+use Rattle.str_model.proofs.Room.SmallNumbers.{script_few}
 
 -- ---- writes
 
@@ -55,9 +59,9 @@ keys_once : (ks : List KeyId) → Strange.distinct_keys ks ≡ true → Once (ma
 keys_once [] e = tt
 keys_once (k ∷ ks) e = (
   λ h. (let r = in_map (λ (z : KeyId). z.0) ks k.0 h in
-      let t : list_any (same_key k) ks ≡ true = has_at (same_key k) ks r.0 r.1 (eq-eqb k.0 r.0.0 (sym r.2)) in
-      let f : not (list_any (same_key k) ks) ≡ true = and_left (not (list_any (same_key k) ks)) (Strange.distinct_keys ks) e in absurd (cc (ap not t, f))),
-  keys_once ks (and_right (not (list_any (same_key k) ks)) (Strange.distinct_keys ks) e),
+      let t : list_any (same_key k) ks ≡ true = any_in (same_key k) ks r.0 r.1 (eq-eqb k.0 r.0.0 (sym r.2)) in
+      let f : not (list_any (same_key k) ks) ≡ true = and_true_left (not (list_any (same_key k) ks)) (Strange.distinct_keys ks) e in absurd (cc (ap not t, f))),
+  keys_once ks (and_true_right (not (list_any (same_key k) ks)) (Strange.distinct_keys ks) e),
 )
 
 -- the buffer is no longer than the script
@@ -75,30 +79,11 @@ writes_few here x g =
     in_ops n h =
         let r = in_map (λ (k : KeyId). k.0) (map (λ (w : Write). w.key) x.writes) n h in
         let s = in_map (λ (w : Write). w.key) x.writes r.0 r.1 in
-        let t : wrote_key r.0 x.writes ≡ true = has_at (λ (w : Write). same_key w.key r.0) x.writes s.0 s.1 (eq-eqb s.0.key.0 r.0.0 (ap (λ (z : KeyId). z.0) s.2)) in
+        let t : wrote_key r.0 x.writes ≡ true = any_in (λ (w : Write). same_key w.key r.0) x.writes s.0 s.1 (eq-eqb s.0.key.0 r.0.0 (ap (λ (z : KeyId). z.0) s.2)) in
         let o = g.inside r.0 t in
         subst (λ (m : ℕ). In m (flat_map key_of (script_at here.scene x.place))) r.2 (flat_map_in key_of (script_at here.scene x.place) o.1 r.0.0 (in_at (script_at here.scene x.place) o.0 o.1 o.2) (writes_of o.1 r.0 o.3))
 
-script_few : (scene : Scene) → IsScene scene → (place : TxPlace) → length (script_at scene place) ≤ 16
-script_few scene ok place = by_session place.session.0 (nth scene.sessions place.session.0) refl
-  where
-    by_ops : (s : Session) (k : ℕ) → slice_get scene.sessions k ≡ Some s → (m : ℕ) (o : Option (List Op)) → nth s.txs m ≡ o → length (or_none o) ≤ 16
-    by_ops s k g m None q = omega arith
-    by_ops s k g zero (Some ops) q = absurd (cc q)
-    by_ops s k g (suc m) (Some ops) q = ((ok.sessions k s g).scripts m ops q).few
-
-    by_session : (n : ℕ) (o : Option Session) → nth scene.sessions n ≡ o → length (ops_at o place.index) ≤ 16
-    by_session n None q = omega arith
-    by_session zero (Some s) q = absurd (cc q)
-    by_session (suc n) (Some s) q = by_ops s n q place.index (nth s.txs place.index) refl
-
 -- ---- partitions and replicas
-
-part_same : (p q : PartId) → p.0 ≡ q.0 → p ≡ q
-part_same p q e = λ j. record { 0 = e j }
-
-node_same : (p q : NodeId) → p.0 ≡ q.0 → p ≡ q
-node_same p q e = λ j. record { 0 = e j }
 
 parts_few : (scene : Scene) (ws : List Write) → length (written_parts scene ws) ≤ length ws
 parts_few scene ws =
@@ -106,7 +91,7 @@ parts_few scene ws =
     let fit = fits (written_parts scene ws) (map (λ (w : Write). part_of scene w.key) ws) (once_filter (λ (p : PartId). list_any (in_part scene p) ws) (all_parts scene) once) (λ p h. (
     let f = in_filter (λ (p : PartId). list_any (in_part scene p) ws) (all_parts scene) p h in
     let r = any_has (in_part scene p) ws f.1 in
-    subst (λ (q : PartId). In q (map (λ (w : Write). part_of scene w.key) ws)) (part_same (part_of scene r.0.key) p (eqb-true (part_of scene r.0.key).0 p.0 r.2)) (map_in (λ (w : Write). part_of scene w.key) ws r.0 r.1))) in
+    subst (λ (q : PartId). In q (map (λ (w : Write). part_of scene w.key) ws)) (part_by_number (part_of scene r.0.key) p (eqb-true (part_of scene r.0.key).0 p.0 r.2)) (map_in (λ (w : Write). part_of scene w.key) ws r.0 r.1))) in
     let m : length (map (λ (w : Write). part_of scene w.key) ws) ≡ length ws = map_length (λ (w : Write). part_of scene w.key) ws in
     omega (arith, fit, m)
 
@@ -121,9 +106,9 @@ others_few scene ok origin here p = by_row p.0 (nth scene.parts p.0) refl
           λ h. (let f = in_filter (λ (n : NodeId). not (same_node n origin)) row origin h in absurd (cc (ap not (eq-eqb origin.0 origin.0 refl), f.1))),
           once_filter (λ (n : NodeId). not (same_node n origin)) row (once_places row r.distinct),
         ) in
-        let fit = fits all (range_with_len 1 scene.nodes) (once_map (λ (n : NodeId). n.0) (origin ∷ beside) node_same once) (λ k h. in_nodes k (in_map (λ (n : NodeId). n.0) (origin ∷ beside) k h)) in
+        let fit = fits all (range_with_len 1 scene.nodes) (once_map (λ (n : NodeId). n.0) (origin ∷ beside) node_by_number once) (λ k h. in_nodes k (in_map (λ (n : NodeId). n.0) (origin ∷ beside) k h)) in
         let a : length all ≡ length (origin ∷ beside) = map_length (λ (n : NodeId). n.0) (origin ∷ beside) in
-        let b = range_length 1 scene.nodes in
+        let b = length-range_with_len 1 scene.nodes in
         let c = ok.nodes.1 in omega (arith, fit, a, b, c)
       where
         in_nodes : (k : ℕ) → (n : NodeId) × In n (origin ∷ others origin row) × (n.0 ≡ k) → In k (range_with_len 1 scene.nodes)

@@ -14,6 +14,7 @@ use Rattle.str_model.specs.declared.messages.Message.{Message}
 use Rattle.str_model.specs.Proposals.{proposed}
 use Rattle.str_model.specs.Views.{Aborted, Committed, Doing, Global, Local, Own, Remote, lc_of, letter, name_of}
 use Rattle.str_scene.specs.Scenes.{Here, participants, replicas}
+use Rattle.str_base.proofs.Lists.{sum_by-set_got}
 
 -- how many have a local commit timestamp
 abbrev pub certified_in : List Own → ℕ
@@ -26,29 +27,16 @@ acks_in ms = count_by (λ (m : Message). is_ack m.body) ms
 abbrev pub one_for : Bool → ℕ
 one_for b = cond b 1 0
 
--- a sum after a write
-pub sum_set : {A : Type 0} (f : A → ℕ) (xs : List A) (i : ℕ) (x y : A) → slice_get xs i ≡ Some x → sum_by f (slice_set xs i y) + f x ≡ sum_by f xs + f y
-sum_set f [] i x y e = absurd (cc e)
-sum_set f (z ∷ xs) zero x y e =
-    let is : z ≡ x = cc e in
-    let a = sum_by-cons f y xs in
-    let b = sum_by-cons f z xs in
-    let q : f z ≡ f x = ap f is in omega (arith, a, b, q)
-sum_set f (z ∷ xs) (suc i) x y e =
-    let rec = sum_set f xs i x y e in
-    let a = sum_by-cons f z (slice_set xs i y) in
-    let b = sum_by-cons f z xs in omega (arith, a, b, rec)
-
 -- ---- own transactions
 
 own_same : (own : List Own) (i : ℕ) (x y : Own) → slice_get own i ≡ Some x → lc_of y.phase ≡ lc_of x.phase → certified_in (slice_set own i y) ≡ certified_in own
 own_same own i x y e q =
-    let s = sum_set (λ (z : Own). one_for (is_some (lc_of z.phase))) own i x y e in
+    let s = sum_by-set_got (λ (z : Own). one_for (is_some (lc_of z.phase))) own i x y e in
     let t : one_for (is_some (lc_of y.phase)) ≡ one_for (is_some (lc_of x.phase)) = ap (λ (o : Option ℕ). one_for (is_some o)) q in omega (arith, s, t)
 
 own_more : (own : List Own) (i lc : ℕ) (x y : Own) → slice_get own i ≡ Some x → lc_of x.phase ≡ None → lc_of y.phase ≡ Some lc → certified_in (slice_set own i y) ≡ certified_in own + 1
 own_more own i lc x y e q r =
-    let s = sum_set (λ (z : Own). one_for (is_some (lc_of z.phase))) own i x y e in
+    let s = sum_by-set_got (λ (z : Own). one_for (is_some (lc_of z.phase))) own i x y e in
     let t : one_for (is_some (lc_of x.phase)) ≡ 0 = ap (λ (o : Option ℕ). one_for (is_some o)) q in
     let u : one_for (is_some (lc_of y.phase)) ≡ 1 = ap (λ (o : Option ℕ). one_for (is_some o)) r in omega (arith, s, t, u)
 

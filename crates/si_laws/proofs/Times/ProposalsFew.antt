@@ -11,7 +11,6 @@ use Rattle.si_laws.proofs.Times.ParticipantsFew.{few_parts}
 use Rattle.si_laws.proofs.Stages.ParticipantSeats.{seat_of}
 use Rattle.si_laws.proofs.Sessions.SessionHolds.{good_everywhere}
 use Rattle.str_model.proofs.Principle.Everywhere.{Stage, at_place, stage_of}
-use Rattle.str_model.proofs.Lists.Members.{In, in_at, in_filter, in_left, in_right, map_in}
 use Rattle.si_laws.specs.Laws.Times.{TimesBounded}
 use Rattle.si_laws.specs.Numbers.{all_times, proposals}
 use Rattle.std.proofs.Common.{List, Some, [], ap, arith, eqb-true, length, length-append, map, refl, slice_get, subst, subst₂, suc, sym, true, zero, ℕ, ◌*◌, ◌++◌, ◌+◌, ◌∙◌, ◌∷◌, ◌≡◌, ◌≢◌, ◌≤◌}
@@ -30,6 +29,9 @@ use Rattle.str_model.specs.Views.{Own, View, lc_of, name_of}
 use Rattle.str_scene.specs.declared.names.Event.{Event}
 use Rattle.str_scene.specs.SceneLimits.{Exists, IsScene}
 use Rattle.str_scene.specs.Scenes.{Scene, hosts, in_part, part_of}
+use Rattle.str_base.proofs.Members.{in_at, in_filter, in_left, in_right, map_in}
+use Rattle.str_base.specs.Members.{In}
+use Rattle.str_base.proofs.SameNames.{part_by_number}
 
 -- a seat of the i-th transaction of the n-th node
 abbrev seat_key : Scene → ℕ → ℕ → Asked → AckKey
@@ -106,7 +108,7 @@ ack_seat scene s h k j =
     of_ack from ts q t =
         let c = t.certified in
         let f = in_filter (in_part scene k.part) t.all t.some.0 t.some.1 in
-        let part : part_of scene t.some.0.key ≡ k.part = part_same (part_of scene t.some.0.key) k.part (eqb-true (part_of scene t.some.0.key).0 k.part.0 f.1) in
+        let part : part_of scene t.some.0.key ≡ k.part = part_by_number (part_of scene t.some.0.key) k.part (eqb-true (part_of scene t.some.0.key).0 k.part.0 f.1) in
         let w_in : In t.some.0 c.x.writes = subst (In t.some.0) (sym c.writes) f.0 in
         let hosted : hosts scene k.node (part_of scene t.some.0.key) ≡ true = subst (λ (p : PartId). hosts scene k.node p ≡ true) (sym part) (h.hosted k j) in
         let other : k.node.0 ≢ c.n + 1 = λ e. t.foreign (ap (λ (z : TxId). z.node.0) c.name ∙ (sym e ∙ (ap (λ (z : NodeId). z.0) (sym q) ∙ ap (λ (z : NodeId). z.0) t.sender))) in
@@ -115,9 +117,6 @@ ack_seat scene s h k j =
         let i' : In (seat_key scene c.n c.i a.0) (all_seats scene 0 s.nodes) = subst (λ (m : ℕ). In (seat_key scene m c.i a.0) (all_seats scene 0 s.nodes)) (omega arith) i in
         subst (λ (z : AckKey). In z (all_seats scene 0 s.nodes)) (same_key_ (seat_key scene c.n c.i a.0) k (sym c.name) (a.2 ∙ part) a.3) i'
       where
-        part_same : (p q : PartId) → p.0 ≡ q.0 → p ≡ q
-        part_same p q e = λ j. record { 0 = e j }
-
         same_key_ : (a b : AckKey) → a.tx ≡ b.tx → a.part ≡ b.part → a.node ≡ b.node → a ≡ b
         same_key_ a b x y z = λ j. record { tx = x j; part = y j; node = z j }
 

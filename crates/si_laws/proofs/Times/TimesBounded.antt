@@ -4,11 +4,9 @@ use Rattle.dependency_set.specs.declared.names.Dep.{Dep}
 use Rattle.str_model.proofs.ViewFacts.ChangesBelow.{rise, view_act}
 use Rattle.si_laws.proofs.Times.LettersBelow.{AllBelow, sent_act}
 use Rattle.str_model.proofs.ViewFacts.TimesBelow.{BodyBelow, OwnBelow, ViewBelow, WaiterBelow, body_higher, view_higher}
-use Rattle.si_laws.proofs.Times.ProposalsCounted.{acks_append, acks_in, certified_in, rise_act, sum_set}
+use Rattle.si_laws.proofs.Times.ProposalsCounted.{acks_append, acks_in, certified_in, rise_act}
 use Rattle.str_model.proofs.Principle.SingleChanges.{Act, Where}
 use Rattle.str_model.proofs.Principle.Everywhere.{IsSeen, Sent, Stage, at_place, during, everywhere, stage_of}
-use Rattle.str_model.proofs.Lists.ListReads.{get_set, get_set_other, got_replicate, got_set}
-use Rattle.str_model.proofs.Lists.Members.{In, at_in, in_append, in_at, in_flat_map, in_left, in_map, in_right}
 use Rattle.si_laws.specs.Numbers.{ack_times, all_times, body_times, own_times, proposals, view_times, waiter_times}
 use Rattle.str_model.specs.Owned.{final_times, or_nothing}
 use Rattle.std.proofs.Common.{List, None, Option, Some, [], ap, arith, flat_map, inl, inr, length, map, refl, replicate, slice_get, subst, suc, sym, zero, ℕ, ◌++◌, ◌+◌, ◌<◌, ◌^◌, ◌∙◌, ◌∷◌, ◌≡◌, ◌≤◌}
@@ -28,6 +26,9 @@ use Rattle.str_model.specs.Runs.{opening, opening_view, run}
 use Rattle.str_model.specs.Views.{Doing, Own, View, lc_of}
 use Rattle.str_scene.specs.declared.names.Event.{Event}
 use Rattle.str_scene.specs.Scenes.{Scene}
+use Rattle.str_base.proofs.Lists.{get_set, get_set_other, got_replicate, got_set, sum_by-set_got}
+use Rattle.str_base.proofs.Members.{at_in, in_append, in_at, in_flat_map, in_left, in_map, in_right}
+use Rattle.str_base.specs.Members.{In}
 
 -- how many proposals were made
 abbrev pub proposed_in : Stage → ℕ
@@ -46,8 +47,8 @@ Bounded_ s = StageBelow (bound_of s) s
 bounded_keeps : (scene : Scene) (s : Stage) (i : ℕ) (v : View) (input : Input) (w : Where) (d e : Doing) → slice_get s.nodes i ≡ Some v → IsSeen s input → Bounded_ s
     → Act (at_place scene i) input w d e → Bounded_ (during s i d) → Bounded_ (during s i e)
 bounded_keeps scene s i v input w d e is seen hs a h =
-    let p = sum_set (λ (u : View). certified_in u.own) s.nodes i v d.view is in
-    let q = sum_set (λ (u : View). certified_in u.own) s.nodes i v e.view is in
+    let p = sum_by-set_got (λ (u : View). certified_in u.own) s.nodes i v d.view is in
+    let q = sum_by-set_got (λ (u : View). certified_in u.own) s.nodes i v e.view is in
     let r = acks_append s.sent d.sent in
     let t = acks_append s.sent e.sent in
     let u = rise_act (at_place scene i) input w d e a in

@@ -1,6 +1,6 @@
 -- The law Marks: who has read a key has left its mark.
 use Rattle.str_model.specs.Owned.{WaitsFor}
-use Rattle.std.specs.Prelude.{List, Some, false, slice_get, ℕ, ◌≡◌, ◌≤◌, ◌⊎◌}
+use Rattle.std.specs.Prelude.{List, Some, false, slice_get, true, ℕ, ◌≡◌, ◌≤◌, ◌⊎◌}
 use Rattle.partition_map.specs.declared.rows.Asked.{Asked}
 use Rattle.str_scene.specs.declared.names.Event.{Event}
 use Rattle.str_base.specs.declared.names.KeyId.{KeyId}
@@ -14,7 +14,7 @@ use Rattle.str_model.specs.declared.messages.Message.{Message}
 use Rattle.si_laws.specs.GateLaw.{StandsAt}
 use Rattle.str_model.specs.Runs.{World, run}
 use Rattle.str_scene.specs.SceneLimits.{IsScene}
-use Rattle.str_scene.specs.Scenes.{Scene, nth, part_of}
+use Rattle.str_scene.specs.Scenes.{Scene, is_master, nth, part_of}
 use Rattle.si_laws.specs.Standing.{Begun, HasRead, IsCommitted, IsOpen}
 use Rattle.str_model.specs.Traces.{Happening, trace}
 use Rattle.str_base.specs.Versions.{mark_of}
@@ -37,11 +37,11 @@ abbrev pub IsReplyTo : Body → TxId → KeyId → Type 0
 IsReplyTo (ReadReply t l v by fc) tx k = (t ≡ tx) × (l ≡ k)
 IsReplyTo _ tx k = ⊥
 
--- where a reply was sent, its sender has the mark too
-abbrev pub MarkedByReply : World → Type 0
-MarkedByReply w =
+-- where a reply was sent, its sender is the master of the key's partition, and has the mark too
+abbrev pub MarkedByReply : Scene → World → Type 0
+MarkedByReply scene w =
     (i : ℕ) (m : Message) (t : TxId) (x : Own) (k : KeyId) → slice_get w.sent i ≡ Some m → IsReplyTo m.body t k → Begun w t x
-    → IsMarked w m.sender k x.snap.rs
+    → (is_master scene m.sender (part_of scene k) ≡ true) × IsMarked w m.sender k x.snap.rs
 
 -- the body is a Commit that carries a mark of the key of at least r
 abbrev pub CarriesMark : Body → TxId → KeyId → ℕ → Type 0
@@ -67,7 +67,7 @@ MarkedByCommit scene tr w =
 -- the three facts on marks
 pub record Marks (scene : Scene) (tr : List Happening) (w : World) : Type 0 where
   pub home : MarkedAtHome w
-  pub reply : MarkedByReply w
+  pub reply : MarkedByReply scene w
   pub commit : MarkedByCommit scene tr w
 
 -- the law

@@ -15,7 +15,6 @@ use Rattle.str_model.specs.declared.messages.Message.{Message}
 use Rattle.str_model.specs.Owned.{OfEachState}
 use Rattle.str_model.specs.Proposals.{is_done}
 use Rattle.str_model.specs.Runs.{World}
-use Rattle.si_laws.specs.Laws.Times.{TimesBounded}
 use Rattle.str_scene.specs.Scenes.{Scene, hosts, nth, part_of}
 use Rattle.si_laws.specs.Standing.{Begun, IsCommitted, IsOpen, Wrote}
 use Rattle.str_model.specs.Views.{Own, View, is_decided}
@@ -87,7 +86,3 @@ pub record Presence (scene : Scene) (w : World) : Type 0 where
 -- the law
 abbrev pub PresenceHolds : Type 0
 PresenceHolds = OfEachState Presence
-
--- the law where no timestamp reaches the limit, so that no decision is strange to its receiver
-abbrev pub PresenceByBound : Type 0
-PresenceByBound = TimesBounded → PresenceHolds

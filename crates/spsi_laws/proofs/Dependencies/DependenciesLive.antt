@@ -13,13 +13,13 @@ use Rattle.str_base.specs.declared.names.TxId.{TxId}
 use Rattle.dependency_set.specs.declared.names.Dep.{Dep}
 use Rattle.str_model.proofs.Principle.Everywhere.{at_place, stage_of}
 use Rattle.str_model.proofs.Changes.SnapshotsGain.{Names}
-use Rattle.str_model.proofs.Lists.Members.{at_in, in_at}
 use Rattle.str_model.specs.Owned.{Owns}
 use Rattle.str_model.specs.Runs.{run}
 use Rattle.str_model.specs.Views.{Own, View, is_decided, lc_of, name_of}
 use Rattle.str_scene.specs.SceneLimits.{IsScene}
 use Rattle.str_scene.specs.Scenes.{Scene}
 use Rattle.str_scene.specs.declared.names.Event.{Event}
+use Rattle.str_base.proofs.Members.{at_in, in_at}
 
 -- a name by its node and its number
 pub name_by : (scene : Scene) (u : TxId) (n i : ℕ) → u.node.0 ≡ n + 1 → u.seq ≡ i + 1 → u ≡ name_of (at_place scene n) i

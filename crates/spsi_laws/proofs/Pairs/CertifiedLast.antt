@@ -6,9 +6,7 @@ use Rattle.si_laws.proofs.Dependencies.LeftAlone.{carried}
 use Rattle.spsi_laws.proofs.Pairs.ReadsMove.{Moves, OwnMove, m_begins, m_rests, m_sets, mv_grows, mv_resolve, mv_same, own_move}
 use Rattle.str_model.proofs.Principle.SingleChanges.{Act, Path, Where, along}
 use Rattle.str_model.proofs.Changes.SnapshotsGain.{Names}
-use Rattle.str_model.proofs.Lists.ListReads.{get_push, get_set, get_set_other, same_or_not}
 use Rattle.str_model.proofs.Changes.DependencyLooks.{deps_also, ffc_also}
-use Rattle.str_model.proofs.Lists.Members.{In}
 use Rattle.str_model.proofs.Principle.OwnPaths.{resolve_all-sub}
 use Rattle.str_model.proofs.Changes.OwnChanges.{own_step}
 use Rattle.str_model.specs.Owned.{Owns}
@@ -18,6 +16,9 @@ use Rattle.str_model.specs.declared.messages.Input.{Input}
 use Rattle.str_model.specs.declared.names.ReadDone.{ReadDone}
 use Rattle.str_scene.specs.Scenes.{Here}
 use Rattle.str_model.proofs.OwnFacts.LocalOwners.{same_own}
+use Rattle.str_base.proofs.Lists.{get_push, get_set, get_set_other}
+use Rattle.std.proofs.lemmas.Bool.{cases_eq}
+use Rattle.str_base.specs.Members.{In}
 
 -- ---- a look at dependencies
 
@@ -141,7 +142,7 @@ module _ (d e : View) (fates : (k fc : ℕ) → own_fate (slice_get d.own k) ≡
   lasts_by : OwnMove d e → Lasts e i lc x
   lasts_by (m_rests q) = same_lasts (subst (λ (xs : List Own). slice_get xs i ≡ Some x) (sym q) own)
   lasts_by (m_begins place rs q) = same_lasts (subst (λ (xs : List Own). slice_get xs i ≡ Some x) (sym q) (get_push d.own i _ x own))
-  lasts_by (m_sets n z y o op q mv) = by_place (same_or_not i n)
+  lasts_by (m_sets n z y o op q mv) = by_place (cases_eq i n)
     where
       by_place : (i ≡ n) ⊎ (i ≢ n) → Lasts e i lc x
       by_place (inl s) =

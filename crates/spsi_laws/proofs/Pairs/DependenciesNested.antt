@@ -6,8 +6,6 @@ use Rattle.spsi_laws.proofs.Pairs.CertifiedLast.{fates_on, lasts_act, left_names
 use Rattle.spsi_laws.proofs.Pairs.ReadsMove.{Moves, OwnMove, m_begins, m_rests, m_sets, mv_grows, mv_resolve, mv_same, own_move}
 use Rattle.str_model.proofs.Principle.SingleChanges.{Act, Where}
 use Rattle.str_model.proofs.Changes.SnapshotsGain.{Names}
-use Rattle.str_model.proofs.Lists.ListReads.{got_push, got_set}
-use Rattle.str_model.proofs.Lists.Members.{In}
 use Rattle.str_model.specs.Acts.{fresh}
 use Rattle.str_model.specs.Owned.{Owns}
 use Rattle.str_model.specs.Turns.{CommittedAt, DepTurn, dep_turn, left_by, own_fate}
@@ -15,6 +13,8 @@ use Rattle.str_model.specs.Views.{Doing, Own, View, is_decided, lc_of}
 use Rattle.str_model.specs.declared.messages.Input.{Input}
 use Rattle.str_scene.specs.Scenes.{Here}
 use Rattle.str_model.proofs.OwnFacts.LocalOwners.{Depends, LocalOwner, WeakDep, same_own}
+use Rattle.str_base.proofs.Lists.{got_push, got_set}
+use Rattle.str_base.specs.Members.{In}
 
 -- it is a dependency too, or it has committed
 abbrev pub IsNested : View → Own → ℕ → Type 0

@@ -5,7 +5,6 @@ use Rattle.si_laws.proofs.Order.CertifiedVersions.{BegunAt, begun_at, one_state}
 use Rattle.si_laws.proofs.Dependencies.DependencyFates.{FreeOnceCommitted, free-act}
 use Rattle.si_laws.proofs.Reasons.CommitsAfter.{committed_is}
 use Rattle.si_laws.proofs.Guards.GuardGrounds.{committer}
-use Rattle.si_laws.proofs.Guards.GuardSent.{same_or_other}
 use Rattle.si_laws.proofs.Stages.LinkedStates.{one_of}
 use Rattle.si_laws.proofs.Sources.FinalsReported.{CommittedIn}
 use Rattle.si_laws.proofs.Stages.ParticipantSeats.{of_nth}
@@ -26,8 +25,6 @@ use Rattle.str_base.specs.declared.names.NodeId.{NodeId}
 use Rattle.str_base.specs.declared.names.TxId.{TxId}
 use Rattle.str_model.proofs.Principle.Everywhere.{at_each_node, at_place, stage_of}
 use Rattle.str_model.proofs.Changes.SnapshotsGain.{Names}
-use Rattle.str_model.proofs.Lists.ListReads.{same_or_not}
-use Rattle.str_model.proofs.Lists.Members.{In, in_at}
 use Rattle.str_model.specs.Acts.{local_version}
 use Rattle.str_model.specs.Owned.{Owns}
 use Rattle.str_model.specs.Runs.{run}
@@ -39,6 +36,10 @@ use Rattle.str_scene.specs.SceneLimits.{IsScene}
 use Rattle.str_scene.specs.Scenes.{Scene}
 use Rattle.str_scene.specs.declared.names.Event.{Event}
 use Rattle.str_model.proofs.OwnFacts.LocalOwners.{same_own}
+use Rattle.std.proofs.lemmas.Bool.{cases_eq}
+use Rattle.str_base.proofs.Members.{in_at}
+use Rattle.str_base.proofs.SameNames.{cases_tx}
+use Rattle.str_base.specs.Members.{In}
 
 -- one of two is before the other, or they are one
 abbrev pub Either : TxId → Own → TxId → Own → Type 0
@@ -153,7 +154,7 @@ module _ (scene : Scene) (ok : IsScene scene) (es : List Event) (n i : ℕ) (v :
 
   -- both are undecided
   both_open : (t u : TxId) (y z : Own) → OpenOne t y → OpenOne u z → Shares y z → Either t y u z
-  both_open t u y z a b sh = by_place (same_or_not a.place b.place)
+  both_open t u y z a b sh = by_place (cases_eq a.place b.place)
     where
       stands_a : In (local_version (at_place scene n) a.place a.lc sh.0) v.versions
       stands_a = (known.middle.grounds_.governed_.linked_.home n v there a.place y a.owns).locals a.open_ a.lc a.is_lc sh.0 sh.2
@@ -215,7 +216,7 @@ module _ (scene : Scene) (ok : IsScene scene) (es : List Event) (n i : ℕ) (v :
   ordered_two t u y z bt bu (st_final r fc via by c) (st_open nu au) sh = final_open t u y z r fc bt via by c (open_one u z bu nu au) sh
   ordered_two t u y z bt bu (st_open nt at) (st_final r fc via by c) sh =
       turned_round u t z y (final_open u t z y r fc bu via by c (open_one t y bt nt at) (shares_round y z sh))
-  ordered_two t u y z bt bu (st_final r f via by c) (st_final q g via' by' c') sh = elim (same_or_other t u) [
+  ordered_two t u y z bt bu (st_final r f via by c) (st_final q g via' by' c') sh = elim (cases_tx t u) [
     | inl e ↦ inl e
     | inr ne ↦ (elim (committed_apart scene ok es t u y z f g sh.0 sh.1 bt bu (is t y f bt c) (is u z g bu c') sh.2 sh.3 sh.4 ne) [
       | inl le ↦ inr (inl (by_commit f (is t y f bt c) le))

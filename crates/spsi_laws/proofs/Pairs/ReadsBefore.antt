@@ -16,8 +16,6 @@ use Rattle.str_base.specs.declared.names.TxId.{TxId}
 use Rattle.str_model.proofs.Principle.SingleChanges.{Act, InTurn, Path, Where, along}
 use Rattle.str_model.proofs.Principle.Everywhere.{IsSeen, Stage, at_place, during}
 use Rattle.str_model.proofs.Changes.SnapshotsGain.{Names}
-use Rattle.str_model.proofs.Lists.ListReads.{get_set, get_set_other, got_push, got_set, same_or_not}
-use Rattle.str_model.proofs.Lists.Members.{In}
 use Rattle.str_model.specs.Acts.{fresh, local_version}
 use Rattle.str_model.specs.Owned.{Owns}
 use Rattle.str_model.specs.Turns.{own_fate}
@@ -30,6 +28,9 @@ use Rattle.str_scene.specs.Scenes.{Scene}
 use Rattle.str_model.proofs.OwnFacts.DependenciesStand.{fate_open}
 use Rattle.str_model.proofs.OwnFacts.LocalOwners.{WeakDep, same_own}
 use Rattle.str_model.proofs.OwnFacts.TurnsBelow.{UpTo, keeps_up_to, leaves}
+use Rattle.str_base.proofs.Lists.{get_set, get_set_other, got_push, got_set}
+use Rattle.std.proofs.lemmas.Bool.{cases_eq}
+use Rattle.str_base.specs.Members.{In}
 
 -- of one transaction
 abbrev pub PairsOf : Scene → Stage → ℕ → View → Own → Type 0
@@ -100,7 +101,7 @@ module _ (scene : Scene) (s : Stage) (i : ℕ) (v : View) (e : Doing) (is : slic
   -- two undecided ones that have Local versions of a key
   tied_locals : (a la b lb : ℕ) (x y : Own) → Owns e.view a x → Owns e.view b y → lc_of x.phase ≡ Some la → lc_of y.phase ≡ Some lb → is_decided x.phase ≡ false → is_decided y.phase ≡ false → Shares x y
       → Tied e.view a x b y
-  tied_locals a la b lb x y ox oy lx ly px py sh = by_place (same_or_not a b)
+  tied_locals a la b lb x y ox oy lx ly px py sh = by_place (cases_eq a b)
     where
       st : Stand (at_place scene i) e.view
       st = g.governed_.stand i e.view at_e
@@ -223,7 +224,7 @@ module _ (scene : Scene) (ok : IsScene scene) (s : Stage) (hs : Grounds scene s)
         ]
 
         here_e : (j : ℕ) (y : Own) → Owns e.view j y → is_decided y.phase ≡ false → PairsOf scene (during s i e) i e.view y
-        here_e j y own op = elim (same_or_not j m) [
+        here_e j y own op = elim (cases_eq j m) [
           | inl q ↦ at_it y (subst (λ (k : ℕ). Owns e.view k y) q own) op (own_move (at_place scene i) input (InTurn m) d e act)
           | inr ne ↦ stayed j y (sym ((leaves (at_place scene i) input (InTurn m) d e (λ q. cc q) act).others j ne) ∙ own) op
         ]

@@ -11,8 +11,6 @@ use Rattle.str_base.specs.declared.names.TxId.{TxId}
 use Rattle.str_model.proofs.Principle.SingleChanges.{Act, Where}
 use Rattle.str_model.proofs.Principle.Everywhere.{IsSeen, Stage, at_place, during}
 use Rattle.str_model.proofs.Changes.SnapshotsGain.{Names}
-use Rattle.str_model.proofs.Lists.ListReads.{get_set, get_set_other, got_push, got_set}
-use Rattle.str_model.proofs.Lists.Members.{In, in_append}
 use Rattle.str_model.specs.Acts.{fresh}
 use Rattle.str_model.specs.Owned.{Owns}
 use Rattle.str_model.specs.Turns.{DepTurn, dep_turn, left_by, own_fate}
@@ -21,6 +19,9 @@ use Rattle.str_model.specs.declared.messages.Input.{Input}
 use Rattle.str_model.specs.declared.names.ReadDone.{ReadDone}
 use Rattle.str_scene.specs.Scenes.{Scene}
 use Rattle.str_model.proofs.OwnFacts.LocalOwners.{Depends, LocalOwner, WeakDep, same_own}
+use Rattle.str_base.proofs.Lists.{get_set, get_set_other, got_push, got_set}
+use Rattle.str_base.proofs.Members.{in_append}
+use Rattle.str_base.specs.Members.{In}
 
 -- a read of the transaction, or of one that it depends on
 pub data ReadsVia (v : View) (x : Own) (r : ReadDone) : Type 0 where

@@ -9,9 +9,9 @@ use Rattle.str_base.specs.declared.names.Kind.TheVariants.{Final, Local as Local
 use Rattle.str_base.specs.declared.names.TxId.{TxId}
 use Rattle.str_base.specs.declared.names.Value.{Value}
 use Rattle.str_base.specs.declared.names.Version.{Version}
-use Rattle.str_model.proofs.Principle.SingleChanges.{Act, AsksCommit, Change, Reads, ReadsTo, Where, act_abort, act_abort_came, act_accept, act_ack, act_ask, act_begin, act_certify, act_close, act_commit, act_commit_came, act_mark, act_put, act_refuse, act_reply, act_request, act_take, act_unwait, act_wait, asks_again, asks_new, ch_away, ch_blind, ch_close, ch_gate, ch_known, ch_read, ch_reply, ch_resolve, ch_take, ch_wait, reads_again, reads_new, to_final, to_local}
+use Rattle.str_model.proofs.Principle.SingleChanges.{Act, Change, ReadsTo, Where, act_abort, act_abort_came, act_accept, act_ack, act_ask, act_begin, act_certify, act_close, act_commit, act_commit_came, act_mark, act_put, act_refuse, act_reply, act_request, act_take, act_unwait, act_wait, ch_away, ch_blind, ch_close, ch_gate, ch_known, ch_read, ch_reply, ch_resolve, ch_take, ch_wait, to_final, to_local}
+use Rattle.str_model.proofs.Changes.OwnGoesOn.{asks-phase, reads-phase}
 use Rattle.str_model.proofs.Changes.SnapshotsGain.{Names}
-use Rattle.str_model.proofs.Lists.Members.{In}
 use Rattle.str_model.specs.Acts.{abort_came, aborted, accepted, acked, asked, begun, certified, closed, commit_came, committed, fresh, marked, refused, replied, requested, taken, waits}
 use Rattle.str_model.specs.Owned.{Owns}
 use Rattle.str_model.specs.Scripts.{finish_next, noted, own_op}
@@ -22,6 +22,7 @@ use Rattle.str_model.specs.declared.names.ReadDone.{ReadDone}
 use Rattle.str_scene.specs.Scenes.{Here}
 use Rattle.str_scene.specs.declared.names.TxPlace.{TxPlace}
 use Rattle.str_model.proofs.ViewFacts.MarksRise.{finish-looks, finish_next-looks}
+use Rattle.str_base.specs.Members.{In}
 
 -- where a new read comes from, and that the snapshot has taken it in
 pub data Source (v : View) (x : Own) (new : Snap) (r : ReadDone) : Type 0 where
@@ -50,14 +51,6 @@ pub data OwnMove (d e : View) : Type 0 where
 -- ---- each change
 
 module _ (here : Here) (input : Input) (d : Doing) (i : ℕ) (x : Own) where
-  reads_none : (k : KeyId) → Reads here x k → lc_of x.phase ≡ None
-  reads_none k (reads_new op a e n q) = ap lc_of a
-  reads_none k (reads_again e) = ap lc_of e
-
-  asks_none : AsksCommit here x → lc_of x.phase ≡ None
-  asks_none (asks_new a e ne) = ap lc_of a
-  asks_none (asks_again e) = ap lc_of e
-
   free_same : (y : Own) → lc_of x.phase ≡ None → y.snap ≡ x.snap → y.reads ≡ x.reads → Moves d.view x y
   free_same y n s r = mv_same s r (λ lc l. absurd (cc (n, l)))
 
@@ -84,9 +77,9 @@ module _ (here : Here) (input : Input) (d : Doing) (i : ℕ) (x : Own) where
   by_change y (ch_resolve t e) = mv_resolve t e refl
   by_change y (ch_known op k a p e n q) = free_same _ (ap lc_of p) (finish-snap op a x) (finish-looks op a x).reads
   by_change y (ch_blind op a p e n) = free_same _ (ap lc_of p) (finish-snap op a x) (finish-looks op a x).reads
-  by_change y (ch_read k a by snap r m t) = new_read k a by snap t (reads_none k r)
-  by_change y (ch_wait k by r m t) = free_same _ (reads_none k r) refl refl
-  by_change y (ch_away k n r m t) = free_same _ (reads_none k r) refl refl
+  by_change y (ch_read k a by snap r m t) = new_read k a by snap t (reads-phase here x k r)
+  by_change y (ch_wait k by r m t) = free_same _ (reads-phase here x k r) refl refl
+  by_change y (ch_away k n r m t) = free_same _ (reads-phase here x k r) refl refl
   by_change y (ch_reply from tx l k a by fc c n q e s) = free_same _ (ap lc_of e) refl refl
   by_change y (ch_take k a b by of fc gc snap e q) =
       let g = reply-grows here d.view x.snap a b by of fc gc snap q in
@@ -95,7 +88,7 @@ module _ (here : Here) (input : Input) (d : Doing) (i : ℕ) (x : Own) where
       (one_read (record { key = k; value = b; by = of }) (finish_next-looks (own_op here x) b (noted k b of snap x)).reads
       (subst (λ (z : Snap). Source d.view x z (record { key = k; value = b; by = of })) (sym s) (src_reply k a fc (e ∙ ap (λ z. Reply k a z fc) (reply-is here x.snap a b by of fc gc snap q)) g.2)))
   by_change y (ch_close a o e) = free_same _ (ap lc_of a) refl refl
-  by_change y (ch_gate a) = free_same _ (asks_none a) refl refl
+  by_change y (ch_gate a) = free_same _ (asks-phase here x a) refl refl
 
 module _ (here : Here) (input : Input) (w : Where) where
   pub own_move : (d e : Doing) → Act here input w d e → OwnMove d.view e.view

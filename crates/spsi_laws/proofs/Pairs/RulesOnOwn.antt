@@ -1,5 +1,5 @@
 -- What the rule of an input does to own transactions: a client step works on one of them, and all else is calm.
-use Rattle.std.proofs.Common.{Bool, List, None, Option, Some, [], ap, false, inl, inr, length, max, min, nat_lt, not, refl, slice_get, slice_set, sub-one, subst, suc, sym, true, zero, ℕ, ◌&&◌, ◌+◌, ◌-◌, ◌∙◌, ◌∷◌, ◌≡◌, ◌⊎◌}
+use Rattle.std.proofs.Common.{Bool, List, None, Option, Some, [], ap, false, inl, inr, length, max, min, nat_lt, not, refl, slice_get, slice_set, subst, suc, sym, true, zero, ℕ, ◌&&◌, ◌+◌, ◌-◌, ◌∙◌, ◌∷◌, ◌≡◌, ◌⊎◌}
 use Rattle.std.specs.List.{list_any}
 use Rattle.partition_map.specs.declared.rows.Asked.{Asked}
 use Rattle.spsi_laws.proofs.Pairs.ReadsBefore.{Calm, calm_same}
@@ -13,9 +13,8 @@ use Rattle.str_base.specs.declared.names.Write.{Write}
 use Rattle.str_base.specs.Versions.{same_key, same_node}
 use Rattle.str_model.proofs.Principle.SingleChanges.{InTurn, Path}
 use Rattle.str_model.proofs.Changes.SnapshotsGain.{Names, if_elim}
-use Rattle.str_model.proofs.Lists.ListReads.{got_push, got_set}
-use Rattle.str_model.proofs.Lists.Members.{In}
 use Rattle.str_model.proofs.Principle.OwnPaths.{free_at, op_or_commit-path}
+use Rattle.str_model.proofs.Principle.RulePaths.{named_owns}
 use Rattle.str_model.specs.Acts.{abort_came, aborted, accepted, acked, begun, commit_came, decided_as, fresh, in_phase, marked, refused, replied, taken, waits}
 use Rattle.str_model.specs.Arrivals.{held_key}
 use Rattle.str_model.specs.Arrivals
@@ -41,6 +40,8 @@ use Rattle.str_scene.specs.Scenes.{Here, Session, hosts_key, is_master, nth}
 use Rattle.str_scene.specs.declared.names.Op.{Op}
 use Rattle.str_base.specs.declared.names.SessionId.{SessionId}
 use Rattle.str_scene.specs.declared.names.TxPlace.{TxPlace}
+use Rattle.str_base.proofs.Lists.{got_push, got_set}
+use Rattle.str_base.specs.Members.{In}
 
 -- a client step works on one own transaction as its turn does, or nothing is read and no dependency is gained
 pub data Ruled (here : Here) (input : Input) (d r : Doing) : Type 0 where
@@ -151,15 +152,6 @@ module _ (here : Here) (input : Input) where
       if_elim (CalmTo d.view) (hosts_key here k && (not (same_node tx.node here.node) && not (list_any (Arrivals.waits_read tx k) d.view.waiters))) (Some e) None
       (λ h. own_calm d.view e.view (serve-same tx k rs (serve_turn d.view.versions k rs) (marked k rs d) ∙ marked-same k rs d)) (λ h. tt)
 
-  nth-get : {X : Type 0} (xs : List X) (n : ℕ) (x : X) → nth xs n ≡ Some x → slice_get xs (n - 1) ≡ Some x
-  nth-get xs zero x e = absurd cc
-  nth-get xs (suc i) x e = rw sub-one e
-
-  named-owns : (tx : TxId) (d : Doing) (x : Own) → Returns.own_named here tx d ≡ Some x → Owns d.view (tx.seq - 1) x
-  named-owns tx d x =
-      if_elim (λ o. o ≡ Some x → Owns d.view (tx.seq - 1) x) (same_node tx.node here.node) (nth d.view.own tx.seq) None
-      (λ e h. nth-get d.view.own tx.seq x h) (λ e h. absurd (cc h))
-
   reply_phase-calm : (i : ℕ) (x : Own) (k : KeyId) (v : Value) (by : Option TxId) (fc : ℕ) (p : Phase) (d : Doing) → Owns d.view i x → x.phase ≡ p → CalmTo d.view (Returns.reply_phase i x k v by fc p d)
   reply_phase-calm i x k v by fc (Remote l) d own e =
       if_elim (CalmTo d.view) (same_key l k) (Some (put i (in_phase (Reply k v by fc) x) d)) None
@@ -168,7 +160,7 @@ module _ (here : Here) (input : Input) where
 
   reply_own-calm : (tx : TxId) (k : KeyId) (v : Value) (by : Option TxId) (fc : ℕ) (o : Option Own) (d : Doing) → Returns.own_named here tx d ≡ o → CalmTo d.view (Returns.reply_own (tx.seq - 1) k v by fc o d)
   reply_own-calm tx k v by fc None d n = tt
-  reply_own-calm tx k v by fc (Some x) d n = reply_phase-calm (tx.seq - 1) x k v by fc x.phase d (named-owns tx d x n) refl
+  reply_own-calm tx k v by fc (Some x) d n = reply_phase-calm (tx.seq - 1) x k v by fc x.phase d (named_owns here tx d x n) refl
 
   read_reply-calm : (tx : TxId) (k : KeyId) (v : Value) (by : Option TxId) (fc : ℕ) (d : Doing) → CalmTo d.view (Returns.read_reply here tx k v by fc d)
   unfolding Returns.read_reply
@@ -226,7 +218,7 @@ module _ (here : Here) (input : Input) where
 
   ack_own-calm : (from : NodeId) (tx : TxId) (p : PartId) (ts : ℕ) (o : Option Own) (d : Doing) → Returns.own_named here tx d ≡ o → CalmTo d.view (Returns.ack_own (tx.seq - 1) from p ts o d)
   ack_own-calm from tx p ts None d n = tt
-  ack_own-calm from tx p ts (Some x) d n = ack_phase-calm (tx.seq - 1) x from p ts x.phase d (named-owns tx d x n) refl
+  ack_own-calm from tx p ts (Some x) d n = ack_phase-calm (tx.seq - 1) x from p ts x.phase d (named_owns here tx d x n) refl
 
   ack-calm : (from : NodeId) (tx : TxId) (p : PartId) (ts : ℕ) (d : Doing) → CalmTo d.view (Returns.ack_rule here from tx p ts d)
   unfolding Returns.ack_rule
@@ -240,7 +232,7 @@ module _ (here : Here) (input : Input) where
 
   refuse_own-calm : (from : NodeId) (tx : TxId) (p : PartId) (u : TxId) (k : KeyId) (o : Option Own) (d : Doing) → Returns.own_named here tx d ≡ o → CalmTo d.view (Returns.refuse_own here (tx.seq - 1) from p u k o d)
   refuse_own-calm from tx p u k None d n = tt
-  refuse_own-calm from tx p u k (Some x) d n = refuse_phase-calm (tx.seq - 1) x from p u k x.phase d (named-owns tx d x n) refl
+  refuse_own-calm from tx p u k (Some x) d n = refuse_phase-calm (tx.seq - 1) x from p u k x.phase d (named_owns here tx d x n) refl
 
   refuse-calm : (from : NodeId) (tx : TxId) (p : PartId) (u : TxId) (k : KeyId) (d : Doing) → CalmTo d.view (Returns.refuse_rule here from tx p u k d)
   unfolding Returns.refuse_rule

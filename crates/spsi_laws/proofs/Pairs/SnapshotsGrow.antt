@@ -1,7 +1,7 @@
 -- What a read and a certification take into a snapshot: all that a snapshot has that is taken over, and the gate holds of what comes out.
 use Rattle.std.proofs.Common.{Bool, List, None, Option, Some, [], ap, arith, eqb-true, false, find, if◌then◌else◌, inl, inr, ltb-false, max, nat_lt, refl, slice_get, subst, sym, true, ℕ, ◌+◌, ◌-◌, ◌==◌, ◌||◌, ◌∙◌, ◌∷◌, ◌≡◌, ◌≤◌, ◌⊎◌}
 use Rattle.dependency_set.specs.declared.names.Dep.{Dep}
-use Rattle.dependency_set.specs.Snapshots.{Snap, accept_final, holds, insert_dep, oldest, union}
+use Rattle.dependency_set.specs.Snapshots.{Snap, accept_final, holds, oldest, union}
 use Rattle.str_base.specs.declared.names.KeyId.{KeyId}
 use Rattle.str_base.specs.declared.names.Kind.{Kind}
 use Rattle.str_base.specs.declared.names.Kind.TheVariants.{Final, Local as LocalKind, Pre}
@@ -10,13 +10,15 @@ use Rattle.str_base.specs.declared.names.Value.{Value}
 use Rattle.str_base.specs.declared.names.Value.TheVariants.{Absent}
 use Rattle.str_base.specs.declared.names.Version.{Version}
 use Rattle.str_base.specs.declared.names.Write.{Write}
-use Rattle.str_base.specs.Versions.{chain, is_pre, last_pre, same_key, stamp, visible}
+use Rattle.str_base.specs.Versions.{is_pre, last_pre, stamp, visible}
 use Rattle.str_scene.specs.Scenes.{Here, first_or, hosts_key, part_of, replicas}
 use Rattle.str_model.specs.Turns.{Away, CertTurn, Certified, Conflict, Plain, ReadTurn, Speculative, Wait, WaitGate, cert_turn, conflicts, joined, met, passed, read_turn, reply_turn, take_over}
 use Rattle.str_model.specs.Turns
 use Rattle.str_model.specs.Views.{Own, View}
-use Rattle.str_model.proofs.Changes.SnapshotsGain.{Names, find_none, if_elim, in_insert_dep_old, in_union_right, insert_dep_names, or_false_right, union_names, visible-is}
-use Rattle.str_model.proofs.Lists.Members.{In, in_filter, in_flat_map}
+use Rattle.str_model.proofs.Changes.SnapshotsGain.{Names, if_elim, in_insert_dep, in_insert_dep_old, in_met, in_union, in_union_right, insert_dep_names, union_names, visible-is}
+use Rattle.str_base.proofs.Tests.{and_true_left, and_true_right, or_false_right}
+use Rattle.str_base.proofs.Members.{find_none, in_filter, in_flat_map}
+use Rattle.str_base.specs.Members.{In}
 
 -- a dependency that is gained comes with all of its Local version's transaction: that one's number, dependencies and greatest final timestamp
 pub record GainsAll (v : View) (rs : ℕ) (new : Snap) (dep : Dep) : Type 0 where
@@ -77,23 +79,6 @@ grows_more v a b c x y =
       ffc = g.ffc;
       deps = g.deps;
     }
-
-in_insert_dep : (d : Dep) (ds : List Dep) (x : Dep) → In x (insert_dep d ds) → (d ≡ x) ⊎ In x ds
-in_insert_dep d [] x (inl e) = inl e
-in_insert_dep d [] x (inr h) = absurd h
-in_insert_dep d (e ∷ es) x h = by_tests (in_insert_dep d es x) (nat_lt d.seq e.seq) (d.seq == e.seq) h
-  where
-    by_tests : (In x (insert_dep d es) → (d ≡ x) ⊎ In x es) → (b c : Bool) → In x (if b then d ∷ e ∷ es else (if c then e ∷ es else e ∷ insert_dep d es)) → (d ≡ x) ⊎ In x (e ∷ es)
-    by_tests rec true c (inl q) = inl q
-    by_tests rec true c (inr k) = inr k
-    by_tests rec false true k = inr k
-    by_tests rec false false (inl q) = inr (inl q)
-    by_tests rec false false (inr k) = elim (rec k) [ inl q ↦ inl q | inr j ↦ inr (inr j) ]
-
-in_union : (ds es : List Dep) (x : Dep) → In x (union ds es) → In x ds ⊎ In x es
-in_union [] es x h = inr h
-in_union (d ∷ ds) es x h =
-    elim (in_insert_dep d (union ds es) x h) [ inl q ↦ inl (inl q) | inr k ↦ (elim (in_union ds es x k) [ inl j ↦ inl (inr j) | inr j ↦ inr j ]) ]
 
 grows_over : (v : View) (q : Version) (o : Option Own) (snap : Snap) → slice_get v.own (q.tx.seq - 1) ≡ o → In q v.versions → q.kind ≡ LocalKind → q.ts.0 ≤ snap.rs → Grows v snap (take_over o q.tx.seq snap)
 grows_over v q None snap e i k le = grows_self v snap
@@ -201,10 +186,6 @@ joined-grows v (q ∷ qs) snap f =
     let s : Snap = Turns.joined_one v.own q q.kind snap in
     grows_more v snap s (joined v.own qs s) one (joined-grows v qs s (λ w h. ((f w (inr h)).0, omega (arith, one.rs, (f w (inr h)).1))))
 
-in_met : (ws : List Write) (vs : List Version) (v : Version) → In v (met ws vs) → In v vs
-in_met ws vs v h =
-    let r = in_flat_map (λ (w : Write). chain w.key vs) ws v h in (in_filter (λ (x : Version). same_key x.key r.0.key) vs v r.2).0
-
 abbrev CertGrows : View → Snap → CertTurn → Type 0
 CertGrows v old (Certified lc new) = Grows v old new × (holds new ≡ true)
 CertGrows v old (Conflict u k) = Unit {0}
@@ -233,5 +214,5 @@ cert-grows here v snap ws lc new e = subst (CertGrows v snap) e (cert-grows_any 
 pub gate_below : (ffc : ℕ) (ds : List Dep) (d : Dep) → Rattle.std.specs.List.list_all (λ (z : Dep). Rattle.std.proofs.Common.nat_le ffc z.rs.0) ds ≡ true → In d ds → ffc ≤ d.rs.0
 gate_below ffc [] d e h = absurd h
 gate_below ffc (x ∷ xs) d e (inl q) =
-    let l : ffc ≤ x.rs.0 = Rattle.std.proofs.Common.leb-true ffc x.rs.0 (Rattle.str_model.proofs.Changes.SnapshotsGain.and_left _ _ e) in omega (arith, l, ap (λ (z : Dep). z.rs.0) q)
-gate_below ffc (x ∷ xs) d e (inr h) = gate_below ffc xs d (Rattle.str_model.proofs.Changes.SnapshotsGain.and_right _ _ e) h
+    let l : ffc ≤ x.rs.0 = Rattle.std.proofs.Common.leb-true ffc x.rs.0 (and_true_left _ _ e) in omega (arith, l, ap (λ (z : Dep). z.rs.0) q)
+gate_below ffc (x ∷ xs) d e (inr h) = gate_below ffc xs d (and_true_right _ _ e) h

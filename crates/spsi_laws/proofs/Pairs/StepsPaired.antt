@@ -1,24 +1,20 @@
 -- Over every run: each that an undecided transaction or one of its dependencies has read from is before each of its dependencies, where both wrote one key.
-use Rattle.std.proofs.Common.{Bool, List, None, Option, Some, [], arith, false, inl, inr, length, refl, slice_get, subst, suc, sym, true, zero, ℕ, ◌∙◌, ◌≡◌}
+use Rattle.std.proofs.Common.{Bool, List, None, Option, Some, arith, false, inl, inr, length, refl, slice_get, subst, suc, sym, true, zero, ℕ, ◌∙◌, ◌≡◌}
 use Rattle.std.proofs.lemmas.Option.{slice_get_within}
 use Rattle.si_laws.proofs.Guards.GuardGrounds.{grounds_opening}
 use Rattle.spsi_laws.proofs.Pairs.CertifiedLast.{left_names}
 use Rattle.spsi_laws.proofs.Pairs.ReadsBefore.{AllPaired, Calm, Middle, active_path, calm_paired, calm_same, middle_path}
 use Rattle.spsi_laws.proofs.Pairs.RulesOnOwn.{Ruled, RuledTo, calm_more, is_calm, operates, own_calm, ruled, set_calm}
-use Rattle.spsi_laws.proofs.Pairs.StepsByRule.{rules_everywhere}
 use Rattle.str_base.specs.declared.names.Cause.{Cause}
-use Rattle.str_model.proofs.Principle.SingleChanges.{InRule, InTurn, InWait, Path, PathTo, along}
-use Rattle.str_model.proofs.Principle.StepPaths.{StepPath, first-path, resolved_first, rest-path, turn-path, wait_turns-path}
-use Rattle.str_model.proofs.Principle.Everywhere.{IsSeen, Stage, at_place, during, during_start, stage_of}
-use Rattle.str_model.proofs.Lists.ListReads.{get_set, got_replicate, got_set}
+use Rattle.str_model.proofs.Principle.SingleChanges.{InRule, InTurn, InWait, Path, along}
+use Rattle.str_model.proofs.Principle.StepPaths.{StepPath, first-path, resolved_first, rest-path}
+use Rattle.str_model.proofs.Principle.Everywhere.{IsSeen, Stage, at_place, during, during_start, stage_of, steps_everywhere}
 use Rattle.str_model.proofs.Changes.DependencyLooks.{after_look}
-use Rattle.str_model.proofs.Principle.RulePaths.{rule-path}
 use Rattle.str_model.specs.Acts.{aborted, decided_as}
 use Rattle.str_model.specs.Owned.{Owns}
 use Rattle.str_model.specs.Pass
 use Rattle.str_model.specs.Runs.{opening, opening_view, run}
 use Rattle.str_model.specs.Scripts
-use Rattle.str_model.specs.Steps
 use Rattle.str_model.specs.Turns.{DepTurn, Keep, Late, Lost, dep_turn, left_by}
 use Rattle.str_model.specs.Views.{Doing, Own, View, is_decided, put, starts}
 use Rattle.str_model.specs.declared.messages.Input.{Input}
@@ -29,6 +25,7 @@ use Rattle.str_model.proofs.OwnFacts.DependenciesStand.{of_own-open, open_openin
 use Rattle.str_model.proofs.OwnFacts.LocalOwners.{Depends}
 use Rattle.str_model.proofs.OwnFacts.EarlierDependencies.{depends-act}
 use Rattle.str_model.proofs.OwnFacts.TurnsBelow.{Below, OpenAt, UpTo, keeps_below, leaves}
+use Rattle.str_base.proofs.Lists.{get_set, got_replicate, got_set}
 
 -- ---- the first part of a turn
 
@@ -141,28 +138,24 @@ module _ (scene : Scene) (ok : IsScene scene) (s : Stage) (h : Paired scene s) (
       (λ a b act f j. (leaves (at_place scene i) input InWait a b (λ q. cc q) act).others j (λ t. t) ∙ f j) d e p (λ j. refl) in
       λ j y own op. calm_same d.view e.view j y (sym (same j) ∙ own) op
 
-  stepped : (r : Doing) → Steps.rule (at_place scene i) input (starts v) ≡ Some r → Paired scene (during s i (Steps.after_rule (at_place scene i) r))
-  unfolding Steps.after_rule
-  stepped r q =
-      let rule : Path (at_place scene i) input InRule (starts v) r = subst (λ (o : Option Doing). PathTo (at_place scene i) input InRule (starts v) o) q (rule-path (at_place scene i) input InRule refl (starts v)) in
-      let kind : Ruled (at_place scene i) input (starts v) r = subst (λ (o : Option Doing). RuledTo (at_place scene i) input (starts v) o) q (ruled (at_place scene i) input (starts v)) in
-      let a = after_rule r rule kind in
+  stepped : (e : Doing) → StepPath (at_place scene i) input (starts v) e → Paired scene (during s i e)
+  stepped e path =
+      let r : Doing = path.ruled in
+      let kind : Ruled (at_place scene i) input (starts v) r = subst (λ (o : Option Doing). RuledTo (at_place scene i) input (starts v) o) path.is_rule (ruled (at_place scene i) input (starts v)) in
+      let a = after_rule r path.rule kind in
       let n : ℕ = length r.view.own in
       let b0 : Below (at_place scene i) (length v.own) v = h.open_ i v is in
-      let base : Depends (at_place scene i) r.view = along (at_place scene i) input InRule (λ d. Depends (at_place scene i) d.view) (depends-act (at_place scene i) input InRule) (starts v) r rule b0.base in
+      let base : Depends (at_place scene i) r.view = along (at_place scene i) input InRule (λ d. Depends (at_place scene i) d.view) (depends-act (at_place scene i) input InRule) (starts v) r path.rule b0.base in
       let p = passed n r (record { middle = a.middle; below = record { base = base; below = λ k x dep lt own op m. absurd (omega (arith, lt)) }; pairs = a.pairs }) in
       let d : Doing = Pass.pass_to (at_place scene i) n r in
-      let e : Doing = Rattle.str_model.specs.Waiters.wait_turns (at_place scene i) [] d.view.waiters d in
-      let waits : Path (at_place scene i) input InWait d e = wait_turns-path (at_place scene i) input InWait [] d.view.waiters d refl in
-      let path : StepPath (at_place scene i) input (starts v) e = record { ruled = r; rule = rule; turns = λ k. turn-path (at_place scene i) input (InTurn k) k (Pass.pass_to (at_place scene i) k r) refl; waits = waits } in
       let below_e : Below (at_place scene i) (length e.view.own) e.view = step_open (at_place scene i) input v e path b0 in
       record {
-        middle = middle_path scene ok s h.middle.grounds_ i v input is seen InWait d e waits p.middle;
+        middle = middle_path scene ok s h.middle.grounds_ i v input is seen InWait d e path.waits p.middle;
         open_ = λ m u there. elim (got_set s.nodes i m e.view u there) [
           | inl z ↦ subst (λ (k : ℕ). Below (at_place scene k) (length u.own) u) (sym z.0) (subst (λ (y : View). Below (at_place scene i) (length y.own) y) (sym z.1) below_e)
           | inr z ↦ h.open_ m u z.1
         ];
-        pairs = calm_paired scene s i v input is seen InWait d e waits p.middle.grounds_.reported (waits_calm d e waits) p.pairs;
+        pairs = calm_paired scene s i v input is seen InWait d e path.waits p.middle.grounds_.reported (waits_calm d e path.waits) p.pairs;
       }
 
 paired_opening : (scene : Scene) (ok : IsScene scene) → Paired scene (stage_of (opening scene))
@@ -178,4 +171,4 @@ paired_opening scene ok = record {
 -- in every state of a run
 pub paired : (scene : Scene) → IsScene scene → (es : List Event) → Paired scene (stage_of (run scene es))
 paired scene ok es =
-    rules_everywhere scene (Paired scene) (λ s i v input r is seen q h. stepped scene ok s h i v input is seen r q) (paired_opening scene ok) es
+    steps_everywhere scene (Paired scene) (λ s i v input e is seen path h. stepped scene ok s h i v input is seen e path) (paired_opening scene ok) es

@@ -3,7 +3,7 @@ use Rattle.si_laws.proofs.Order.CertifiedVersions.{BegunAt, FoundAt, committed_s
 use Rattle.si_laws.proofs.Guards.GuardGrounds.{Grounds, grounds}
 use Rattle.si_laws.proofs.Stages.LinkedStates.{IsCertified, one_certified, one_of}
 use Rattle.si_laws.proofs.Order.MasterFacts.{IsBefore}
-use Rattle.si_laws.proofs.Order.WritersApart.{at_final, key_of_table, kinds, master_of, script_op}
+use Rattle.si_laws.proofs.Order.WritersApart.{at_final, key_of_table, kinds, master_of}
 use Rattle.si_laws.specs.Standing.{IsCommitted}
 use Rattle.std.proofs.Common.{List, ap, arith, eq-eqb, inl, inr, length, refl, slice_get, subst, subst₂, sym, true, ℕ, ◌+◌, ◌<◌, ◌∙◌, ◌≡◌, ◌≢◌, ◌≤◌, ◌⊎◌}
 use Rattle.str_base.specs.Versions.{same_key}
@@ -14,7 +14,6 @@ use Rattle.str_base.specs.declared.names.TxId.{TxId}
 use Rattle.str_base.specs.declared.names.Version.{Version}
 use Rattle.str_base.specs.declared.names.Write.{Write}
 use Rattle.str_model.proofs.Principle.Everywhere.{at_place, stage_of}
-use Rattle.str_model.proofs.Lists.Members.{In}
 use Rattle.str_model.specs.Runs.{run}
 use Rattle.str_model.specs.Views.{Own, View}
 use Rattle.str_scene.specs.SceneLimits.{IsScene}
@@ -22,14 +21,16 @@ use Rattle.str_scene.specs.Scenes.{Scene, hosts, is_master, part_of}
 use Rattle.str_scene.specs.declared.names.Event.{Event}
 use Rattle.str_model.specs.Owned.{wrote_key}
 use Rattle.str_model.proofs.OwnFacts.ScriptsCovered.{ScriptGood, scripts_after}
-use Rattle.str_model.proofs.Changes.PairWords.{has_at}
+use Rattle.str_base.proofs.Members.{any_in}
+use Rattle.str_base.specs.Members.{In}
+use Rattle.str_model.proofs.ViewFacts.MarksRise.{script_op}
 
 module _ (scene : Scene) (ok : IsScene scene) (es : List Event) where
   -- a written key is one of the scene
   key_exists : (t : TxId) (x : Own) → BegunAt scene (stage_of (run scene es)) t x → (a : Write) → In a x.writes → a.key.0 < length scene.keys.names
   key_exists t x b a m =
       let sg : ScriptGood (at_place scene b.n) x = scripts_after scene ok es b.n b.view b.there b.i x b.own in
-      let wrote : wrote_key a.key x.writes ≡ true = has_at (λ (w : Write). same_key w.key a.key) x.writes a m (eq-eqb a.key.0 a.key.0 refl) in
+      let wrote : wrote_key a.key x.writes ≡ true = any_in (λ (w : Write). same_key w.key a.key) x.writes a m (eq-eqb a.key.0 a.key.0 refl) in
       let z = sg.inside a.key wrote in key_of_table scene.version scene.keys z.1 a.key (script_op scene ok x.place z.0 z.1 z.2) z.3
 
   pub committed_apart : (t u : TxId) (x y : Own) (f g : ℕ) (a b : Write) → BegunAt scene (stage_of (run scene es)) t x → BegunAt scene (stage_of (run scene es)) u y → IsCommitted x f → IsCommitted y g

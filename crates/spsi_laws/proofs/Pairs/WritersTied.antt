@@ -7,13 +7,13 @@ use Rattle.str_base.specs.declared.names.Write.{Write}
 use Rattle.str_model.proofs.Principle.SingleChanges.{Act, Path, Where, along}
 use Rattle.str_model.proofs.Principle.Everywhere.{IsSeen, Stage, at_place, during}
 use Rattle.str_model.proofs.Changes.SnapshotsGain.{Names}
-use Rattle.str_model.proofs.Lists.ListReads.{get_set, get_set_other, got_set}
-use Rattle.str_model.proofs.Lists.Members.{In}
 use Rattle.str_model.specs.Owned.{Owns}
 use Rattle.str_model.specs.Turns.{CommittedAt, own_fate}
 use Rattle.str_model.specs.Views.{Doing, Own, View, lc_of, name_of}
 use Rattle.str_model.specs.declared.messages.Input.{Input}
 use Rattle.str_scene.specs.Scenes.{Scene}
+use Rattle.str_base.proofs.Lists.{get_set, get_set_other, got_set}
+use Rattle.str_base.specs.Members.{In}
 
 -- both wrote a key
 abbrev pub Shares : Own → Own → Type 0

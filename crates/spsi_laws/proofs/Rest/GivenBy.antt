@@ -2,7 +2,6 @@
 use Rattle.std.proofs.Common.{Bool, List, None, Option, Some, [], ap, append_assoc, append-nil, arith, false, inl, inr, length, refl, replicate, slice_get, subst, suc, sym, true, zero, ℕ, ◌++◌, ◌+◌, ◌-◌, ◌∙◌, ◌∷◌, ◌≡◌, ◌⊎◌}
 use Rattle.spsi_laws.proofs.Work.WorkHolds.{run_more}
 use Rattle.str_base.specs.declared.names.NodeId.{NodeId}
-use Rattle.str_model.proofs.Lists.ListReads.{got_set}
 use Rattle.str_model.specs.Runs.{World, give, happens, opening, run}
 use Rattle.str_model.specs.Runs
 use Rattle.str_model.specs.Steps.{step}
@@ -13,18 +12,12 @@ use Rattle.str_model.specs.declared.messages.Message.{Message}
 use Rattle.str_scene.specs.declared.names.Event.{Event}
 use Rattle.str_scene.specs.declared.names.Event.TheVariants.{Client as ClientEvent, Deliver as DeliverEvent}
 use Rattle.str_scene.specs.Scenes.{Scene, Session, nth}
-
--- what was given among flags to which unset ones were added
-got_fresh : (gs : List Bool) (n j : ℕ) → slice_get (gs ++ replicate n false) j ≡ Some true → slice_get gs j ≡ Some true
-got_fresh [] zero j e = absurd (cc e)
-got_fresh [] (suc n) zero e = absurd (cc e)
-got_fresh [] (suc n) (suc j) e = got_fresh [] n j e
-got_fresh (g ∷ gs) n zero e = e
-got_fresh (g ∷ gs) n (suc j) e = got_fresh gs n j e
+use Rattle.str_base.proofs.Lists.{got_set}
+use Rattle.si_laws.proofs.Presence.DecisionsDelivered.{given_before}
 
 stepped_given : (e : Event) (i : ℕ) (w : World) (o : Option Doing) (j : ℕ) → slice_get (Runs.stepped e i w o).given j ≡ Some true → slice_get w.given j ≡ Some true
 stepped_given e i w None j q = q
-stepped_given e i w (Some d) j q = got_fresh w.given (length d.sent) j q
+stepped_given e i w (Some d) j q = given_before w.given (length d.sent) j q
 
 step_at_given : (scene : Scene) (e : Event) (n : NodeId) (input : Input) (w : World) (o : Option View) (j : ℕ) → slice_get (Runs.step_at scene e n input w o).given j ≡ Some true → slice_get w.given j ≡ Some true
 step_at_given scene e n input w None j q = q

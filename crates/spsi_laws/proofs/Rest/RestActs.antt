@@ -13,8 +13,6 @@ use Rattle.str_base.specs.declared.names.Write.{Write}
 use Rattle.str_base.specs.Versions.{of_pair, of_tx, settled, without}
 use Rattle.str_model.proofs.Principle.SingleChanges.{Act, AsksCommit, Change, IsHere, Reads, Where, act_abort, act_abort_came, act_accept, act_ack, act_ask, act_begin, act_certify, act_close, act_commit, act_commit_came, act_mark, act_put, act_refuse, act_reply, act_request, act_take, act_unwait, act_wait, asks_again, asks_new, ch_away, ch_blind, ch_close, ch_gate, ch_known, ch_read, ch_reply, ch_resolve, ch_take, ch_wait, reads_again, reads_new}
 use Rattle.str_model.proofs.Changes.SnapshotsGain.{if_elim}
-use Rattle.str_model.proofs.Lists.ListReads.{get_push, got_push, got_set}
-use Rattle.str_model.proofs.Lists.Members.{In, in_append, in_insert_all, in_map, in_without}
 use Rattle.str_model.proofs.Principle.OwnPaths.{resolve_all-sub}
 use Rattle.str_model.specs.Acts
 use Rattle.str_model.specs.Acts.{aborted, accepted, acked, asked, begun, certified, closed, commit_came, committed, copies, decided_as, fresh, in_phase, is_hosted_of, local_version, marked, pre_version, refused, replied, requested, taken, waits, with_asked}
@@ -29,6 +27,9 @@ use Rattle.str_model.specs.declared.messages.Message.{Message}
 use Rattle.str_scene.specs.Scenes.{Here, first_or, in_part, leads, others, participants, replicas}
 use Rattle.str_model.proofs.Changes.VersionChanges.{Placed, VersionStep, v_decided, v_finals, v_locals, v_pres, v_rests, v_without}
 use Rattle.str_model.specs.Owned.{Asks}
+use Rattle.str_base.proofs.Lists.{get_push, get_set, got_push, got_set}
+use Rattle.str_base.proofs.Members.{in_append, in_insert_all, in_map, in_without}
+use Rattle.str_base.specs.Members.{In}
 
 -- ---- a new Pre version
 
@@ -97,7 +98,7 @@ module _ (here : Here) (input : Input) (w : Where) where
   new_message d e (act_certify i lc snap x d' own f n c) fo m k = n_old k
   new_message d e (act_ask i lc p x d' own f l g) fo m k =
       newly d e (Acts.ask_letters here i lc x p (replicas here.scene p)) m refl
-      (λ j. let r = ask_letters_are i lc x p m j in n_ask i lc p x r.0 own.0 f l g (Rattle.str_model.proofs.Lists.ListReads.get_set d'.view.own i x (record x { parts = with_asked p x.parts; phase = Global lc }) own.0) r.1) k
+      (λ j. let r = ask_letters_are i lc x p m j in n_ask i lc p x r.0 own.0 f l g (get_set d'.view.own i x (record x { parts = with_asked p x.parts; phase = Global lc }) own.0) r.1) k
   new_message d e (act_ack i lc from t q ts parts x d' own c r g) fo m k = n_old k
   new_message d e (act_abort i cause x d' own f y) fo m k =
       newly d e (Acts.abort_letters here i x.parts) m refl

@@ -7,8 +7,6 @@ use Rattle.spsi_laws.proofs.Work.WorkHolds.{run_more}
 use Rattle.str_base.specs.declared.names.NodeId.{NodeId}
 use Rattle.str_model.proofs.Principle.StepPaths.{step-keeps}
 use Rattle.str_model.proofs.Principle.Everywhere.{at_each_event, at_place}
-use Rattle.str_model.proofs.Lists.ListReads.{got_replicate, got_set}
-use Rattle.str_model.proofs.Lists.Members.{In, in_at}
 use Rattle.std.specs.List.{sum_by}
 use Rattle.si_laws.proofs.Times.ProposalsFew.{few_proposals}
 use Rattle.si_laws.proofs.Times.TimesBounded.{bounded_}
@@ -31,6 +29,9 @@ use Rattle.str_scene.specs.declared.names.Event.TheVariants.{Client as ClientEve
 use Rattle.str_scene.specs.SceneLimits.{IsScene}
 use Rattle.str_scene.specs.Scenes.{Here, Scene, Session, nth}
 use Rattle.str_model.proofs.OwnFacts.DependenciesStand.{open_opening}
+use Rattle.str_base.proofs.Lists.{got_replicate, got_set}
+use Rattle.str_base.proofs.Members.{in_at}
+use Rattle.str_base.specs.Members.{In}
 
 pub fits_run : (scene : Scene) → IsScene scene → (es : List Event) (n : ℕ) (v : View) → slice_get (run scene es).nodes n ≡ Some v → Fit (at_place scene n) v
 fits_run scene ok es n v g =

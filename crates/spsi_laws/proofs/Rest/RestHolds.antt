@@ -9,7 +9,7 @@ use Rattle.si_laws.proofs.Stages.PreAsked.{pres_asked}
 use Rattle.si_laws.proofs.Stages.LinkedStates.{IsCertified, one_certified, one_of}
 use Rattle.si_laws.proofs.Order.OrderAtMaster.{governed}
 use Rattle.si_laws.proofs.Stages.ParticipantSeats.{seat_of, to_nth}
-use Rattle.si_laws.proofs.Sessions.SessionHolds.{get_within, good_everywhere}
+use Rattle.si_laws.proofs.Sessions.SessionHolds.{good_everywhere}
 use Rattle.si_laws.proofs.Sessions.SessionOrder.{place_after, told_in}
 use Rattle.si_laws.specs.Laws.Presence.{Holds}
 use Rattle.si_laws.specs.Standing.{Begun}
@@ -29,7 +29,6 @@ use Rattle.str_base.specs.declared.names.TxId.{TxId}
 use Rattle.str_base.specs.declared.names.Version.{Version}
 use Rattle.str_base.specs.Versions.{of_pair, same_node}
 use Rattle.str_model.proofs.Principle.Everywhere.{at_place, stage_of}
-use Rattle.str_model.proofs.Lists.Members.{In, at_in, in_filter}
 use Rattle.str_model.proofs.Changes.AnswerChanges.{IsLastOf, last_index-none, last_index-some}
 use Rattle.str_model.specs.Acts.{local_version}
 use Rattle.str_model.specs.Clients
@@ -46,12 +45,17 @@ use Rattle.str_scene.specs.declared.names.Op.{Op}
 use Rattle.str_scene.specs.declared.names.TxPlace.{TxPlace}
 use Rattle.str_scene.specs.SceneLimits.{Exists, IsScene}
 use Rattle.str_scene.specs.Scenes.{Here, Scene, Session, hosts, in_part, nth, part_of}
-use Rattle.str_model.proofs.Changes.PairWords.{same_pair, same_part-is}
+use Rattle.str_model.proofs.Changes.PairWords.{same_pair}
 use Rattle.str_model.proofs.OwnFacts.LocalOwners.{by_decided}
 use Rattle.str_model.proofs.OwnFacts.PlacesInOrder.{PlacedIn}
 use Rattle.str_model.specs.Owned.{Asks}
-use Rattle.str_model.proofs.Lists.ListCounts.{many_has}
+use Rattle.str_model.proofs.ListCounts.{many_has}
 use Rattle.str_model.proofs.OwnFacts.TurnsBelow.{Below}
+use Rattle.str_base.proofs.SameNames.{same_part-is}
+use Rattle.str_base.proofs.Members.{at_in, in_at, in_filter}
+use Rattle.str_base.proofs.Lists.{slice_get_there}
+use Rattle.str_base.specs.Members.{In}
+use Rattle.std.proofs.lemmas.Bool.{cases_eq}
 
 -- ---- where nothing is left to do
 
@@ -97,7 +101,7 @@ module _ (scene : Scene) (ok : IsScene scene) (es : List Event) (f : UnderWay sc
       asked_flag : (a : Asked) → In a y.parts → a.part ≡ q.part → a.asked ≡ true
       asked_flag a ma part =
           let h = pres_asked scene ok es n v g pos.0 q pos.1 pre in
-          (staged scene es).flags h.1 q.part m i u y a (Rattle.str_model.proofs.Lists.Members.in_at (run scene es).sent h.0 h.1 h.2) (h.3 ∙ ap (λ (t : TxId). t.node) name) (subst (λ (t : TxId). Asks t q.part h.1.body) name h.4) gu o ma part
+          (staged scene es).flags h.1 q.part m i u y a (in_at (run scene es).sent h.0 h.1 h.2) (h.3 ∙ ap (λ (t : TxId). t.node) name) (subst (λ (t : TxId). Asks t q.part h.1.body) name h.4) gu o ma part
 
       to_here : (a : Asked) → a.part ≡ q.part → a.node ≡ record { 0 = n + 1 } → SentTo (stage_of (run scene es)) a.node (name_of (at_place scene m) i) a.part → ⊥
       to_here a part node r = never (subst (λ (t : TxId). SentTo (stage_of (run scene es)) (record { 0 = n + 1 }) t q.part) (sym name) (subst₂ (λ (x : NodeId) (y : PartId). SentTo (stage_of (run scene es)) x (name_of (at_place scene m) i) y) node part r))
@@ -160,7 +164,7 @@ module _ (scene : Scene) (ok : IsScene scene) (es : List Event) (f : UnderWay sc
           qpart = (governed scene es).masters.parts m u gm k.q k.stands ∙ (ap (part_of scene) k.key ∙ wpart)
 
           open_ : is_decided z.x.phase ≡ false → ⊥
-          open_ d = by_place (Rattle.str_model.proofs.Lists.ListReads.same_or_not z.i i)
+          open_ d = by_place (cases_eq z.i i)
             where
               by_place : (z.i ≡ i) ⊎ (z.i ≢ i) → ⊥
               by_place (inl e) =
@@ -189,7 +193,7 @@ module _ (scene : Scene) (ok : IsScene scene) (es : List Event) (f : UnderWay sc
                       let pos = at_in u.versions k.q k.stands in
                       let asked = pres_asked scene ok es m u gm pos.0 k.q pos.1 k.pre in
                       let tn : k.q.tx ≡ name_of (at_place scene n) z.i = z.name ∙ (λ a. name_of (at_place scene (same_n a)) z.i) in
-                      (staged scene es).apart asked.1 b.part n z.i i v z.x x dn.0 k.w (Rattle.str_model.proofs.Lists.Members.in_at (run scene es).sent asked.0 asked.1 asked.2) (asked.3 ∙ ap (λ (t : TxId). t.node) tn)
+                      (staged scene es).apart asked.1 b.part n z.i i v z.x x dn.0 k.w (in_at (run scene es).sent asked.0 asked.1 asked.2) (asked.3 ∙ ap (λ (t : TxId). t.node) tn)
                       (subst₂ (λ (t : TxId) (r : PartId). Asks t r asked.1.body) tn qpart asked.4) g own_y d (subst (λ (a : Own). In dn.0 a.snap.deps) same dn.1) dn.2 o inx wpart
 
   uncertified : (k : ℕ) → Uncertified k
@@ -205,7 +209,7 @@ module _ (scene : Scene) (ok : IsScene scene) (es : List Event) (f : UnderWay sc
           let k = at_in x.parts a.0 a.1 in
           elim (f.answer n i k.0 lc v x a.0 g o l op k.1 a.2 a.3) [
             | u_message z ↦ none_left z
-            | u_parked m c u b gm mem tx part ↦ parked_for n i lc v x a.0.part m u b g o l op q gm (Rattle.str_model.proofs.Lists.Members.in_at u.waiters c (Held b) mem) tx part
+            | u_parked m c u b gm mem tx part ↦ parked_for n i lc v x a.0.part m u b g o l op q gm (in_at u.waiters c (Held b) mem) tx part
           ]
 
   -- nobody is certified and undecided
@@ -306,7 +310,7 @@ module _ (scene : Scene) (ok : IsScene scene) (es : List Event) (f : UnderWay sc
         by_phase (Remote k) e d =
             elim (f.reading n i v x k g o e) [
               | ru_message z ↦ none_left z
-              | ru_waits m c u l rs gm mem ↦ (let r : (q : Version) × In q u.versions × (q.kind ≡ Final → ⊥) = waits_run scene ok es m u gm (Read (name_of (at_place scene n) i) l rs) (Rattle.str_model.proofs.Lists.Members.in_at u.waiters c (Read (name_of (at_place scene n) i) l rs) mem) in all_final m u r.0 gm r.1 r.2)
+              | ru_waits m c u l rs gm mem ↦ (let r : (q : Version) × In q u.versions × (q.kind ≡ Final → ⊥) = waits_run scene ok es m u gm (Read (name_of (at_place scene n) i) l rs) (in_at u.waiters c (Read (name_of (at_place scene n) i) l rs) mem) in all_final m u r.0 gm r.1 r.2)
             ]
         by_phase (Reply k a by fc) e d = blocked d ((rests_run scene ok es n v g i x o).stuck (subst IsStuck (sym e) tt))
         by_phase CertWait e d = blocked d ((rests_run scene ok es n v g i x o).stuck (subst IsStuck (sym e) tt))
@@ -326,7 +330,7 @@ module _ (scene : Scene) (ok : IsScene scene) (es : List Event) (f : UnderWay sc
 
         some_at : (xs : List (List Op)) (k : ℕ) → 1 ≤ k → k ≤ length xs → (o : List Op) × (nth xs k ≡ Some o)
         some_at xs zero a b = absurd (omega (arith, a))
-        some_at xs (suc j) a b = get_within xs j (omega (arith, b))
+        some_at xs (suc j) a b = slice_get_there xs j (omega (arith, b))
 
         -- no transaction of the session begins
         none_begins : (here : Here) (d : Doing) (p : TxPlace) (m : ℕ) (o : Option (List Op)) → nth text.txs m ≡ o → 1 ≤ m → is_some (Clients.begin here p 0 o d) ≡ false → length text.txs < m
@@ -344,9 +348,9 @@ module _ (scene : Scene) (ok : IsScene scene) (es : List Event) (f : UnderWay sc
         answered_at n v g nd le =
             let good = (good_everywhere scene es).nodes n v g in
             let told = good.told_ place.session.0 text se nd in
-            let a = get_within (filter (told_in place.session.0) (run scene es).answers) (place.index - 1) (omega (arith, ex.0, ex.1, le)) in
+            let a = slice_get_there (filter (told_in place.session.0) (run scene es).answers) (place.index - 1) (omega (arith, ex.0, ex.1, le)) in
             let m = told.made (place.index - 1) a.0 a.1 in
-            let fl = in_filter (told_in place.session.0) (run scene es).answers a.0 (Rattle.str_model.proofs.Lists.Members.in_at (filter (told_in place.session.0) (run scene es).answers) (place.index - 1) a.0 a.1) in
+            let fl = in_filter (told_in place.session.0) (run scene es).answers a.0 (in_at (filter (told_in place.session.0) (run scene es).answers) (place.index - 1) a.0 a.1) in
             let at = at_in (run scene es).answers a.0 fl.0 in
             let ses : a.0.place.session.0 ≡ place.session.0 = eqb-true a.0.place.session.0 place.session.0 fl.1 in
             let idx : a.0.place.index ≡ place.index = omega (arith, m.1, ex.0) in
@@ -381,7 +385,7 @@ module _ (scene : Scene) (ok : IsScene scene) (es : List Event) (f : UnderWay sc
         by_node (suc n) q =
             let z = exists place.session.0 se in
             let len = (good_everywhere scene es).count in
-            let v = get_within (run scene es).nodes n (omega (arith, z.1, q, len)) in
+            let v = slice_get_there (run scene es).nodes n (omega (arith, z.1, q, len)) in
             by_last n v.0 v.1 (omega (arith, q)) (last_index (mine place.session.0) v.0.own) refl
 
 pub rest_from : (scene : Scene) → IsScene scene → (es : List Event) → UnderWay scene (run scene es) → AtRest scene (run scene es) → AllAnswered scene (run scene es)

@@ -2,14 +2,13 @@
 use Rattle.std.proofs.Common.{List, None, Option, Some, [], ap, arith, false, find, length, lt-ltb, nat_lt, refl, slice_get, slice_set, subst, suc, zero, ℕ, ◌++◌, ◌+◌, ◌<◌, ◌^◌, ◌∷◌, ◌≡◌, ◌≤◌}
 use Rattle.std.specs.List.{sum_by}
 use Rattle.si_laws.proofs.Times.TimesBounded.{StageBelow}
-use Rattle.si_laws.proofs.Times.ProposalsCounted.{acks_append, acks_in, certified_in, proposed_by, rise_act, sum_set}
+use Rattle.si_laws.proofs.Times.ProposalsCounted.{acks_append, acks_in, certified_in, proposed_by, rise_act}
 use Rattle.spsi_laws.proofs.Rest.RestPass.{NoLimit, nobody}
 use Rattle.str_base.specs.declared.names.Version.{Version}
 use Rattle.str_model.proofs.Principle.SingleChanges.{Act, InRule, InTurn, InWait, Path, PathTo, Where, along}
 use Rattle.str_model.proofs.Principle.StepPaths.{turn-path}
 use Rattle.str_model.proofs.Principle.Everywhere.{at_place, stage_of}
 use Rattle.str_model.proofs.Changes.SnapshotsGain.{if_elim}
-use Rattle.str_model.proofs.Lists.Members.{In}
 use Rattle.str_model.proofs.Principle.RulePaths.{rule-path}
 use Rattle.str_model.specs.Pass
 use Rattle.str_model.specs.Proposals.{Accept, Ignore, MasterTurn, Park, Refuse, master_turn, parks, proposed, refuses, ts_limit}
@@ -26,8 +25,10 @@ use Rattle.str_model.specs.declared.messages.Waiter.TheVariants.{Held}
 use Rattle.str_scene.specs.Scenes.{Here, Scene}
 use Rattle.str_model.proofs.ViewFacts.TimesBelow.{BodyBelow, ViewBelow, body_higher, passed_below, view_higher}
 use Rattle.str_model.proofs.ViewFacts.ChangesBelow.{view_act}
+use Rattle.str_base.proofs.Lists.{sum_by-set_got}
+use Rattle.str_base.specs.Members.{In}
 
-ignore_is : (v : View) (a : Arrived) → master_turn v a ≡ Ignore → nat_lt (proposed v a) ts_limit ≡ false
+pub ignore_is : (v : View) (a : Arrived) → master_turn v a ≡ Ignore → nat_lt (proposed v a) ts_limit ≡ false
 unfolding master_turn
 ignore_is v a e = by_refuse (find (refuses a) (met a.writes v.versions)) e
   where
@@ -81,7 +82,7 @@ run_no_limit scene w n v input r f below is seen ruled now few =
     let here : Here = at_place scene n in
     let b : ℕ = 2 ^ 62 + (sum_by (λ (u : View). certified_in u.own) w.nodes + acks_in w.sent) in
     let p : Path here input InRule (starts v) r = subst (λ (o : Option Doing). PathTo here input InRule (starts v) o) ruled (rule-path here input InRule refl (starts v)) in
-    let s = sum_set (λ (u : View). certified_in u.own) w.nodes n v f.view is in
+    let s = sum_by-set_got (λ (u : View). certified_in u.own) w.nodes n v f.view is in
     let t = acks_append w.sent f.sent in
     let one = one_of_sum (λ (u : View). certified_in u.own) w.nodes n v is in
     no_limit here b (omega arith) input v r f (λ m q. below.sent m (seen m q)) (view_higher b (b + proposed_by (starts v)) v (omega arith) (below.nodes n v is)) p (omega (arith, now, few, s, t, one))

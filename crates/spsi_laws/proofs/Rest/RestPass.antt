@@ -13,10 +13,8 @@ use Rattle.str_base.specs.declared.names.Write.{Write}
 use Rattle.str_base.specs.Versions.{insert_all, is_undecided, last_undecided, of_tx, same_key, same_node, settled, without}
 use Rattle.str_model.proofs.Principle.SingleChanges.{Act, InRule, InTurn, InWait, Path, PathTo, Touches, Where, act_abort, act_abort_came, act_accept, act_ack, act_ask, act_begin, act_certify, act_close, act_commit, act_commit_came, act_mark, act_put, act_refuse, act_reply, act_request, act_take, act_unwait, act_wait, along}
 use Rattle.str_model.proofs.Principle.StepPaths.{turn-path, wait_turns-path, waiter_turn-waited}
-use Rattle.str_model.proofs.Changes.SnapshotsGain.{and_left, and_right, if_elim, in_last}
-use Rattle.str_model.proofs.Lists.Members.{In, in_all_old, in_append, in_filter, in_flat_map, in_right}
+use Rattle.str_model.proofs.Changes.SnapshotsGain.{if_elim, in_last}
 use Rattle.str_model.proofs.Principle.RulePaths.{rule-path}
-use Rattle.str_model.proofs.Changes.AnswerChanges.{not_true}
 use Rattle.str_model.specs.Acts
 use Rattle.str_model.specs.Acts.{aborted, accepted, acked, asked, begun, certified, closed, commit_came, committed, is_hosted_of, local_version, marked, pre_version, refused, replied, requested, taken, waits, with_waiters}
 use Rattle.str_model.specs.Owned.{Owns}
@@ -35,8 +33,13 @@ use Rattle.str_model.specs.declared.messages.Input.TheVariants.{Client}
 use Rattle.str_model.specs.declared.messages.Waiter.{Waiter}
 use Rattle.str_model.specs.declared.messages.Waiter.TheVariants.{Held, Read}
 use Rattle.str_scene.specs.Scenes.{Here}
-use Rattle.str_model.proofs.Changes.PairWords.{keep_without, same_tx-is}
+use Rattle.str_model.proofs.Changes.PairWords.{keep_without}
 use Rattle.str_model.proofs.OwnFacts.TurnsBelow.{leaves}
+use Rattle.std.proofs.lemmas.Bool.{false_from_ne_true}
+use Rattle.str_base.proofs.SameNames.{same_tx-is}
+use Rattle.str_base.proofs.Tests.{and_true_left, and_true_right}
+use Rattle.str_base.proofs.Members.{in_all_old, in_append, in_filter, in_flat_map, in_right}
+use Rattle.str_base.specs.Members.{In}
 
 -- an input that brings no message
 abbrev pub nobody : Input
@@ -44,7 +47,7 @@ nobody = Client (record { 0 = 0 }) 0
 
 module _ (here : Here) where
   other_name : (i : ℕ) (q : Version) → q.tx.node.0 ≢ here.node.0 → of_tx (name_of here i) q ≡ false
-  other_name i q ne = not_true (of_tx (name_of here i) q) (λ t. ne (ap (λ (x : TxId). x.node.0) (same_tx-is q.tx (name_of here i) t)))
+  other_name i q ne = false_from_ne_true (of_tx (name_of here i) q) (λ t. ne (ap (λ (x : TxId). x.node.0) (same_tx-is q.tx (name_of here i) t)))
 
   -- outside a rule no Pre version goes, where no message comes
   pre_stays : (w : Where) (d e : Doing) → Act here nobody w d e → PreForeign here d.view → (q : Version) → In q d.view.versions → q.kind ≡ Pre → In q e.view.versions
@@ -172,7 +175,7 @@ module _ (here : Here) where
           let test = λ (z : Version). same_key z.key k && (nat_le z.ts.0 rs && is_undecided z.kind) in
           elim (in_last None (filter test vs) q r) [
             | inl z ↦ absurd (cc z)
-            | inr m ↦ (let s = in_filter test vs q m in (q, s.0, undecided_not q.kind (and_right (nat_le q.ts.0 rs) (is_undecided q.kind) (and_right (same_key q.key k) (nat_le q.ts.0 rs && is_undecided q.kind) s.1))))
+            | inr m ↦ (let s = in_filter test vs q m in (q, s.0, undecided_not q.kind (and_true_right (nat_le q.ts.0 rs) (is_undecided q.kind) (and_true_right (same_key q.key k) (nat_le q.ts.0 rs && is_undecided q.kind) s.1))))
           ]
       by_last None r t = absurd (by_visible (Rattle.str_base.specs.Versions.visible vs k rs) t)
         where
@@ -192,8 +195,8 @@ module _ (here : Here) where
           let f = find_is (parks a) (met a.writes v.versions) q r in
           let g = in_flat_map (λ (w : Write). Rattle.str_base.specs.Versions.chain w.key v.versions) a.writes q f.0 in
           let c = in_filter (λ (z : Version). same_key z.key g.0.key) v.versions q g.2 in
-          let u = and_left (is_undecided q.kind) (same_node q.tx.node a.tx.node) f.1 in
-          let n : q.tx.node.0 ≡ a.tx.node.0 = eqb-true q.tx.node.0 a.tx.node.0 (and_right (is_undecided q.kind) (same_node q.tx.node a.tx.node) f.1) in
+          let u = and_true_left (is_undecided q.kind) (same_node q.tx.node a.tx.node) f.1 in
+          let n : q.tx.node.0 ≡ a.tx.node.0 = eqb-true q.tx.node.0 a.tx.node.0 (and_true_right (is_undecided q.kind) (same_node q.tx.node a.tx.node) f.1) in
           let key : q.key.0 ≡ g.0.key.0 = eqb-true q.key.0 g.0.key.0 c.1 in
           record {
             q = q;

@@ -20,10 +20,6 @@ use Rattle.str_base.specs.declared.names.Write.{Write}
 use Rattle.str_base.specs.Versions.{same_node, same_part}
 use Rattle.str_model.proofs.Principle.SingleChanges.{Act, IsHere, Where, it_comes, it_waits}
 use Rattle.str_model.proofs.Principle.Everywhere.{IsSeen, Stage, at_place, during, everywhere, stage_of}
-use Rattle.str_model.proofs.Changes.SnapshotsGain.{and_right}
-use Rattle.str_model.proofs.Lists.ListReads.{get_push, get_set, got_replicate, got_set}
-use Rattle.str_model.proofs.Changes.VersionsMet.{filter_in}
-use Rattle.str_model.proofs.Lists.Members.{In, in_append, in_filter, in_left, in_map, in_right, map_in}
 use Rattle.str_model.specs.Acts.{asked_ones, fresh, in_phase, marks_in, with_asked}
 use Rattle.str_model.specs.Acts
 use Rattle.str_model.specs.Gates.{Ask, DepParts, dep_parts, gate_of, gate_turn}
@@ -41,9 +37,12 @@ use Rattle.str_scene.specs.declared.names.Event.{Event}
 use Rattle.str_scene.specs.Scenes.{Here, Scene, all_parts, hosts, in_part, leads, part_of, replicas, written_parts}
 use Rattle.str_model.proofs.Changes.OwnTurns.{OwnChange, o_aborts, o_acks, o_asks, o_begins, o_certifies, o_closes, o_commits, o_puts, o_rests, own_change}
 use Rattle.str_model.proofs.Changes.VersionChanges.{Placed, by_master, by_slave, version_step}
-use Rattle.str_model.proofs.Changes.PairWords.{has_at}
 use Rattle.str_model.proofs.OwnFacts.AtHome.{AckStep, OwnGood, a_new, a_old, acked_parts}
 use Rattle.str_model.specs.Owned.{Asks}
+use Rattle.str_base.proofs.Members.{any_in, filter_in, in_append, in_filter, in_left, in_map, in_right, map_in}
+use Rattle.str_base.proofs.Tests.{and_true_right}
+use Rattle.str_base.proofs.Lists.{get_push, get_set, got_replicate, got_set}
+use Rattle.str_base.specs.Members.{In}
 
 -- a version is of a certified transaction that wrote its key
 pub record OfWriter (scene : Scene) (s : Stage) (q : Version) : Type 0 where
@@ -88,7 +87,7 @@ asks_same (Commit tx r fc ms) t u p q a b = absurd a
 asks_same (Abort tx r) t u p q a b = absurd a
 
 -- who asks is certified
-asks_certified : (scene : Scene) (s : Stage) (from to : NodeId) (b : Body) (tx : TxId) (p : PartId) → Asks tx p b → Told scene s from to b → (rs : ℕ) × (lc : ℕ) × (all : List Write) × IsCertified scene s tx rs lc all
+pub asks_certified : (scene : Scene) (s : Stage) (from to : NodeId) (b : Body) (tx : TxId) (p : PartId) → Asks tx p b → Told scene s from to b → (rs : ℕ) × (lc : ℕ) × (all : List Write) × IsCertified scene s tx rs lc all
 asks_certified scene s from to (Prepare t r rs lc ws) tx p a k = (rs.0, lc.0, k.0, subst (λ (z : TxId). IsCertified scene s z rs.0 lc.0 k.0) a.0 k.1)
 asks_certified scene s from to (Replicate t r rs lc ws) tx p a k = (rs.0, lc.0, k.0, subst (λ (z : TxId). IsCertified scene s z rs.0 lc.0 k.0) a.0 k.1)
 asks_certified scene s from to (ReadReq t k rs) tx p a z = absurd a
@@ -108,7 +107,7 @@ find_is {A = A} p (x ∷ xs) a e = by_test (p x) refl (find_is p xs a) e
 
 module _ (here : Here) where
   -- who is asked next, with no dependency that wrote there
-  asks_free : (v : View) (lc : ℕ) (x : Own) (p : PartId) → gate_of here v lc x ≡ Ask p → (a : Asked) × In a x.parts × (a.part ≡ p) × (Gates.is_written (map (dep_parts here v.own) x.snap.deps) p ≡ true → ⊥)
+  asks_free : (v : View) (lc : ℕ) (x : Own) (p : PartId) → gate_of here v lc x ≡ Ask p → (a : Asked) × In a x.parts × (a.part ≡ p) × (Gates.dependency_wrote (map (dep_parts here v.own) x.snap.deps) p ≡ true → ⊥)
   unfolding gate_turn
   asks_free v lc x p e = by_ask (find (Gates.may_ask (map (dep_parts here v.own) x.snap.deps)) x.parts) refl e
     where
@@ -121,12 +120,12 @@ module _ (here : Here) where
       by_deps (d ∷ ds) k = cc k
 
       by_ask : (o : Option Asked) → find (Gates.may_ask (map (dep_parts here v.own) x.snap.deps)) x.parts ≡ o → Gates.gate_asks x.snap lc x.parts o ≡ Ask p
-          → (a : Asked) × In a x.parts × (a.part ≡ p) × (Gates.is_written (map (dep_parts here v.own) x.snap.deps) p ≡ true → ⊥)
+          → (a : Asked) × In a x.parts × (a.part ≡ p) × (Gates.dependency_wrote (map (dep_parts here v.own) x.snap.deps) p ≡ true → ⊥)
       by_ask (Some a) q k =
           let f = find_is (Gates.may_ask (map (dep_parts here v.own) x.snap.deps)) x.parts a q in
           let part : a.part ≡ p = cc k in
-          let n : not (Gates.is_written (map (dep_parts here v.own) x.snap.deps) a.part) ≡ true = and_right (not a.asked) (not (Gates.is_written (map (dep_parts here v.own) x.snap.deps) a.part)) f.1 in
-          (a, f.0, part, λ t. cc (ap (λ r. not (Gates.is_written (map (dep_parts here v.own) x.snap.deps) r)) (sym part) ∙ n, ap not t))
+          let n : not (Gates.dependency_wrote (map (dep_parts here v.own) x.snap.deps) a.part) ≡ true = and_true_right (not a.asked) (not (Gates.dependency_wrote (map (dep_parts here v.own) x.snap.deps) a.part)) f.1 in
+          (a, f.0, part, λ t. cc (ap (λ r. not (Gates.dependency_wrote (map (dep_parts here v.own) x.snap.deps) r)) (sym part) ∙ n, ap not t))
       by_ask None q k = absurd (by_deps x.snap.deps k)
 
   gate_apart : (v : View) (i j lc : ℕ) (x z : Own) (p : PartId) (dep : Dep) (wr : Write) → OwnGood here v.versions i x → gate_of here v lc x ≡ Ask p → In dep x.snap.deps → dep.seq ≡ j + 1 → Owns v j z
@@ -137,12 +136,12 @@ module _ (here : Here) where
       let ex = part_exists here.scene r.0.node r.0.part seat.hosted in
       let p0 : r.0.part.0 ≡ p.0 = ap (λ (y : PartId). y.0) r.2 in
       let inall : In p (all_parts here.scene) = map_in (λ (n : ℕ). record { 0 = n }) (range_with_len 1 (length here.scene.parts)) p.0 (range_in 1 (length here.scene.parts) p.0 (omega (arith, ex.0, p0)) (omega (arith, ex.1, p0))) in
-      let test : list_any (in_part here.scene p) z.writes ≡ true = has_at (in_part here.scene p) z.writes wr inw (eq-eqb (part_of here.scene wr.key).0 p.0 (ap (λ (y : PartId). y.0) part)) in
+      let test : list_any (in_part here.scene p) z.writes ≡ true = any_in (in_part here.scene p) z.writes wr inw (eq-eqb (part_of here.scene wr.key).0 p.0 (ap (λ (y : PartId). y.0) part)) in
       let inw : In p (written_parts here.scene z.writes) = filter_in (λ (y : PartId). list_any (in_part here.scene y) z.writes) (all_parts here.scene) p inall test in
       let idx : dep.seq - 1 ≡ j = omega (arith, s) in
       let at : slice_get v.own (dep.seq - 1) ≡ Some z = ap (λ n. slice_get v.own n) idx ∙ o in
-      let inner : list_any (same_part p) (dep_parts here v.own dep).parts ≡ true = ap (λ y. list_any (same_part p) (Gates.parts_of here y)) at ∙ has_at (same_part p) (written_parts here.scene z.writes) p inw (eq-eqb p.0 p.0 refl) in
-      r.3 (has_at (λ (d : DepParts). list_any (same_part p) d.parts) (map (dep_parts here v.own) x.snap.deps) (dep_parts here v.own dep) (map_in (dep_parts here v.own) x.snap.deps dep m) inner)
+      let inner : list_any (same_part p) (dep_parts here v.own dep).parts ≡ true = ap (λ y. list_any (same_part p) (Gates.parts_of here y)) at ∙ any_in (same_part p) (written_parts here.scene z.writes) p inw (eq-eqb p.0 p.0 refl) in
+      r.3 (any_in (λ (d : DepParts). list_any (same_part p) d.parts) (map (dep_parts here v.own) x.snap.deps) (dep_parts here v.own dep) (map_in (dep_parts here v.own) x.snap.deps dep m) inner)
 
   -- a partition that was asked stays so
   abbrev KeptFlag : Own → Asked → Type 0

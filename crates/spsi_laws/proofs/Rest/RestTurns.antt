@@ -7,7 +7,7 @@ use Rattle.dependency_set.specs.Snapshots.{Snap, accept_final, holds, oldest}
 use Rattle.si_laws.proofs.Scripts.ReadsEvaluate.{Wants}
 use Rattle.si_laws.proofs.Scripts.EvaluationKept.{AllEvaluate, gives-act}
 use Rattle.si_laws.proofs.Stages.LinkedStates.{one_of}
-use Rattle.si_laws.proofs.Times.NoRepeats.{map_length, range_length}
+use Rattle.si_laws.proofs.Times.NoRepeats.{map_length}
 use Rattle.si_laws.proofs.Stages.ParticipantSeats.{own_seat, part_exists, range_in}
 use Rattle.spsi_laws.proofs.Work.LeftHome.{HomeFit, fit-act}
 use Rattle.spsi_laws.proofs.Rest.RestActs.{pre_new}
@@ -24,9 +24,7 @@ use Rattle.str_base.specs.Values.{is_below}
 use Rattle.str_base.specs.Versions.{chain, is_pre, last_pre, same_key, same_node, same_part, visible}
 use Rattle.str_model.proofs.Principle.SingleChanges.{Act, InTurn, Needs, Where, act_ask, along, it_comes, it_waits}
 use Rattle.str_model.proofs.Principle.StepPaths.{first-path, half_turn-path, resolved_first}
-use Rattle.str_model.proofs.Changes.SnapshotsGain.{and_right, find_none, if_elim, in_last, or_false_right, visible-is}
-use Rattle.str_model.proofs.Lists.ListReads.{get_set, get_set_other}
-use Rattle.str_model.proofs.Lists.Members.{In, in_filter, in_flat_map, in_right, map_in}
+use Rattle.str_model.proofs.Changes.SnapshotsGain.{if_elim, in_last, visible-is}
 use Rattle.str_model.specs.Acts.{aborted, asked, certified, closed, committed, decided_as, in_phase, marked, requested, with_asked}
 use Rattle.str_model.specs.Gates.{Ask, CommitAt, DepParts, GateTurn, Missing, Shut, dep_parts, gate_of, gate_turn}
 use Rattle.str_model.specs.Gates
@@ -43,10 +41,15 @@ use Rattle.str_scene.specs.declared.names.Op.{Op}
 use Rattle.str_scene.specs.declared.names.Op.TheVariants.{Abort as Stop, Add, Del, Get, Need, Put, Puts}
 use Rattle.str_scene.specs.Scenes.{Here, all_parts, hosts_key, participants}
 use Rattle.str_model.proofs.Changes.VersionChanges.{Placed, by_master, by_slave, version_step}
-use Rattle.str_model.proofs.Changes.PairWords.{any_has, has_at}
+use Rattle.str_model.proofs.Changes.PairWords.{any_has}
 use Rattle.str_model.proofs.OwnFacts.LocalOwners.{Depends}
 use Rattle.str_model.proofs.OwnFacts.EarlierDependencies.{depends-act, earlier}
-use Rattle.str_model.proofs.Lists.ListCounts.{how_many, one_if}
+use Rattle.str_model.proofs.ListCounts.{how_many, one_if}
+use Rattle.std.proofs.lemmas.List.FromFn.{length-range_with_len}
+use Rattle.str_base.proofs.Members.{any_in, find_none, in_filter, in_flat_map, in_map, in_right, map_in}
+use Rattle.str_base.proofs.Tests.{and_true_right, or_false_right}
+use Rattle.str_base.proofs.Lists.{get_set, get_set_other}
+use Rattle.str_base.specs.Members.{In}
 
 -- it waits at its own node
 abbrev pub IsStuck : Phase → Type 0
@@ -147,7 +150,7 @@ module _ (here : Here) where
           let test = λ (z : Version). same_key z.key k && (nat_le z.ts.0 x.snap.rs && is_pre z.kind) in
           elim (in_last None (filter test v.versions) q r) [
             | inl z ↦ absurd (cc z)
-            | inr m ↦ (let s = in_filter test v.versions q m in s_pre q s.0 (pre_kind q.kind (and_right (nat_le q.ts.0 x.snap.rs) (is_pre q.kind) (and_right (same_key q.key k) (nat_le q.ts.0 x.snap.rs && is_pre q.kind) s.1))))
+            | inr m ↦ (let s = in_filter test v.versions q m in s_pre q s.0 (pre_kind q.kind (and_true_right (nat_le q.ts.0 x.snap.rs) (is_pre q.kind) (and_true_right (same_key q.key k) (nat_le q.ts.0 x.snap.rs && is_pre q.kind) s.1))))
           ]
       by_pre None r t = by_visible (visible v.versions k x.snap.rs) refl t
 
@@ -311,7 +314,7 @@ module _ (here : Here) where
       by_ack f (Some a) q k =
           let r = Rattle.spsi_laws.proofs.Rest.RestStages.find_is (λ (z : Asked). not (is_some z.ack)) x.parts a q in
           let m = find_none (Gates.may_ask wrote) x.parts a f r.0 in
-          (a, r.0, is_asked a.asked (ap (λ ws. not a.asked && not (Gates.is_written ws a.part)) (sym none_wrote) ∙ m), no_ack a.ack r.1)
+          (a, r.0, is_asked a.asked (ap (λ ws. not a.asked && not (Gates.dependency_wrote ws a.part)) (sym none_wrote) ∙ m), no_ack a.ack r.1)
       by_ack f None q k = absurd (nc _ (sym k))
 
       by_deps : find (Gates.may_ask wrote) x.parts ≡ None → (ds : List Dep) → x.snap.deps ≡ ds → Gates.gate_deps lc x.parts ds ≡ t → (a : Asked) × In a x.parts × (a.asked ≡ true) × (a.ack ≡ None)
@@ -363,7 +366,7 @@ module _ (here : Here) where
   unasked_most x =
       let a = many_most (open_part x.parts) (all_parts here.scene) in
       let b : length (all_parts here.scene) ≡ length (range_with_len 1 (length here.scene.parts)) = map_length (λ (n : ℕ). record { 0 = n }) (range_with_len 1 (length here.scene.parts)) in
-      let c = range_length 1 (length here.scene.parts) in
+      let c = length-range_with_len 1 (length here.scene.parts) in
       omega (arith, a, b, c)
 
   -- asking leaves fewer that are not asked
@@ -376,7 +379,7 @@ module _ (here : Here) where
       let p0 : r.0.part.0 ≡ p.0 = ap (λ (y : PartId). y.0) r.2 in
       let inall : In p (all_parts here.scene) = map_in (λ (n : ℕ). record { 0 = n }) (range_with_len 1 (length here.scene.parts)) p.0 (range_in 1 (length here.scene.parts) p.0 (omega (arith, ex.0, p0)) (omega (arith, ex.1, p0))) in
       many_one_fewer (open_part (with_asked p x.parts)) (open_part x.parts) (all_parts here.scene) p (λ q t. fewer q t) inall
-      (has_at (λ (a : Asked). same_part a.part p && not a.asked) x.parts r.0 r.1 (and_both (same_part r.0.part p) (not r.0.asked) (eq-eqb r.0.part.0 p.0 p0) (ap not r.3)))
+      (any_in (λ (a : Asked). same_part a.part p && not a.asked) x.parts r.0 r.1 (and_both (same_part r.0.part p) (not r.0.asked) (eq-eqb r.0.part.0 p.0 p0) (ap not r.3)))
       (none_now x.parts)
     where
       and_both : (a b : Bool) → a ≡ true → b ≡ true → (a && b) ≡ true
@@ -391,9 +394,9 @@ module _ (here : Here) where
       fewer : (q : PartId) → list_any (λ (a : Asked). same_part a.part q && not a.asked) (with_asked p x.parts) ≡ true → list_any (λ (a : Asked). same_part a.part q && not a.asked) x.parts ≡ true
       fewer q t =
           let m = any_has (λ (a : Asked). same_part a.part q && not a.asked) (with_asked p x.parts) t in
-          let k = Rattle.str_model.proofs.Lists.Members.in_map {A = Asked} {B = Asked} (λ (a : Asked). record a { asked = a.asked || same_part a.part p }) x.parts m.0 m.1 in
+          let k = in_map {A = Asked} {B = Asked} (λ (a : Asked). record a { asked = a.asked || same_part a.part p }) x.parts m.0 m.1 in
           let u : (same_part k.0.part q && not (k.0.asked || same_part k.0.part p)) ≡ true = ap (λ (a : Asked). same_part a.part q && not a.asked) k.2 ∙ m.2 in
-          has_at (λ (a : Asked). same_part a.part q && not a.asked) x.parts k.0 k.1 (was_open (same_part k.0.part q) k.0.asked (same_part k.0.part p) u)
+          any_in (λ (a : Asked). same_part a.part q && not a.asked) x.parts k.0 k.1 (was_open (same_part k.0.part q) k.0.asked (same_part k.0.part p) u)
 
       closed_one : (b c : Bool) → (c && not (b || c)) ≡ false
       closed_one true true = refl

@@ -4,7 +4,6 @@ use Rattle.si_laws.proofs.Dependencies.LocalsApart.{StandAfter, around_after, st
 use Rattle.si_laws.proofs.Dependencies.AroundLocal.{AroundAfter, FinalKnown, after_above, after_below, after_final, far_final, own_final, owner_at, owner_open}
 use Rattle.si_laws.proofs.Order.CertifiedVersions.{BegunAt, begun_at, begun_there, one_state}
 use Rattle.si_laws.proofs.Guards.GuardGrounds.{Grounds}
-use Rattle.si_laws.proofs.Guards.GuardSent.{same_or_other}
 use Rattle.si_laws.proofs.Guards.GuardsKept.{OpenWriter, ReadGuard, fg_none, fg_some, rg_final, rg_gone, rg_open, rg_sent}
 use Rattle.si_laws.proofs.Guards.ChainsInTime.{IsVisible, none_visible, visible_one}
 use Rattle.si_laws.proofs.Stages.LinkedStates.{one_certified, one_of}
@@ -24,7 +23,6 @@ use Rattle.str_base.specs.declared.names.TxId.{TxId}
 use Rattle.str_base.specs.declared.names.Version.{Version}
 use Rattle.str_base.specs.declared.names.Write.{Write}
 use Rattle.str_model.proofs.Principle.Everywhere.{at_place, stage_of}
-use Rattle.str_model.proofs.Lists.Members.{In, in_at}
 use Rattle.str_model.specs.Acts.{local_version}
 use Rattle.str_model.specs.Owned.{Owns}
 use Rattle.str_model.specs.Runs.{run}
@@ -36,6 +34,9 @@ use Rattle.str_scene.specs.declared.names.Event.{Event}
 use Rattle.str_model.proofs.OwnFacts.ScriptsCovered.{ScriptGood, scripts_after}
 use Rattle.str_model.proofs.OwnFacts.LocalOwners.{LocalOwner, WeakDep, same_own}
 use Rattle.str_model.proofs.Changes.MasterChanges.{one_write}
+use Rattle.str_base.proofs.Members.{in_at}
+use Rattle.str_base.proofs.SameNames.{cases_tx}
+use Rattle.str_base.specs.Members.{In}
 
 module _ (scene : Scene) (ok : IsScene scene) (es : List Event) where
   state : Answering scene (stage_of (run scene es))
@@ -104,7 +105,7 @@ module _ (scene : Scene) (ok : IsScene scene) (es : List Event) where
         pre k = absurd (after.stand.apart its q stands refl m k key)
 
         final : q.kind ≡ Final → IsIt q
-        final k = elim (same_or_other q.tx u) [ inl e ↦ absurd (known e (after.stand.finals q m k)) | inr ne ↦ absurd (apart (around q m key ne)) ]
+        final k = elim (cases_tx q.tx u) [ inl e ↦ absurd (known e (after.stand.finals q m k)) | inr ne ↦ absurd (apart (around q m key ne)) ]
           where
             known : q.tx ≡ u → FinalKnown (at_place scene n) v q → ⊥
             known e (own_final node fate) =
@@ -117,7 +118,7 @@ module _ (scene : Scene) (ok : IsScene scene) (es : List Event) where
             apart (after_above j y l t oy f names) = cc (l, k)
 
         local : q.kind ≡ LocalKind → IsIt q
-        local k = elim (same_or_other q.tx u) [ inl e ↦ (e, k, value e) | inr ne ↦ absurd (other ne (o.clear q (subst (λ (z : View). In q z.versions) (sym view_is) m) key k)) ]
+        local k = elim (cases_tx q.tx u) [ inl e ↦ (e, k, value e) | inr ne ↦ absurd (other ne (o.clear q (subst (λ (z : View). In q z.versions) (sym view_is) m) key k)) ]
           where
             value : q.tx ≡ u → q.value ≡ r.value
             value e =

@@ -6,14 +6,15 @@ use Rattle.si_laws.proofs.Stages.ParticipantSeats.{range_in}
 use Rattle.spsi_laws.proofs.Work.LeftEvents.{Ready}
 use Rattle.spsi_laws.proofs.Work.WorkHolds.{first_lowers, ready_run, run_more, step_lowers_at}
 use Rattle.spsi_laws.specs.Laws.Drain.{DrainFollows, DrainLowers, DrainRests, DrainStops, drain_from}
-use Rattle.str_model.proofs.Changes.SnapshotsGain.{find_none}
-use Rattle.str_model.proofs.Lists.Members.{In}
 use Rattle.str_model.specs.Drains.{AllGiven, AtRest, client_or_stop, drain_events, first_missing, message_or_client, moves, next_event, next_message, next_session, session_moves}
 use Rattle.str_model.specs.Runs.{World, happens, run, run_from}
 use Rattle.str_model.specs.Work.{left}
 use Rattle.str_scene.specs.declared.names.Event.{Event}
 use Rattle.str_scene.specs.declared.names.Event.TheVariants.{Client as ClientEvent, Deliver as DeliverEvent}
 use Rattle.str_scene.specs.Scenes.{Scene, Session, nth}
+use Rattle.str_base.proofs.Members.{find_none}
+use Rattle.str_base.proofs.Lists.{found_passes}
+use Rattle.str_base.specs.Members.{In}
 
 -- ---- the oldest that was not given
 
@@ -32,14 +33,6 @@ all_given : (k : ℕ) (bs : List Bool) → ((j : ℕ) (b : Bool) → slice_get b
 all_given k [] h = refl
 all_given k (true ∷ bs) h = all_given (k + 1) bs (λ j b g. h (suc j) b g)
 all_given k (false ∷ bs) h = absurd (cc (h 0 false refl))
-
-find_some : {A : Type 0} (p : A → Bool) (xs : List A) (a : A) → find p xs ≡ Some a → p a ≡ true
-find_some p [] a e = absurd (cc e)
-find_some {A = A} p (x ∷ xs) a e = by_test (p x) refl (find_some p xs a) e
-  where
-    by_test : (b : Bool) → p x ≡ b → (find p xs ≡ Some a → p a ≡ true) → (if b then Some x else find p xs) ≡ Some a → p a ≡ true
-    by_test true q rec k = let s : x ≡ a = cc k in ap p (sym s) ∙ q
-    by_test false q rec k = rec k
 
 find_nobody : {A : Type 0} (p : A → Bool) (xs : List A) → ((a : A) → p a ≡ false) → find p xs ≡ None
 find_nobody p [] h = refl
@@ -60,7 +53,7 @@ next_lowers scene w e r q = by_message (first_missing 1 w.given) refl q
     by_session None f k = absurd (cc k)
     by_session (Some s) f k =
         let is : ClientEvent (record { 0 = s }) 0 ≡ e = cc k in
-        let m = find_some (moves scene w) (range_with_len 1 (length scene.sessions)) s f in
+        let m = found_passes (moves scene w) (range_with_len 1 (length scene.sessions)) s f in
         subst (λ z. left scene (happens scene w z) < left scene w) is (step_lowers_at scene w (record { 0 = s }) 0 r m)
 
     by_message : (o : Option ℕ) → first_missing 1 w.given ≡ o → message_or_client scene w o ≡ Some e → left scene (happens scene w e) < left scene w

@@ -5,15 +5,13 @@ use Rattle.std.specs.List.{count_by, sum_by}
 use Rattle.partition_map.specs.declared.rows.Asked.{Asked}
 use Rattle.spsi_laws.proofs.Work.LeftHome.{Together, mine}
 use Rattle.spsi_laws.proofs.Work.LeftOwn.{ask_left, certified_left, few_parts_left, left_aborted, left_certified, left_committed, left_global, left_of, named_left}
-use Rattle.spsi_laws.proofs.Work.LeftSums.{count_set, sum_map_each, sum_set}
+use Rattle.spsi_laws.proofs.Work.LeftSums.{count_set, sum_map_each}
 use Rattle.str_base.specs.declared.names.Cause.{Cause}
 use Rattle.str_base.specs.declared.names.KeyId.{KeyId}
 use Rattle.str_base.specs.declared.names.NodeId.{NodeId}
 use Rattle.str_base.specs.declared.names.PartId.{PartId}
 use Rattle.dependency_set.specs.Snapshots.{Snap}
 use Rattle.dependency_set.specs.declared.names.Dep.{Dep}
-use Rattle.str_model.proofs.Changes.SnapshotsGain.{and_left}
-use Rattle.str_model.proofs.Lists.Members.{In}
 use Rattle.str_model.specs.Acts.{abort_letters, aborted, ask_letters, asked, asked_ones, certified, closed, commit_letters, committed, decided_as, in_phase, marked, marks_in, requested, with_asked}
 use Rattle.str_model.specs.Gates.{Ask, DepParts, GateTurn, gate_turn}
 use Rattle.str_model.specs.Gates
@@ -26,6 +24,10 @@ use Rattle.str_scene.specs.declared.names.TxPlace.{TxPlace}
 use Rattle.str_scene.specs.Scenes.{Here, Scene, first_or, leads, others, participants, replicas}
 use Rattle.str_model.proofs.OwnFacts.ScriptsCovered.{ScriptGood}
 use Rattle.str_model.proofs.OwnFacts.AtHome.{OwnGood}
+use Rattle.str_base.proofs.Tests.{and_true_left}
+use Rattle.str_base.proofs.Lists.{sum_by-set_got}
+use Rattle.str_base.specs.Members.{In}
+use Rattle.std.proofs.lemmas.Bool.{not-true}
 
 -- what messages count for
 unfoldable pub weights : Scene → List Message → ℕ
@@ -92,7 +94,7 @@ module _ (here : Here) where
   eases_own d e i x y ms g c o q p w s l =
       record {
         less =
-            let a = sum_set (left_of here) d.view.own i x y o in
+            let a = sum_by-set_got (left_of here) d.view.own i x y o in
             let b : sum_by (left_of here) e.view.own ≡ sum_by (left_of here) (slice_set d.view.own i y) = ap (λ xs. sum_by (left_of here) xs) q in
             let k : waits_left here.scene e.view.waiters ≡ waits_left here.scene d.view.waiters = ap (waits_left here.scene) w in
             let m : weights here.scene e.sent ≡ weights here.scene d.sent + weights here.scene ms = ap (weights here.scene) s ∙ weights_append here.scene d.sent ms in
@@ -200,10 +202,6 @@ module _ (here : Here) where
   unfolding gate_turn
   asks_one snap lc parts wrote p e = by_ask (find (Gates.may_ask wrote) parts) refl e
     where
-      not_so : (b : Bool) → not b ≡ true → b ≡ false
-      not_so true q = absurd (cc q)
-      not_so false q = refl
-
       by_ack : (o : Option Asked) → Gates.gate_acks lc parts o ≡ Ask p → ⊥
       by_ack (Some a) k = cc k
       by_ack None k = cc k
@@ -215,7 +213,7 @@ module _ (here : Here) where
       by_ask : (o : Option Asked) → find (Gates.may_ask wrote) parts ≡ o → Gates.gate_asks snap lc parts o ≡ Ask p → (a : Asked) × In a parts × (a.part ≡ p) × (a.asked ≡ false)
       by_ask (Some a) q k =
           let f = find_is (Gates.may_ask wrote) parts a q in
-          (a, f.0, (let s : a.part ≡ p = cc k in s), not_so a.asked (and_left (not a.asked) (not (Gates.is_written wrote a.part)) f.1))
+          (a, f.0, (let s : a.part ≡ p = cc k in s), not-true a.asked (and_true_left (not a.asked) (not (Gates.dependency_wrote wrote a.part)) f.1))
       by_ask None q k = absurd (by_deps snap.deps k)
 
   -- a partition is asked

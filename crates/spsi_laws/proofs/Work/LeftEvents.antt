@@ -1,7 +1,6 @@
 -- Each event that is not idle leaves less: at least 1 less than before with the message that it gives.
 use Rattle.std.proofs.Common.{Bool, List, None, Option, Some, [], add-one, ap, arith, eqb-true, false, length, refl, replicate, slice_get, slice_set, sub-one, subst, suc, sym, true, zero, ℕ, ◌++◌, ◌+◌, ◌-◌, ◌∙◌, ◌∷◌, ◌≡◌, ◌≢◌, ◌≤◌}
 use Rattle.std.specs.List.{count_by}
-use Rattle.si_laws.proofs.Sessions.SessionHolds.{get_within}
 use Rattle.spsi_laws.proofs.Work.LeftActs.{owns_left, todo, waits_left, weights, weights_cons, weights_none}
 use Rattle.spsi_laws.proofs.Work.LeftHome.{mine}
 use Rattle.spsi_laws.proofs.Work.LeftOwn.{left_of}
@@ -11,9 +10,6 @@ use Rattle.spsi_laws.proofs.Work.LeftWorld.{Even, Sound, StepLeaves, begun_set, 
 use Rattle.str_base.specs.declared.names.NodeId.{NodeId}
 use Rattle.str_base.specs.declared.names.SessionId.{SessionId}
 use Rattle.str_model.proofs.Principle.Everywhere.{at_place}
-use Rattle.str_model.proofs.Lists.ListReads.{set_got}
-use Rattle.str_model.proofs.Lists.Members.{in_at}
-use Rattle.str_model.proofs.Changes.AnswerChanges.{not_true}
 use Rattle.str_model.specs.Runs.{World, give, happens}
 use Rattle.str_model.specs.Runs
 use Rattle.str_model.specs.Steps.{step}
@@ -26,6 +22,10 @@ use Rattle.str_scene.specs.declared.names.Event.{Event}
 use Rattle.str_scene.specs.declared.names.Event.TheVariants.{Client as ClientEvent, Deliver as DeliverEvent}
 use Rattle.str_scene.specs.Scenes.{Here, Scene, Session, nth}
 use Rattle.str_model.proofs.OwnFacts.PlacesInOrder.{InOrder}
+use Rattle.std.proofs.lemmas.Bool.{false_from_ne_true}
+use Rattle.str_base.proofs.Lists.{set_got, slice_get_there}
+use Rattle.str_base.proofs.Members.{in_at}
+use Rattle.std.proofs.lemmas.List.{length-set}
 
 less_one : (j : ℕ) → suc j - 1 ≡ j
 less_one j = omega arith
@@ -75,7 +75,7 @@ module _ (scene : Scene) (vs : List View) (order : (n : ℕ) (v : View) → slic
     where
       elsewhere : (j : ℕ) (u : View) → j ≢ i → slice_get vs j ≡ Some u → count_by (mine s) u.own ≡ 0
       elsewhere j u ne k =
-          count_none (mine s) u.own (λ m x o. not_true (mine s x) (λ t.
+          count_none (mine s) u.own (λ m x o. false_from_ne_true (mine s x) (λ t.
           let p = (order j u k).placed m x o in
           let e : x.place.session.0 ≡ s = eqb-true x.place.session.0 s t in
           let both : Some p.text ≡ Some text = sym p.session ∙ (ap (λ n. nth scene.sessions n) e ∙ se) in
@@ -188,7 +188,7 @@ module _ (scene : Scene) where
       by_session (Some text) = step_at_outcome (ClientEvent s t) text.node (Client s t) w (nth w.nodes text.node.0) r refl
 
   given_ready : (i : ℕ) (w : World) → Ready scene w → Ready scene (give i w)
-  given_ready i w r = record { sound = r.sound; order = r.order; even = Rattle.si_laws.proofs.Sessions.SessionHolds.length_set w.given (i - 1) true ∙ r.even }
+  given_ready i w r = record { sound = r.sound; order = r.order; even = length-set w.given (i - 1) true ∙ r.even }
 
   -- a delivery: before it the message counts as given
   pub deliver_outcome : (w : World) (i : ℕ) (m : Message) → Ready scene w → nth w.sent i ≡ Some m → Outcome scene (DeliverEvent i) (give i w) (happens scene w (DeliverEvent i)) (body_weight scene m.body)
@@ -221,7 +221,7 @@ module _ (scene : Scene) where
   was_sent w zero b e g = absurd (cc g)
   was_sent w (suc j) b e g =
       let l = Rattle.std.proofs.lemmas.Option.slice_get_within w.given j b g in
-      let r = get_within w.sent j (omega (arith, l, e)) in (r.0, r.1)
+      let r = slice_get_there w.sent j (omega (arith, l, e)) in (r.0, r.1)
 
   -- one that was not sent gives nothing
   pub deliver_nothing : (w : World) (i : ℕ) → nth w.sent i ≡ None → Outcome scene (DeliverEvent i) w (happens scene w (DeliverEvent i)) 0

@@ -10,8 +10,6 @@ use Rattle.str_base.specs.declared.names.PartId.{PartId}
 use Rattle.str_base.specs.declared.names.Write.{Write}
 use Rattle.str_base.specs.Versions.{same_part}
 use Rattle.str_model.proofs.Principle.SingleChanges.{Act, Arrives, IsMasters, NextPlace, Where, a_prepare, a_read, is_first, is_next}
-use Rattle.str_model.proofs.Lists.ListReads.{got_push, got_set}
-use Rattle.str_model.proofs.Lists.Members.{In, in_append, in_flat_map, in_map}
 use Rattle.str_model.proofs.Changes.AnswerChanges.{TellStep, last_index-none, t_begins, t_decides, t_goes, t_rests, tell_step}
 use Rattle.str_model.specs.Acts.{decided_as, fresh, with_asked}
 use Rattle.str_model.specs.Clients.{last_index}
@@ -28,7 +26,10 @@ use Rattle.str_model.proofs.OwnFacts.ScriptsCovered.{AllScripts, script-act}
 use Rattle.str_model.proofs.Changes.VersionChanges.{WaitStep, w_fewer, w_more, wait_step}
 use Rattle.str_model.proofs.Changes.PairChanges.{AtMaster}
 use Rattle.str_model.proofs.OwnFacts.AtHome.{AckStep, AckedParts, AtHome, a_new, a_old, acked_parts, home-step}
-use Rattle.str_model.proofs.Lists.ListCounts.{one_if}
+use Rattle.str_model.proofs.ListCounts.{one_if}
+use Rattle.str_base.proofs.Lists.{got_push, got_set}
+use Rattle.str_base.proofs.Members.{in_append, in_flat_map, in_map}
+use Rattle.str_base.specs.Members.{In}
 
 -- ---- asked together
 

@@ -7,7 +7,7 @@ use Rattle.partition_map.specs.declared.rows.Asked.{Asked}
 use Rattle.si_laws.proofs.Times.NoRepeats.{map_length}
 use Rattle.si_laws.proofs.Stages.ParticipantSeats.{flat_map_in}
 use Rattle.spsi_laws.proofs.Work.LeftHome.{Together}
-use Rattle.spsi_laws.proofs.Work.LeftSums.{filter_few, length_flat, sum_at_least, sum_filter_less, sum_map_each}
+use Rattle.spsi_laws.proofs.Work.LeftSums.{sum_at_least, sum_filter_less, sum_map_each}
 use Rattle.str_base.specs.Values.{is_below}
 use Rattle.str_base.specs.declared.names.KeyId.{KeyId}
 use Rattle.str_base.specs.declared.names.NodeId.{NodeId}
@@ -20,7 +20,6 @@ use Rattle.str_base.specs.declared.names.Write.{Write}
 use Rattle.str_base.specs.Versions.{same_key, same_part}
 use Rattle.dependency_set.specs.Snapshots.{Snap}
 use Rattle.str_model.proofs.Changes.SnapshotsGain.{if_elim}
-use Rattle.str_model.proofs.Lists.Members.{In, in_at, in_filter, in_map, map_in}
 use Rattle.str_model.specs.Acts.{asked_ones, fresh, with_asked}
 use Rattle.str_model.specs.Scripts.{finish, finish_next, noted, own_op}
 use Rattle.str_model.specs.Views.{Aborted, Active, CertWait, Closing, Committed, Global, Local, Own, Phase, ReadWait, Remote, Reply, is_certified, is_decided, lc_of}
@@ -31,9 +30,13 @@ use Rattle.str_scene.specs.declared.names.TxPlace.{TxPlace}
 use Rattle.str_scene.specs.Scenes.{Here, all_parts, in_part, others, participants, replicas, script_at, unasked, written_parts}
 use Rattle.str_model.specs.Owned.{wrote_key}
 use Rattle.str_model.proofs.OwnFacts.ScriptsCovered.{ScriptGood, WritesKey}
-use Rattle.str_model.proofs.Changes.PairWords.{any_has, has_at}
+use Rattle.str_model.proofs.Changes.PairWords.{any_has}
 use Rattle.str_model.proofs.OwnFacts.AtHome.{OwnGood, seats}
-use Rattle.str_model.proofs.Lists.ListCounts.{how_many, many_append, one_if}
+use Rattle.str_model.proofs.ListCounts.{how_many, many_append, one_if}
+use Rattle.std.proofs.lemmas.List.Concat.{length-flat_map}
+use Rattle.str_base.proofs.Members.{any_in, in_at, in_filter, in_flat_map, in_map, map_in}
+use Rattle.str_base.proofs.Lists.{length-filter-le}
+use Rattle.str_base.specs.Members.{In}
 
 -- what an own transaction counts for
 unfoldable pub left_of : Here → Own → ℕ
@@ -178,7 +181,7 @@ module _ (here : Here) where
       by_lc (Some lc) e =
           let a = left_certified x lc e f in
           let b = sum_at_least part_left x.parts (λ (z : Asked). one_at_least z.asked) in
-          let c = filter_few (λ (z : Asked). z.asked) x.parts in
+          let c = length-filter-le (λ (z : Asked). z.asked) x.parts in
           omega (arith, a, b, c)
         where
           one_at_least : (b : Bool) → 1 ≤ (if b then 1 else 3)
@@ -222,19 +225,19 @@ module _ (here : Here) where
   fewer_parts x g =
       let f = λ (p : PartId). map (unasked p) (others here.node (replicas here.scene p)) in
       let ops : List Op = script_at here.scene x.place in
-      let a = length_flat f (written_parts here.scene x.writes) in
-      let b = length_flat f (written_parts here.scene (flat_map may_write ops)) in
+      let a = length-flat_map f (written_parts here.scene x.writes) in
+      let b = length-flat_map f (written_parts here.scene (flat_map may_write ops)) in
       let c = sum_filter_less (λ p. length (f p)) (λ (p : PartId). list_any (in_part here.scene p) x.writes) (λ (p : PartId). list_any (in_part here.scene p) (flat_map may_write ops)) (all_parts here.scene) named in
       omega (arith, a, b, c)
     where
       named : (p : PartId) → list_any (in_part here.scene p) x.writes ≡ true → list_any (in_part here.scene p) (flat_map may_write (script_at here.scene x.place)) ≡ true
       named p e =
           let r = any_has (in_part here.scene p) x.writes e in
-          let t : wrote_key r.0.key x.writes ≡ true = has_at (λ (w : Write). same_key w.key r.0.key) x.writes r.0 r.1 (eq-eqb r.0.key.0 r.0.key.0 refl) in
+          let t : wrote_key r.0.key x.writes ≡ true = any_in (λ (w : Write). same_key w.key r.0.key) x.writes r.0 r.1 (eq-eqb r.0.key.0 r.0.key.0 refl) in
           let o = g.inside r.0.key t in
           let m : In (record { key = r.0.key; value = Absent }) (flat_map may_write (script_at here.scene x.place)) =
           flat_map_in may_write (script_at here.scene x.place) o.1 (record { key = r.0.key; value = Absent }) (in_at (script_at here.scene x.place) o.0 o.1 o.2) (writes_in o.1 r.0.key o.3) in
-          has_at (in_part here.scene p) (flat_map may_write (script_at here.scene x.place)) (record { key = r.0.key; value = Absent }) m r.2
+          any_in (in_part here.scene p) (flat_map may_write (script_at here.scene x.place)) (record { key = r.0.key; value = Absent }) m r.2
 
   pub certified_left : (x : Own) (lc : ℕ) (s : Snap) → ScriptGood here x
       → left_of here (record x { snap = s; parts = participants here.scene here.node x.writes; phase = Local lc }) ≤ named_left here x.place
@@ -279,7 +282,7 @@ module _ (here : Here) where
   -- the partition of a participant is one of those written
   part_written : (ps : List PartId) (n : NodeId) (a : Asked) → In a (flat_map (λ (q : PartId). map (unasked q) (others n (replicas here.scene q))) ps) → In a.part ps
   part_written ps n a h =
-      let r = Rattle.str_model.proofs.Lists.Members.in_flat_map (λ (q : PartId). map (unasked q) (others n (replicas here.scene q))) ps a h in
+      let r = in_flat_map (λ (q : PartId). map (unasked q) (others n (replicas here.scene q))) ps a h in
       let m = in_map (unasked r.0) (others n (replicas here.scene r.0)) a r.2 in
       subst (λ (z : PartId). In z ps) (ap (λ (z : Asked). z.part) m.2) r.1
 

@@ -14,9 +14,6 @@ use Rattle.dependency_set.specs.Snapshots.{Snap}
 use Rattle.str_model.proofs.Principle.SingleChanges.{InTurn, InWait, IsMasters, Path, Where, act_ask, along}
 use Rattle.str_model.proofs.Principle.StepPaths.{first-path, half_turn-path, resolved_first, turn-path, waiter_turn-waited}
 use Rattle.str_model.proofs.Changes.SnapshotsGain.{if_elim}
-use Rattle.str_model.proofs.Lists.ListReads.{get_set}
-use Rattle.str_model.proofs.Lists.Members.{In, in_right}
-use Rattle.str_model.proofs.Changes.AnswerChanges.{not_true}
 use Rattle.str_model.specs.Acts.{aborted, accepted, asked, copies, in_phase, marked, placed, refused, replied, with_waiters}
 use Rattle.str_model.specs.Gates.{Ask, CommitAt, GateTurn, Missing, Shut, dep_parts, gate_of}
 use Rattle.str_model.specs.Pass
@@ -35,6 +32,10 @@ use Rattle.str_model.specs.declared.messages.Waiter.TheVariants.{Held, Read}
 use Rattle.str_scene.specs.declared.names.Op.{Op}
 use Rattle.str_scene.specs.declared.names.Op.TheVariants.{Abort as Stop, Add, Del, Get, Need, Put, Puts}
 use Rattle.str_scene.specs.Scenes.{Here, leads, others, replicas}
+use Rattle.std.proofs.lemmas.Bool.{false_from_ne_true}
+use Rattle.str_base.proofs.Lists.{get_set}
+use Rattle.str_base.proofs.Members.{in_right}
+use Rattle.str_base.specs.Members.{In}
 
 -- the place stays
 pub finish_place : (op : Op) (v : Value) (x : Own) → (finish op v x).place ≡ x.place
@@ -66,7 +67,7 @@ fewer_by_one : (n o : NodeId) (rs : List NodeId) → leads n rs ≡ true → sam
 fewer_by_one n o [] e f = absurd (cc e)
 fewer_by_one n o (r ∷ rs) e f =
     let is : r.0 ≡ n.0 = eqb-true r.0 n.0 e in
-    let apart : same_node r o ≡ false = not_true (same_node r o) (λ q. cc (eq-eqb o.0 n.0 (sym (eqb-true r.0 o.0 q) ∙ is), f)) in
+    let apart : same_node r o ≡ false = false_from_ne_true (same_node r o) (λ q. cc (eq-eqb o.0 n.0 (sym (eqb-true r.0 o.0 q) ∙ is), f)) in
     let b = filter_both (λ (z : NodeId). not (same_node z o)) (λ (z : NodeId). not (same_node z n)) rs in
     rw (e, apart) (omega (arith, b))
 

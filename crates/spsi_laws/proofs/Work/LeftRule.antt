@@ -19,7 +19,7 @@ use Rattle.str_base.specs.declared.names.Write.{Write}
 use Rattle.str_base.specs.Versions.{same_key, same_node, same_part, stamp}
 use Rattle.dependency_set.specs.Snapshots.{Snap}
 use Rattle.str_model.proofs.Principle.SingleChanges.{Comes, InRule, IsMasters, NextPlace, is_first, is_next}
-use Rattle.str_model.proofs.Changes.SnapshotsGain.{and_left, and_right, if_elim}
+use Rattle.str_model.proofs.Changes.SnapshotsGain.{if_elim}
 use Rattle.str_model.proofs.Principle.RulePaths.{evict-path}
 use Rattle.str_model.specs.Acts.{abort_came, aborted, accepted, acked, asked_ones, begun, commit_came, copies, in_phase, marked, refused, replied, taken, waits}
 use Rattle.str_model.specs.Arrivals
@@ -50,6 +50,8 @@ use Rattle.str_scene.specs.declared.names.Op.{Op}
 use Rattle.str_scene.specs.declared.names.Op.TheVariants.{Abort as Stop, Add, Del, Get, Need, Put, Puts}
 use Rattle.str_scene.specs.declared.names.TxPlace.{TxPlace}
 use Rattle.str_scene.specs.Scenes.{Here, Scene, Session, hosts_key, is_master, nth, replicas}
+use Rattle.str_base.proofs.Tests.{and_true_left, and_true_right}
+use Rattle.std.proofs.lemmas.Bool.{not-true}
 
 -- what an input counts for
 abbrev pub credit : Scene → Input → ℕ
@@ -224,17 +226,13 @@ module _ (here : Here) where
       (Some (Arrivals.serve_done here tx k rs (serve_turn d.view.versions k rs) (marked k rs d))) None
       (λ e. r_eased (then_eases here d (marked k rs d) (Arrivals.serve_done here tx k rs (serve_turn d.view.versions k rs) (marked k rs d)) 1 2 (eases_mark here k rs d) (serve_ruled tx k rs (serve_turn d.view.versions k rs) (marked k rs d)))) (λ e. tt)
 
-  not_is : (b : Bool) → not b ≡ true → b ≡ false
-  not_is true e = absurd (cc e)
-  not_is false e = refl
-
   judges : (a : Arrived) (d : Doing) → prepare_turn here d.view a ≢ Ignore → IsMasters here a
   unfolding prepare_turn
   judges a d =
       if_elim (λ t. t ≢ Ignore → IsMasters here a)
       (is_master here.scene here.node a.part && (not (same_node a.tx.node here.node) && not (Proposals.is_known d.view a.tx a.part || Proposals.is_parked d.view a.tx a.part)))
       (Proposals.master_turn d.view a) Ignore
-      (λ e h. record { master = and_left _ _ e; foreign = not_is (same_node a.tx.node here.node) (and_left _ _ (and_right _ _ e)) })
+      (λ e h. record { master = and_true_left _ _ e; foreign = not-true (same_node a.tx.node here.node) (and_true_left _ _ (and_true_right _ _ e)) })
       (λ e h. absurd (h refl))
 
   master_ruled : (a : Arrived) (t : MasterTurn) (d : Doing) → (t ≢ Ignore → IsMasters here a) → RuledTo here d (prepare_weight here.scene a.tx a.part) (Arrivals.master_done here a t d)

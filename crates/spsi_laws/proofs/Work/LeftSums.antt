@@ -2,24 +2,11 @@
 use Rattle.std.proofs.Common.{Bool, List, None, Option, Some, [], ap, arith, cond, drop, false, filter, flat_map, inl, inr, length, map, not, refl, replicate, slice_get, slice_set, suc, sym, true, zero, ℕ, ◌*◌, ◌++◌, ◌+◌, ◌<◌, ◌∙◌, ◌∷◌, ◌≡◌, ◌≤◌}
 use Rattle.std.proofs.lemmas.List.Sums.{sum_by-cons}
 use Rattle.std.specs.List.{count_by, sum_by}
-use Rattle.str_model.proofs.Lists.ListCounts.{one_if}
+use Rattle.str_model.proofs.ListCounts.{one_if}
+use Rattle.std.proofs.lemmas.List.Concat.{length-flat_map}
+use Rattle.str_base.proofs.Lists.{drop_there, length-filter-le, sum_by-set_got}
 
 -- ---- sums
-
--- a write
-pub sum_set : {A : Type 0} (f : A → ℕ) (xs : List A) (i : ℕ) (x y : A) → slice_get xs i ≡ Some x → sum_by f (slice_set xs i y) + f x ≡ sum_by f xs + f y
-sum_set f [] i x y e = absurd (cc e)
-sum_set f (z ∷ xs) zero x y e =
-    let q : z ≡ x = cc e in
-    let a = sum_by-cons f y xs in
-    let b = sum_by-cons f z xs in
-    let c : f z ≡ f x = ap f q in
-    omega arith
-sum_set f (z ∷ xs) (suc i) x y e =
-    let r = sum_set f xs i x y e in
-    let a = sum_by-cons f z (slice_set xs i y) in
-    let b = sum_by-cons f z xs in
-    omega arith
 
 -- each counts for as much
 pub sum_map_each : {A B : Type 0} (f : B → ℕ) (g : A → B) (n : ℕ) (xs : List A) → ((x : A) → f (g x) ≡ n) → sum_by f (map g xs) ≡ n * length xs
@@ -41,14 +28,6 @@ sum_at_least f (x ∷ xs) h =
     let a = sum_by-cons f x xs in
     let b = h x in
     omega (arith, r, a, b)
-
-pub filter_few : {A : Type 0} (p : A → Bool) (xs : List A) → length (filter p xs) ≤ length xs
-filter_few p [] = omega arith
-filter_few p (x ∷ xs) = by_test (p x) (filter_few p xs)
-  where
-    by_test : (b : Bool) → length (filter p xs) ≤ length xs → length (cond b (x ∷ filter p xs) (filter p xs)) ≤ suc (length xs)
-    by_test true r = omega (arith, r)
-    by_test false r = omega (arith, r)
 
 -- ---- counts
 
@@ -90,29 +69,7 @@ count_none p (x ∷ xs) h =
     let b : one_if (p x) ≡ 0 = ap one_if (h 0 x refl) in
     omega (arith, r, a, b)
 
--- one counted more where a list grows at its end
-pub count_more : {A : Type 0} (p : A → Bool) (xs : List A) (y : A) → count_by p (xs ++ y ∷ []) ≤ count_by p xs + 1
-count_more p xs y = by_test (p y) (count_push p xs y)
-  where
-    by_test : (b : Bool) → count_by p (xs ++ y ∷ []) ≡ count_by p xs + one_if b → count_by p (xs ++ y ∷ []) ≤ count_by p xs + 1
-    by_test true e = omega (arith, e)
-    by_test false e = omega (arith, e)
-
--- what is left from a place on begins with what stands there
-pub drop_place : {A : Type 0} (xs : List A) (c : ℕ) (x : A) → slice_get xs c ≡ Some x → drop c xs ≡ x ∷ drop (suc c) xs
-drop_place [] c x e = absurd (cc e)
-drop_place (y ∷ xs) zero x e = let q : y ≡ x = cc e in ap (λ z. z ∷ xs) q
-drop_place (y ∷ xs) (suc c) x e = drop_place xs c x e
-
 -- ---- lengths
-
-pub length_flat : {A B : Type 0} (f : A → List B) (xs : List A) → length (flat_map f xs) ≡ sum_by (λ x. length (f x)) xs
-length_flat f [] = refl
-length_flat f (x ∷ xs) =
-    let r = length_flat f xs in
-    let a = Rattle.std.proofs.Common.length-append (f x) (flat_map f xs) in
-    let b = sum_by-cons (λ x. length (f x)) x xs in
-    omega (arith, r, a, b)
 
 -- fewer of a list that is filtered by a stronger test count for less
 pub sum_filter_less : {A : Type 0} (f : A → ℕ) (p q : A → Bool) (xs : List A) → ((x : A) → p x ≡ true → q x ≡ true) → sum_by f (filter p xs) ≤ sum_by f (filter q xs)

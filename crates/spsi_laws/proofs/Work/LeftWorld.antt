@@ -3,13 +3,13 @@ use Rattle.std.proofs.Common.{Bool, List, None, Option, Some, [], add-one, add-s
 use Rattle.std.proofs.lemmas.List.Sums.{sum_by-cons}
 use Rattle.std.specs.List.{count_by, sum_by}
 use Rattle.si_laws.proofs.Stages.ParticipantSeats.{own_seat}
-use Rattle.si_laws.proofs.Sessions.SessionHolds.{length_copies, length_set}
+use Rattle.si_laws.proofs.Sessions.SessionHolds.{length_copies}
 use Rattle.spsi_laws.proofs.Work.LeftActs.{Eases, asks_one, owns_left, todo, waits_left, weights, weights_append}
 use Rattle.spsi_laws.proofs.Work.LeftHome.{HomeFit, fit-act, mine}
 use Rattle.spsi_laws.proofs.Work.LeftOwn.{left_fresh, left_of}
 use Rattle.spsi_laws.proofs.Work.LeftPass.{fit_path, pass_eased, pass_fit, waits_eased}
 use Rattle.spsi_laws.proofs.Work.LeftRule.{BeginsOne, Ruled, RuledTo, credit, r_begins, r_eased, rule_ruled}
-use Rattle.spsi_laws.proofs.Work.LeftSums.{count_push, drop_place, sum_set}
+use Rattle.spsi_laws.proofs.Work.LeftSums.{count_push}
 use Rattle.str_base.specs.declared.names.NodeId.{NodeId}
 use Rattle.str_base.specs.declared.names.PartId.{PartId}
 use Rattle.str_base.specs.Versions.{same_node}
@@ -17,10 +17,7 @@ use Rattle.partition_map.specs.declared.rows.Asked.{Asked}
 use Rattle.str_model.proofs.Principle.SingleChanges.{Act, InRule, PathTo, Where, act_abort, act_abort_came, act_accept, act_ack, act_ask, act_begin, act_certify, act_close, act_commit, act_commit_came, act_mark, act_put, act_refuse, act_reply, act_request, act_take, act_unwait, act_wait}
 use Rattle.str_model.proofs.Principle.StepPaths.{StepPath, step-keeps}
 use Rattle.str_model.proofs.Principle.Everywhere.{IsSeen, Stage, at_place, during, steps_everywhere}
-use Rattle.str_model.proofs.Lists.ListReads.{got_replicate, got_set}
-use Rattle.str_model.proofs.Lists.Members.{In, in_append, in_map}
 use Rattle.str_model.proofs.Principle.RulePaths.{rule-path}
-use Rattle.str_model.proofs.Changes.AnswerChanges.{not_true}
 use Rattle.str_model.specs.Acts.{abort_letters, aborted, accepted, acked, asked, asked_ones, begun, certified, closed, commit_came, commit_letters, committed, copies, fresh, marked, marks_in, refused, replied, requested, taken, waits}
 use Rattle.str_model.specs.Acts
 use Rattle.str_model.specs.Gates.{dep_parts}
@@ -41,7 +38,12 @@ use Rattle.str_scene.specs.declared.names.Event.TheVariants.{Client as ClientEve
 use Rattle.str_scene.specs.declared.names.Op.{Op}
 use Rattle.str_scene.specs.declared.names.TxPlace.{TxPlace}
 use Rattle.str_scene.specs.Scenes.{Here, Scene, Session, first_or, in_part, leads, nth, ops_at, or_none, others, replicas, script_at}
-use Rattle.str_model.proofs.Lists.ListCounts.{one_if}
+use Rattle.str_model.proofs.ListCounts.{one_if}
+use Rattle.std.proofs.lemmas.Bool.{false_from_ne_true}
+use Rattle.str_base.proofs.Lists.{drop_there, got_replicate, got_set, sum_by-set_got}
+use Rattle.str_base.proofs.Members.{in_append, in_map}
+use Rattle.str_base.specs.Members.{In}
+use Rattle.std.proofs.lemmas.List.{length-set}
 
 -- ---- a whole step
 
@@ -100,7 +102,7 @@ module _ (here : Here) (input : Input) where
         node = node;
         script = at_number b.text.txs b.place.index (count_by (mine s) v.own) b.ops b.script b.number;
         one_more = counts s ∙ ap (λ z. count_by (mine s) v.own + one_if z) (eq-eqb s s refl);
-        same = λ n ne. counts n ∙ (ap (λ z. count_by (mine n) v.own + one_if z) (not_true (b.place.session.0 == n) (λ q. ne (sym (eqb-true b.place.session.0 n q)))) ∙ plus_zero (count_by (mine n) v.own));
+        same = λ n ne. counts n ∙ (ap (λ z. count_by (mine n) v.own + one_if z) (false_from_ne_true (b.place.session.0 == n) (λ q. ne (sym (eqb-true b.place.session.0 n q)))) ∙ plus_zero (count_by (mine n) v.own));
         less =
             let a = l.less in
             let t : todo here r ≡ todo here (starts v) + left_of here (fresh b.place b.rs) = ap (todo here) b.is ∙ begun_todo b.place b.rs (starts v) in
@@ -147,7 +149,7 @@ module _ (here : Here) (input : Input) (w : Where) where
   some_other : (n : NodeId) (rs : List NodeId) (r : NodeId) → In r rs → r.0 ≢ n.0 → 1 ≤ length (others n rs)
   some_other n [] r h ne = absurd h
   some_other n (x ∷ rs) r (inl q) ne =
-      let f : same_node x n ≡ false = not_true (same_node x n) (λ t. ne (ap (λ (z : NodeId). z.0) (sym q) ∙ eqb-true x.0 n.0 t)) in rw f (omega arith)
+      let f : same_node x n ≡ false = false_from_ne_true (same_node x n) (λ t. ne (ap (λ (z : NodeId). z.0) (sym q) ∙ eqb-true x.0 n.0 t)) in rw f (omega arith)
   some_other n (x ∷ rs) r (inr k) ne =
       let rec = some_other n rs r k ne in
       Rattle.str_model.proofs.Changes.SnapshotsGain.if_elim (λ (zs : List NodeId). 1 ≤ length zs) (not (same_node x n)) (x ∷ others n rs) (others n rs) (λ t. omega arith) (λ t. rec)
@@ -257,7 +259,7 @@ happens_even scene w (DeliverEvent i) h = by_message (nth w.sent i)
   where
     by_message : (o : Option Message) → Even (Runs.deliver_event scene (DeliverEvent i) i w o)
     by_message None = h
-    by_message (Some m) = step_at_even scene (DeliverEvent i) m.receiver (Deliver m) (give i w) (nth w.nodes m.receiver.0) (length_set w.given (i - 1) true ∙ h)
+    by_message (Some m) = step_at_even scene (DeliverEvent i) m.receiver (Deliver m) (give i w) (nth w.nodes m.receiver.0) (length-set w.given (i - 1) true ∙ h)
 
 from_even : (scene : Scene) (w : World) (es : List Event) → Even w → Even (run_from scene w es)
 from_even scene w [] h = h
@@ -269,7 +271,7 @@ even_run scene es = from_even scene (opening scene) es refl
 -- ---- sums over nodes
 
 pub begun_set : (vs : List View) (i s : ℕ) (v u : View) → slice_get vs i ≡ Some v → begun_in (slice_set vs i u) s + count_by (mine s) v.own ≡ begun_in vs s + count_by (mine s) u.own
-begun_set vs i s v u e = sum_set (λ (z : View). count_by (mine s) z.own) vs i v u e
+begun_set vs i s v u e = sum_by-set_got (λ (z : View). count_by (mine s) z.own) vs i v u e
 
 pub views_set : (scene : Scene) (n : ℕ) (vs : List View) (i : ℕ) (v u : View) → slice_get vs i ≡ Some v
     → views_left scene n (slice_set vs i u) + view_left scene (record { 0 = n + i }) v ≡ views_left scene n vs + view_left scene (record { 0 = n + i }) u
@@ -315,7 +317,7 @@ unbegun_less scene vs us n zero (first ∷ rest) text ops e q a h =
     let c : begun_in us n ≡ suc (begun_in vs n) = ap (λ s. begun_in us s) (sym m) ∙ (a ∙ (ap (λ s. begun_in vs s + 1) m ∙ add-one (begun_in vs n))) in
     let g : slice_get first.txs (begun_in vs n) ≡ Some ops = ap (λ (t : Session). slice_get t.txs (begun_in vs n)) k ∙ (ap (λ s. slice_get text.txs (begun_in vs s)) (sym m) ∙ q) in
     let d : sum_by (share scene first.node) (drop (begun_in vs n) first.txs) ≡ sum_by (share scene first.node) (ops ∷ drop (suc (begun_in vs n)) first.txs) =
-    ap (λ xs. sum_by (share scene first.node) xs) (drop_place first.txs (begun_in vs n) ops g) in
+    ap (λ xs. sum_by (share scene first.node) xs) (drop_there first.txs (begun_in vs n) ops g) in
     let i = sum_by-cons (share scene first.node) ops (drop (suc (begun_in vs n)) first.txs) in
     let o : sum_by (share scene first.node) (drop (begun_in us n) first.txs) ≡ sum_by (share scene first.node) (drop (suc (begun_in vs n)) first.txs) =
     ap (λ s. sum_by (share scene first.node) (drop s first.txs)) c in

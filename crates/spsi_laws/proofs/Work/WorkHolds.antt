@@ -3,7 +3,7 @@
 use Rattle.std.proofs.Common.{Bool, List, None, Option, Some, [], ap, append_assoc, append-nil, arith, drop, false, if◌then◌else◌, is_some, length, not, option_map, refl, replicate, slice_get, subst, suc, sym, take, true, zero, ℕ, ◌++◌, ◌+◌, ◌-◌, ◌<◌, ◌∙◌, ◌∷◌, ◌≡◌, ◌≤◌}
 use Rattle.std.proofs.lemmas.List.Sums.{sum_by-cons}
 use Rattle.std.specs.List.{count_by, sum_by}
-use Rattle.si_laws.proofs.Sessions.SessionHolds.{get_within, good_everywhere}
+use Rattle.si_laws.proofs.Sessions.SessionHolds.{good_everywhere}
 use Rattle.spsi_laws.proofs.Work.LeftEvents.{Ready, client_outcome, deliver_nothing, deliver_outcome, given_again, given_first, message_heavy, o_acts, o_idle, stepped_acts, was_sent}
 use Rattle.spsi_laws.proofs.Work.LeftHome.{mine}
 use Rattle.spsi_laws.proofs.Work.LeftSums.{count_push}
@@ -28,6 +28,8 @@ use Rattle.str_scene.specs.declared.names.Event.TheVariants.{Client as ClientEve
 use Rattle.str_scene.specs.declared.names.Op.{Op}
 use Rattle.str_scene.specs.declared.names.TxPlace.{TxPlace}
 use Rattle.str_scene.specs.Scenes.{Here, Scene, Session, nth}
+use Rattle.str_base.proofs.Lists.{slice_get_there}
+use Rattle.str_base.proofs.Tests.{value_there}
 
 -- ---- at the opening
 
@@ -139,15 +141,11 @@ module _ (here : Here) (s : SessionId) (t u : ℕ) where
   unfolding client_rule Alike
   rule_alike d = in_session_alike (nth here.scene.sessions s.0) d
 
-some_of : {A : Type 0} (o : Option A) → is_some o ≡ true → (a : A) × (o ≡ Some a)
-some_of None e = absurd (cc e)
-some_of (Some a) e = (a, refl)
-
 -- a client step that is not idle leaves less
 step_of : (here : Here) (s : SessionId) (t : ℕ) (v : View) → is_some (client_rule here s 0 (starts v)) ≡ true → (d : Doing) × (step here (Client s t) v ≡ Some d)
 unfolding step rule
 step_of here s t v e =
-    let r = some_of (client_rule here s t (starts v)) (rule_alike here s t 0 (starts v) ∙ e) in
+    let r = value_there (client_rule here s t (starts v)) (rule_alike here s t 0 (starts v) ∙ e) in
     (after_rule here r.0, ap (option_map (after_rule here)) r.1)
 
 pub step_lowers_at : (scene : Scene) (w : World) (s : SessionId) (t : ℕ) → Ready scene w → moves scene w s.0 ≡ true → left scene (happens scene w (ClientEvent s t)) < left scene w
@@ -217,7 +215,7 @@ one_event scene w (DeliverEvent i) r n = by_message (nth w.sent i) refl
     given_at (suc j) m q =
         let l = Rattle.std.proofs.lemmas.Option.slice_get_within w.sent j m q in
         let e : length w.given ≡ length w.sent = r.even in
-        get_within w.given j (omega (arith, l, e))
+        slice_get_there w.given j (omega (arith, l, e))
 
     by_flag : (m : Message) → nth w.sent i ≡ Some m → (b : Bool) → nth w.given i ≡ Some b → busy (happens scene w (DeliverEvent i)) + left scene (happens scene w (DeliverEvent i)) ≤ busy w + left scene w
     by_flag m q true g = absurd (n i refl g)

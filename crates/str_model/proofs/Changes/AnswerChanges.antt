@@ -15,7 +15,8 @@ use Rattle.str_base.specs.Versions.{stamp}
 use Rattle.str_model.specs.Views.{Aborted, Committed, Doing, Own, Phase, is_decided, name_of, release}
 use Rattle.str_model.proofs.Principle.SingleChanges.{Act, Begins, Where, act_abort, act_abort_came, act_accept, act_ack, act_ask, act_begin, act_certify, act_close, act_commit, act_commit_came, act_mark, act_put, act_refuse, act_reply, act_request, act_take, act_unwait, act_wait}
 use Rattle.str_model.proofs.Changes.SnapshotsGain.{CertGood, cert_turn-good, if_elim}
-use Rattle.str_model.proofs.Lists.Members.{In}
+use Rattle.std.proofs.lemmas.Bool.{false_from_ne_true}
+use Rattle.str_base.specs.Members.{In}
 
 -- the outcome that a decided transaction is answered
 abbrev pub outcome_of : Phase → List Got → Outcome
@@ -95,10 +96,6 @@ pub none_pass : (p : Answer → Bool) (bs : List Answer) → ((c : Answer) → I
 none_pass p [] f = refl
 none_pass p (b ∷ bs) f = rw (f b (inl refl)) (none_pass p bs (λ c h. f c (inr h)))
 
-pub not_true : (b : Bool) → (b ≡ true → ⊥) → b ≡ false
-not_true true h = absurd (h refl)
-not_true false h = refl
-
 -- an answer above all that pass comes after them
 pub release-last : (p : Answer → Bool) (a : Answer) (bs : List Answer) → p a ≡ true → Rising bs → ((c : Answer) → In c bs → p c ≡ true → c.tx.seq ≤ a.tx.seq)
     → filter p (release a bs) ≡ filter p bs ++ a ∷ []
@@ -106,7 +103,7 @@ release-last p a bs e r_none f = rw e refl
 release-last p a bs e (r_more b rest above r) f =
     if_elim (λ xs. filter p xs ≡ filter p (b ∷ rest) ++ a ∷ []) (nat_lt a.tx.seq b.tx.seq) (a ∷ b ∷ rest) (b ∷ release a rest)
     (λ t. let less : a.tx.seq < b.tx.seq = ltb-true a.tx.seq b.tx.seq t in
-    let none : filter p (b ∷ rest) ≡ [] = none_pass p (b ∷ rest) (λ c h. not_true (p c) (λ q. absurd (omega (arith, f c h q, seq_of c h)))) in
+    let none : filter p (b ∷ rest) ≡ [] = none_pass p (b ∷ rest) (λ c h. false_from_ne_true (p c) (λ q. absurd (omega (arith, f c h q, seq_of c h)))) in
     rw (e, none) refl)
     (λ t. later (p b) (release-last p a rest e r (λ c h. f c (inr h))))
   where

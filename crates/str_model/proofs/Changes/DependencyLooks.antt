@@ -5,7 +5,8 @@ use Rattle.str_scene.specs.Scenes.{Here}
 use Rattle.str_model.specs.Pass
 use Rattle.str_model.specs.Turns.{CommittedAt, DepTurn, Fate, Gone, Keep, Late, Lost, Open, by_fate, dep_turn, deps_left, ffc_left, keep_also, left_by, own_fate, phase_fate, resolve_all}
 use Rattle.str_model.specs.Views.{Doing, Own, put}
-use Rattle.str_model.proofs.Lists.ListReads.{get_set, get_set_other, same_or_not}
+use Rattle.str_base.proofs.Lists.{get_set, get_set_other}
+use Rattle.std.proofs.lemmas.Bool.{cases_eq}
 
 -- one more is left, and the timestamp stays
 pub deps_also : (d : Dep) (t : DepTurn) → deps_left (keep_also d t) ≡ d ∷ deps_left t
@@ -67,7 +68,7 @@ resolve_fates own new same rs (d ∷ ds) ffc =
 
 -- another snapshot of one own transaction changes no fate
 fate_put : (own : List Own) (i : ℕ) (x y : Own) → slice_get own i ≡ Some x → y.phase ≡ x.phase → (n : ℕ) → own_fate (slice_get (slice_set own i y) n) ≡ own_fate (slice_get own n)
-fate_put own i x y e p n = by_place (same_or_not n i)
+fate_put own i x y e p n = by_place (cases_eq n i)
   where
     by_place : (n ≡ i) ⊎ (n ≢ i) → own_fate (slice_get (slice_set own i y) n) ≡ own_fate (slice_get own n)
     by_place (inl q) =

@@ -1,9 +1,7 @@
 -- What a single change does to the versions of a node, with the facts at which it is made.
 pub use Rattle.str_model.specs.NodeFacts.{AreDistinct, AreDistinct}
-use Rattle.str_model.proofs.Changes.PairWords.{hosted_name, has_at}
+use Rattle.str_model.proofs.Changes.PairWords.{hosted_name}
 use Rattle.str_model.proofs.Principle.SingleChanges.{Act, Comes, IsHere, Takes, Where, act_abort, act_abort_came, act_accept, act_ack, act_ask, act_begin, act_certify, act_close, act_commit, act_commit_came, act_mark, act_put, act_refuse, act_reply, act_request, act_take, act_unwait, act_wait}
-use Rattle.str_model.proofs.Changes.SnapshotsGain.{and_left, and_right}
-use Rattle.str_model.proofs.Lists.Members.{In, in_filter, in_insert_all, in_map, in_without, map_in}
 use Rattle.std.proofs.Common.{Bool, List, Some, [], ap, eq-eqb, false, filter, inl, inr, map, not, sym, true, ℕ, ◌&&◌, ◌∙◌, ◌∷◌, ◌≡◌, ◌⊎◌}
 use Rattle.std.specs.List.{list_any}
 use Rattle.str_base.specs.Versions.{insert_all, of_pair, of_tx, same_key, same_node, settled, without}
@@ -27,6 +25,9 @@ use Rattle.str_model.specs.declared.messages.Body.{Body}
 use Rattle.str_model.specs.declared.messages.Input.{Input}
 use Rattle.str_model.specs.declared.names.KeyMark.{KeyMark}
 use Rattle.str_scene.specs.Scenes.{Here}
+use Rattle.str_base.proofs.Members.{any_in, in_filter, in_insert_all, in_map, in_without, map_in}
+use Rattle.str_base.proofs.Tests.{and_true_left, and_true_right}
+use Rattle.str_base.specs.Members.{In}
 
 -- each version was there, or is a new one of the change
 pub data VersionAct (here : Here) (input : Input) (d e : Doing) : Type 0 where
@@ -85,15 +86,15 @@ module _ (here : Here) (input : Input) (w : Where) where
 
 pub one_write : (ws : List Write) → AreDistinct ws → (v w : Write) → In v ws → In w ws → v.key ≡ w.key → v ≡ w
 one_write [] dist v w h k e = absurd h
-one_write (x ∷ ws) dist v w h k e = by_places (λ a b i j q. one_write ws (and_right (not (list_any (same_key x.key) (map (λ (z : Write). z.key) ws))) (Strange.distinct_keys (map (λ (z : Write). z.key) ws)) dist) a b i j q) h k
+one_write (x ∷ ws) dist v w h k e = by_places (λ a b i j q. one_write ws (and_true_right (not (list_any (same_key x.key) (map (λ (z : Write). z.key) ws))) (Strange.distinct_keys (map (λ (z : Write). z.key) ws)) dist) a b i j q) h k
   where
     keys : List KeyId
     keys = map (λ (z : Write). z.key) ws
 
     not_again : (z : Write) → In z ws → x.key ≡ z.key → ⊥
     not_again z i q =
-        let a : list_any (same_key x.key) keys ≡ true = has_at (same_key x.key) keys z.key (map_in (λ (u : Write). u.key) ws z i) (eq-eqb x.key.0 z.key.0 (ap (λ (u : KeyId). u.0) q)) in
-        let b : not (list_any (same_key x.key) keys) ≡ true = and_left (not (list_any (same_key x.key) keys)) (Strange.distinct_keys keys) dist in absurd (cc (ap not a, b))
+        let a : list_any (same_key x.key) keys ≡ true = any_in (same_key x.key) keys z.key (map_in (λ (u : Write). u.key) ws z i) (eq-eqb x.key.0 z.key.0 (ap (λ (u : KeyId). u.0) q)) in
+        let b : not (list_any (same_key x.key) keys) ≡ true = and_true_left (not (list_any (same_key x.key) keys)) (Strange.distinct_keys keys) dist in absurd (cc (ap not a, b))
 
     by_places : ((a b : Write) → In a ws → In b ws → a.key ≡ b.key → a ≡ b) → In v (x ∷ ws) → In w (x ∷ ws) → v ≡ w
     by_places rec_ (inl a) (inl b) = sym a ∙ b
@@ -102,7 +103,7 @@ one_write (x ∷ ws) dist v w h k e = by_places (λ a b i j q. one_write ws (and
     by_places rec_ (inr i) (inr j) = rec_ v w i j e
 
 middle : (a b c d k v : Bool) → (a && (b && (c && (d && (k && v))))) ≡ true → k ≡ true
-middle true true true true k v e = and_left k v e
+middle true true true true k v e = and_true_left k v e
 middle false b c d k v e = absurd cc
 middle true false c d k v e = absurd cc
 middle true true false d k v e = absurd cc
@@ -110,12 +111,12 @@ middle true true true false k v e = absurd cc
 
 some_distinct : (here : Here) (p : PartId) (ks : List KeyId) → Strange.some_keys_in here p ks ≡ true → Strange.distinct_keys ks ≡ true
 some_distinct here p [] e = absurd (cc e)
-some_distinct here p (k ∷ ks) e = and_left (Strange.distinct_keys (k ∷ ks)) _ e
+some_distinct here p (k ∷ ks) e = and_true_left (Strange.distinct_keys (k ∷ ks)) _ e
 
 -- what comes with a Prepare or a Replicate has each key once
 pub comes_distinct : (here : Here) (input : Input) (from : NodeId) (a : Arrived) (b : Body) → Comes here input from b
     → Strange.has_named here b ≡ Strange.has_named_writes here a.tx a.part a.rs a.lc a.writes → AreDistinct a.writes
 comes_distinct here input from a b c q =
-    let named : Strange.has_named here c.0.body ≡ true = and_right (Strange.has_node here c.0.sender) (Strange.has_named here c.0.body) (and_right (same_node c.0.receiver here.node) (Strange.has_node here c.0.sender && Strange.has_named here c.0.body) c.4) in
+    let named : Strange.has_named here c.0.body ≡ true = and_true_right (Strange.has_node here c.0.sender) (Strange.has_named here c.0.body) (and_true_right (same_node c.0.receiver here.node) (Strange.has_node here c.0.sender && Strange.has_named here c.0.body) c.4) in
     some_distinct here a.part (map (λ (w : Write). w.key) a.writes) (middle (Strange.has_node here a.tx.node) (Strange.has_part here a.part) (Strange.below_limit a.rs) (Strange.below_limit a.lc) (Strange.some_keys_in here a.part (map (λ (w : Write). w.key) a.writes)) (Strange.has_values here a.writes)
     (sym q ∙ (ap (Strange.has_named here) (sym c.3) ∙ named)))

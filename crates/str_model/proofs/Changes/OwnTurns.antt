@@ -1,12 +1,10 @@
 -- What a single change does to a node's own transactions, with the versions that go with it.
 use Rattle.dependency_set.specs.Snapshots.{Snap}
 use Rattle.partition_map.specs.declared.rows.Asked.{Asked}
-use Rattle.str_model.proofs.Changes.PairWords.{keep_without, not_both}
+use Rattle.str_model.proofs.Changes.PairWords.{keep_without}
 use Rattle.str_model.proofs.Principle.SingleChanges.{Act, Comes, KeepsAck, Where, act_abort, act_abort_came, act_accept, act_ack, act_ask, act_begin, act_certify, act_close, act_commit, act_commit_came, act_mark, act_put, act_refuse, act_reply, act_request, act_take, act_unwait, act_wait}
-use Rattle.str_model.proofs.Changes.SnapshotsGain.{CertGood, and_left, and_right, cert_turn-good}
+use Rattle.str_model.proofs.Changes.SnapshotsGain.{CertGood, cert_turn-good}
 use Rattle.str_model.proofs.Changes.OwnGoesOn.{PutsOn, puts_on}
-use Rattle.str_model.proofs.Lists.ListReads.{get_set}
-use Rattle.str_model.proofs.Lists.Members.{In, in_all_old}
 use Rattle.std.proofs.Common.{Bool, List, None, Some, [], ap, arith, eq-eqb, eqb-true, false, filter, inl, inr, map, not, refl, slice_set, subst, sym, true, ℕ, ◌&&◌, ◌++◌, ◌+◌, ◌==◌, ◌∙◌, ◌∷◌, ◌≡◌, ◌⊎◌}
 use Rattle.str_base.specs.Versions.{insert_all, of_pair, of_tx, same_node, same_part, same_tx, settled, without}
 use Rattle.str_base.specs.declared.names.Cause.{Cause}
@@ -26,6 +24,11 @@ use Rattle.str_model.specs.declared.messages.Body.TheVariants.{Ack}
 use Rattle.str_model.specs.declared.messages.Input.{Input}
 use Rattle.str_scene.specs.Scenes.{Here, hosts, participants}
 use Rattle.str_scene.specs.declared.names.TxPlace.{TxPlace}
+use Rattle.std.proofs.lemmas.Bool.{false_from_ne_true}
+use Rattle.str_base.proofs.Tests.{and_true_left, and_true_right}
+use Rattle.str_base.proofs.Lists.{get_set}
+use Rattle.str_base.proofs.Members.{in_all_old}
+use Rattle.str_base.specs.Members.{In}
 
 -- the own transactions before and after a change
 pub data OwnChange (here : Here) (input : Input) (d e : View) : Type 0 where
@@ -56,8 +59,8 @@ pub record DecidesOne (d e : View) (i : ℕ) : Type 0 where
 
 not_foreign : (here : Here) (tx : TxId) (p : PartId) (v : View) (t : TxId) → decides here tx p v ≡ true → same_tx t tx ≡ true → t.node.0 ≡ here.node.0 → ⊥
 not_foreign here tx p v t c e n =
-    let f : not (same_node tx.node here.node) ≡ true = and_left (not (same_node tx.node here.node)) (not (is_done v tx p)) (and_right (hosts here.scene here.node p) (not (same_node tx.node here.node) && not (is_done v tx p)) c) in
-    let s : t.node.0 ≡ tx.node.0 = eqb-true t.node.0 tx.node.0 (and_left (same_node t.node tx.node) (t.seq == tx.seq) e) in
+    let f : not (same_node tx.node here.node) ≡ true = and_true_left (not (same_node tx.node here.node)) (not (is_done v tx p)) (and_true_right (hosts here.scene here.node p) (not (same_node tx.node here.node) && not (is_done v tx p)) c) in
+    let s : t.node.0 ≡ tx.node.0 = eqb-true t.node.0 tx.node.0 (and_true_left (same_node t.node tx.node) (t.seq == tx.seq) e) in
     let g : same_node tx.node here.node ≡ true = eq-eqb tx.node.0 here.node.0 (sym s ∙ n) in
     absurd (cc (ap not g, f))
 
@@ -67,7 +70,7 @@ module _ (here : Here) (input : Input) (w : Where) where
   own_change d e (act_begin place rs d' r h) = o_begins place rs refl
   own_change d e (act_mark k t d' rd) = o_rests refl
   own_change d e (act_put i x y d' own g) = o_puts i x y own.0 (puts_on here input d' i x y g) refl
-  own_change d e (act_request i k m x d' own g) = o_puts i x (in_phase (Remote k) x) own.0 (puts_on here input d' i x (in_phase (Remote k) x) g) refl
+  own_change d e (act_request i k m x d' own g) = o_puts i x (in_phase (Remote k) x) own.0 (puts_on here input d' i x (in_phase (Remote k) x) (record { goes = g.goes; change = g.change })) refl
   own_change d e (act_certify i lc snap x d' own f n c) =
       let good : CertGood d'.view x.snap (Certified lc snap) = subst (CertGood d'.view x.snap) c (cert_turn-good here d'.view x.snap x.writes) in
       o_certifies i lc snap x own.0 f n good.0.rs refl refl
@@ -92,13 +95,13 @@ module _ (here : Here) (input : Input) (w : Where) where
       where
         by_test : (b : Bool) → of_tx (name_of here j) v ≡ b → In v (without (of_tx (name_of here j)) vs) ⊎ (j ≡ i)
         by_test true q =
-            let s : v.tx.seq ≡ j + 1 = eqb-true v.tx.seq (j + 1) (and_right (same_node v.tx.node here.node) (v.tx.seq == j + 1) q) in
+            let s : v.tx.seq ≡ j + 1 = eqb-true v.tx.seq (j + 1) (and_true_right (same_node v.tx.node here.node) (v.tx.seq == j + 1) q) in
             inr (omega (arith, s, ap (λ (t : TxId). t.seq) mine))
         by_test false q = inl (keep_without (of_tx (name_of here j)) vs v h q)
 
     pair_other : (t : TxId) (p : PartId) (d : Doing) → decides here t p d.view ≡ true → In v d.view.versions → In v (without (of_pair t p) d.view.versions)
     pair_other t p d c h =
-        keep_without (of_pair t p) d.view.versions v h (not_both (of_pair t p v) (λ q. not_foreign here t p d.view v.tx c (and_left (same_tx v.tx t) (same_part v.part p) q) (ap (λ (z : TxId). z.node.0) mine)))
+        keep_without (of_pair t p) d.view.versions v h (false_from_ne_true (of_pair t p v) (λ q. not_foreign here t p d.view v.tx c (and_true_left (same_tx v.tx t) (same_part v.part p) q) (ap (λ (z : TxId). z.node.0) mine)))
 
     pub own_stays : (d e : Doing) → Act here input w d e → In v d.view.versions → In v e.view.versions ⊎ DecidesOne d.view e.view i
     unfolding begun marked aborted committed closed certified asked acked requested accepted taken refused waits replied commit_came abort_came

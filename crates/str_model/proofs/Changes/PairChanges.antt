@@ -1,9 +1,8 @@
 -- What a single change does to a pair of another node's transaction and a partition: how it becomes known or done, and that a
 -- parked one is not known.
-use Rattle.str_model.proofs.Lists.ListCounts.{how_many, many_append, many_dropped, many_dropped_own, many_has, many_left, many_none, many_some, one_if}
-use Rattle.str_model.proofs.Changes.PairWords.{Has, has_at, or_right_true, pair_same}
+use Rattle.str_model.proofs.ListCounts.{how_many, many_append, many_dropped, many_dropped_own, many_has, many_left, many_none, many_some, one_if}
+use Rattle.str_model.proofs.Changes.PairWords.{Has, pair_same}
 use Rattle.str_model.proofs.Principle.SingleChanges.{Act, Arrives, Comes, IsHere, IsMasters, Takes, Where, a_prepare, a_read, act_abort, act_abort_came, act_accept, act_ack, act_ask, act_begin, act_certify, act_close, act_commit, act_commit_came, act_mark, act_put, act_refuse, act_reply, act_request, act_take, act_unwait, act_wait, it_comes, it_waits, left_waiting}
-use Rattle.str_model.proofs.Lists.Members.{In, in_append, in_filter, in_insert_all, in_map, in_right, in_without}
 use Rattle.std.proofs.Common.{Bool, List, [], ap, arith, false, filter, inl, inr, map, refl, subst, subst₂, suc, sym, true, zero, ℕ, ◌&&◌, ◌++◌, ◌+◌, ◌∙◌, ◌∷◌, ◌≡◌, ◌≢◌, ◌≤◌, ◌⊎◌}
 use Rattle.std.specs.List.{list_any}
 use Rattle.str_base.specs.Versions.{finalise, of_pair, of_tx, same_part, same_tx, settled, without}
@@ -23,14 +22,17 @@ use Rattle.str_model.specs.declared.messages.Waiter.TheVariants.{Held, Read}
 use Rattle.str_model.specs.declared.messages.Waiter.{Waiter}
 use Rattle.str_model.specs.declared.names.KeyMark.{KeyMark}
 use Rattle.str_scene.specs.Scenes.{Here, is_master}
+use Rattle.std.proofs.lemmas.Bool.{or_right}
+use Rattle.str_base.proofs.Members.{any_in, in_append, in_filter, in_insert_all, in_map, in_right, in_without}
+use Rattle.str_base.specs.Members.{In}
 
 -- the pair is done here, or versions of it stand here
 abbrev pub Knows : TxId → PartId → View → Type 0
 Knows tx p v = Has (is_pair tx p) v.done ⊎ Has (of_pair tx p) v.versions
 
 pub knows_known : (tx : TxId) (p : PartId) (v : View) → Knows tx p v → is_known v tx p ≡ true
-knows_known tx p v (inl h) = rw (has_at (is_pair tx p) v.done h.0 h.1 h.2) refl
-knows_known tx p v (inr h) = or_right_true (is_done v tx p) (list_any (of_pair tx p) v.versions) (has_at (of_pair tx p) v.versions h.0 h.1 h.2)
+knows_known tx p v (inl h) = rw (any_in (is_pair tx p) v.done h.0 h.1 h.2) refl
+knows_known tx p v (inr h) = or_right (is_done v tx p) (list_any (of_pair tx p) v.versions) (any_in (of_pair tx p) v.versions h.0 h.1 h.2)
 
 pub unknown_not : (tx : TxId) (p : PartId) (v : View) → is_known v tx p ≡ false → Knows tx p v → ⊥
 unknown_not tx p v e k = absurd (cc (e, knows_known tx p v k))

@@ -19,9 +19,6 @@ use Rattle.str_model.specs.Strange.{has_named, has_named_writes, has_node}
 use Rattle.str_base.specs.Versions.{of_pair, of_tx, same_node, same_part, same_tx, without}
 use Rattle.str_model.specs.Views.{Doing, Own, View, is_decided}
 use Rattle.str_model.proofs.Principle.SingleChanges.{Arrives, a_prepare, a_read}
-use Rattle.str_model.proofs.Changes.SnapshotsGain.{and_left, and_right}
-use Rattle.str_model.proofs.Lists.ListReads.{get_push, get_set_other}
-use Rattle.str_model.proofs.Lists.Members.{In, in_append, in_flat_map, in_map}
 use Rattle.str_model.proofs.Changes.VersionChanges.{WaitStep, w_fewer, w_more}
 use Rattle.str_model.proofs.Principle.EvictionsClear.{none_of}
 use Rattle.str_model.proofs.Changes.OwnChanges.{Becomes, OwnStep, aborts, certifies, closes, commits, goes_on, rests, starts_one, turns_one}
@@ -29,19 +26,16 @@ use Rattle.str_model.specs.Owned.{Owns}
 use Rattle.partition_map.specs.declared.rows.Asked.{Asked}
 use Rattle.str_base.specs.declared.names.NodeId.{NodeId}
 use Rattle.str_model.specs.Strange
+use Rattle.std.proofs.lemmas.Bool.{false_from_ne_true, or_right}
+use Rattle.str_base.proofs.Members.{any_in, in_append, in_flat_map, in_map}
+use Rattle.str_base.proofs.SameNames.{same_part-is, same_tx-is}
+use Rattle.str_base.proofs.Tests.{and_true_left, and_true_right}
+use Rattle.str_base.proofs.Lists.{get_push, get_set_other}
+use Rattle.str_base.specs.Members.{In}
 
 -- a member passes the test
 abbrev pub Has : {A : Type 0} → (A → Bool) → List A → Type 0
 Has {A = A} p xs = (x : A) × In x xs × (p x ≡ true)
-
-pub or_right_true : (a b : Bool) → b ≡ true → (a || b) ≡ true
-or_right_true true b e = refl
-or_right_true false b e = e
-
-pub has_at : {A : Type 0} (p : A → Bool) (xs : List A) (x : A) → In x xs → p x ≡ true → list_any p xs ≡ true
-has_at p [] x h e = absurd h
-has_at p (y ∷ xs) x (inl q) e = rw (ap p q ∙ e) refl
-has_at p (y ∷ xs) x (inr h) e = or_right_true (p y) (list_any p xs) (has_at p xs x h e)
 
 pub any_has : {A : Type 0} (p : A → Bool) (xs : List A) → list_any p xs ≡ true → Has p xs
 any_has p [] e = absurd (cc e)
@@ -59,11 +53,11 @@ pub record SamePair (t u : TxId) (p q : PartId) : Type 0 where
 
 pub pair_same : (t u : TxId) (p q : PartId) → (same_tx t u && same_part p q) ≡ true → SamePair t u p q
 pair_same t u p q e =
-    let both = and_left (same_tx t u) (same_part p q) e in
+    let both = and_true_left (same_tx t u) (same_part p q) e in
     record {
-      node = eqb-true t.node.0 u.node.0 (and_left (same_node t.node u.node) (t.seq == u.seq) both);
-      seq = eqb-true t.seq u.seq (and_right (same_node t.node u.node) (t.seq == u.seq) both);
-      part = eqb-true p.0 q.0 (and_right (same_tx t u) (same_part p q) e);
+      node = eqb-true t.node.0 u.node.0 (and_true_left (same_node t.node u.node) (t.seq == u.seq) both);
+      seq = eqb-true t.seq u.seq (and_true_right (same_node t.node u.node) (t.seq == u.seq) both);
+      part = eqb-true p.0 q.0 (and_true_right (same_tx t u) (same_part p q) e);
     }
 
 pub same_pair : (t u : TxId) (p q : PartId) → SamePair t u p q → (same_tx t u && same_part p q) ≡ true
@@ -100,10 +94,6 @@ keep_held t q (y ∷ ws) x h = by_test (keep_held t q ws x) (holds_pair t q y) r
     by_test rec false e (inl k) = inl (inl k)
     by_test rec false e (inr k) = elim (rec k) [ inl j ↦ inl (inr j) | inr j ↦ inr j ]
 
-pub not_both : (b : Bool) → (b ≡ true → ⊥) → b ≡ false
-not_both true h = absurd (h refl)
-not_both false h = refl
-
 abbrev pub SomeWrites : View → Type 0
 SomeWrites v = (a : Arrived) → In (Held a) v.waiters → (w : Write) × In w a.writes
 
@@ -129,26 +119,8 @@ some_step here input d e (w_more w c q) h a k = elim (in_append d.view.waiters (
     arrived w (a_read from tx k rs c) g = absurd (cc g)
     arrived w (a_prepare from b c u z m) g =
         let same : b ≡ a = cc g in
-        let named : has_named here c.0.body ≡ true = and_right (Strange.has_node here c.0.sender) (has_named here c.0.body) (and_right (same_node c.0.receiver here.node) (Strange.has_node here c.0.sender && has_named here c.0.body) c.4) in
+        let named : has_named here c.0.body ≡ true = and_true_right (Strange.has_node here c.0.sender) (has_named here c.0.body) (and_true_right (same_node c.0.receiver here.node) (Strange.has_node here c.0.sender && has_named here c.0.body) c.4) in
         subst (λ (m : Arrived). (w : Write) × In w m.writes) same (valid_some here b.tx b.part b.rs b.lc b.writes (subst (λ (m : Body). has_named here m ≡ true) c.3 named))
-
--- two names that are one by their numbers
-pub same_tx-is : (a b : TxId) → same_tx a b ≡ true → a ≡ b
-same_tx-is a b e = λ j. record { node = record { 0 = n j }; seq = s j }
-  where
-    left : (p q : Bool) → (p && q) ≡ true → p ≡ true
-    left true q h = refl
-    left false q h = absurd cc
-
-    right : (p q : Bool) → (p && q) ≡ true → q ≡ true
-    right true q h = h
-    right false q h = absurd cc
-
-    n : a.node.0 ≡ b.node.0
-    n = eqb-true a.node.0 b.node.0 (left (same_node a.node b.node) (a.seq == b.seq) e)
-
-    s : a.seq ≡ b.seq
-    s = eqb-true a.seq b.seq (right (same_node a.node b.node) (a.seq == b.seq) e)
 
 -- a decision that comes is for another node's transaction, and not in the done list
 pub decides_far : (here : Here) (tx : TxId) (p : PartId) (v : View) → decides here tx p v ≡ true → (tx.node.0 ≢ here.node.0) × (is_done v tx p ≡ false)
@@ -166,9 +138,6 @@ decides_far here tx p v e = (λ q. other q (same_node tx.node here.node) refl r.
     other : tx.node.0 ≡ here.node.0 → (b : Bool) → same_node tx.node here.node ≡ b → b ≡ false → ⊥
     other q b s n = let t : same_node tx.node here.node ≡ true = eq-eqb tx.node.0 here.node.0 q in cc (sym s ∙ t, n)
 
-pub same_part-is : (p q : PartId) → same_part p q ≡ true → p ≡ q
-same_part-is p q e = let n : p.0 ≡ q.0 = eqb-true p.0 q.0 e in λ j. record { 0 = n j }
-
 pub self_pair : (tx : TxId) (p : PartId) → is_pair tx p (tx, p) ≡ true
 self_pair tx p =
     let a : (tx.node.0 == tx.node.0) ≡ true = eq-eqb tx.node.0 tx.node.0 refl in
@@ -178,7 +147,7 @@ self_pair tx p =
 
 -- the pair of the version that is decided
 pub pair-is : (tx : TxId) (p : PartId) (u : Version) → of_pair tx p u ≡ true → (u.tx ≡ tx) × (u.part ≡ p)
-pair-is tx p u e = (same_tx-is u.tx tx (and_left (same_tx u.tx tx) (same_part u.part p) e), same_part-is u.part p (and_right (same_tx u.tx tx) (same_part u.part p) e))
+pair-is tx p u e = (same_tx-is u.tx tx (and_true_left (same_tx u.tx tx) (same_part u.part p) e), same_part-is u.part p (and_true_right (same_tx u.tx tx) (same_part u.part p) e))
 
 -- one that is decided now was not in the done list
 pub not_done : (v : View) (tx : TxId) (p : PartId) (u : Version) → is_done v tx p ≡ false → of_pair tx p u ≡ true → In (u.tx, u.part) v.done → ⊥
@@ -189,7 +158,7 @@ not_done v tx p u n e m =
     cc (sym t ∙ f)
 
 pub hosted_name : (here : Here) (tx : TxId) (u : Version) → is_hosted_of here tx u ≡ true → u.tx ≡ tx
-hosted_name here tx u e = same_tx-is u.tx tx (and_left (of_tx tx u) (hosts here.scene here.node u.part) e)
+hosted_name here tx u e = same_tx-is u.tx tx (and_true_left (of_tx tx u) (hosts here.scene here.node u.part) e)
 
 pub becomes-open : (v : View) (f g : ℕ) (x y : Own) → Becomes v f g x y → is_decided x.phase ≡ false
 becomes-open v f g x y (goes_on r e) = r.was_open

@@ -16,24 +16,14 @@ use Rattle.str_model.specs.Turns.{Away, CertTurn, Certified, CommittedAt, Confli
 use Rattle.str_model.specs.Turns
 use Rattle.str_base.specs.Versions.{chain, is_pre, last_pre, same_key, stamp, visible}
 use Rattle.str_model.specs.Views.{Own, View}
-use Rattle.str_model.proofs.Lists.Members.{In, in_filter, in_flat_map}
+use Rattle.str_base.proofs.Tests.{and_true_left, and_true_right, or_false_right}
+use Rattle.str_base.proofs.Members.{find_none, in_filter, in_flat_map}
+use Rattle.str_base.specs.Members.{In}
 
 -- a choice by a test
 pub if_elim : {A : Type 0} (P : A → Type 0) (b : Bool) (x y : A) → (b ≡ true → P x) → (b ≡ false → P y) → P (if b then x else y)
 if_elim P true x y p q = p refl
 if_elim P false x y p q = q refl
-
-pub and_left : (a b : Bool) → (a && b) ≡ true → a ≡ true
-and_left true b e = refl
-and_left false b e = absurd cc
-
-pub and_right : (a b : Bool) → (a && b) ≡ true → b ≡ true
-and_right true b e = e
-and_right false b e = absurd cc
-
-pub or_false_right : (a b : Bool) → (a || b) ≡ false → b ≡ false
-or_false_right true b e = absurd cc
-or_false_right false b e = e
 
 -- the dependency comes from a Local version at or below rs: it is the version's transaction, or one of that one's own
 pub data Gains (view : View) (rs : ℕ) (dep : Dep) : Type 0 where
@@ -168,7 +158,7 @@ pub visible-is : (vs : List Version) (k : KeyId) (r : ℕ) (v : Version) → vis
 visible-is vs k r v e =
     elim (in_last None (filter (λ (x : Version). same_key x.key k && nat_le x.ts.0 r) vs) v e) [
       | inl q ↦ absurd (cc q)
-      | inr h ↦ (let g = in_filter (λ (x : Version). same_key x.key k && nat_le x.ts.0 r) vs v h in (g.0, leb-true v.ts.0 r (and_right (same_key v.key k) (nat_le v.ts.0 r) g.1)))
+      | inr h ↦ (let g = in_filter (λ (x : Version). same_key x.key k && nat_le x.ts.0 r) vs v h in (g.0, leb-true v.ts.0 r (and_true_right (same_key v.key k) (nat_le v.ts.0 r) g.1)))
     ]
 
 read_after-good : (here : Here) (view : View) (snap : Snap) (k : KeyId) (o : Option Version) → TurnGood view snap (Turns.read_after here view snap k o)
@@ -204,15 +194,6 @@ joined-good view (v ∷ vs) snap f =
     let s = Turns.joined_one view.own v v.kind snap in
     extends_more view snap s (joined view.own vs s) one
     (joined-good view vs s (λ w h. ((f w (inr h)).0, omega (arith, one.rs, (f w (inr h)).1))))
-
-pub find_none : {A : Type 0} (p : A → Bool) (vs : List A) (v : A) → find p vs ≡ None → In v vs → p v ≡ false
-find_none p [] v e h = absurd h
-find_none p (w ∷ vs) v e h = by_test (find_none p vs v) (p w) refl e h
-  where
-    by_test : (find p vs ≡ None → In v vs → p v ≡ false) → (b : Bool) → p w ≡ b → (if b then Some w else find p vs) ≡ None → In v (w ∷ vs) → p v ≡ false
-    by_test rec true q n k = absurd (cc n)
-    by_test rec false q n (inl same) = ap p (sym same) ∙ q
-    by_test rec false q n (inr k) = rec n k
 
 pub in_met : (ws : List Write) (vs : List Version) (v : Version) → In v (met ws vs) → In v vs
 in_met ws vs v h =

@@ -21,7 +21,8 @@ use Rattle.str_base.specs.Versions.{finalise, insert_all, of_pair, of_tx, withou
 use Rattle.str_model.specs.Views.{Doing, Own, letter, name_of}
 use Rattle.str_model.proofs.Principle.SingleChanges.{Act, Arrives, Comes, IsHere, Takes, Where, it_comes, it_waits, left_waiting, act_abort, act_abort_came, act_accept, act_ack, act_ask, act_begin, act_certify, act_close, act_commit, act_commit_came, act_mark, act_put, act_refuse, act_reply, act_request, act_take, act_unwait, act_wait}
 use Rattle.str_model.proofs.Changes.SnapshotsGain.{if_elim}
-use Rattle.str_model.proofs.Lists.Members.{In, in_append, in_left, in_map, in_right}
+use Rattle.str_base.proofs.Members.{in_append, in_left, in_map, in_right}
+use Rattle.str_base.specs.Members.{In}
 
 -- ---- versions
 

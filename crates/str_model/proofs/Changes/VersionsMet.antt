@@ -13,18 +13,10 @@ use Rattle.str_model.specs.Turns.{Certified, cert_turn, conflicts, joined, met, 
 use Rattle.str_model.specs.Turns
 use Rattle.str_model.specs.Views.{Own, View}
 use Rattle.str_scene.specs.Scenes.{Here}
-use Rattle.str_model.proofs.Changes.SnapshotsGain.{Names, find_none, in_insert_dep_old, in_union_right, insert_dep_names}
-use Rattle.str_model.proofs.Lists.Members.{In, in_left, in_right}
-
-pub filter_in : {A : Type 0} (test : A → Bool) (xs : List A) (x : A) → In x xs → test x ≡ true → In x (filter test xs)
-filter_in test [] x h e = absurd h
-filter_in test (y ∷ xs) x h e = by_test (λ k. filter_in test xs x k e) (test y) refl h
-  where
-    by_test : (In x xs → In x (filter test xs)) → (b : Bool) → test y ≡ b → In x (y ∷ xs) → In x (if b then (y ∷ filter test xs) else filter test xs)
-    by_test rec true q (inl s) = inl s
-    by_test rec true q (inr k) = inr (rec k)
-    by_test rec false q (inl s) = absurd (cc (ap test s, q, e))
-    by_test rec false q (inr k) = rec k
+use Rattle.str_model.proofs.Changes.SnapshotsGain.{Names, in_insert_dep_old, in_union_right, insert_dep_names}
+use Rattle.str_base.proofs.Members.{filter_in, find_none, in_left, in_right}
+use Rattle.str_base.specs.Members.{In}
+use Rattle.std.proofs.lemmas.Bool.{or_parts}
 
 flat_map_in : {A B : Type 0} (f : A → List B) (xs : List A) (x : A) (y : B) → In x xs → In y (f x) → In y (flat_map f xs)
 flat_map_in f [] x y h k = absurd h
@@ -83,10 +75,6 @@ cert_met here view old new ws lc e v w h k same = by_found (find (conflicts old.
     m : In v (met ws view.versions)
     m = met_in ws view.versions v w h k same
 
-    nor : (a b : Bool) → (a || b) ≡ false → (a ≡ false) × (b ≡ false)
-    nor true b q = absurd cc
-    nor false b q = (refl, q)
-
     by_gate : (b : Bool) (n : ℕ) (s : Snap) (t : Turns.CertTurn) → (t ≡ Certified lc new → ⊥) → (if b then Certified n s else t) ≡ Certified lc new → s ≡ new
     by_gate true n s t f q = cc q
     by_gate false n s t f q = absurd (f q)
@@ -96,7 +84,7 @@ cert_met here view old new ws lc e v w h k same = by_found (find (conflicts old.
     by_found None f q =
         let s : Snap = joined view.own (met ws view.versions) old in
         let is : s ≡ new = by_gate (holds s) _ s _ (λ z. cc z) q in
-        let c = nor (is_pre v.kind) (nat_lt old.rs v.ts.0) (find_none (conflicts old.rs) (met ws view.versions) v f m) in
+        let c = or_parts (is_pre v.kind) (nat_lt old.rs v.ts.0) (find_none (conflicts old.rs) (met ws view.versions) v f m) in
         record {
           not_pre = c.0;
           below = ltb-false old.rs v.ts.0 c.1;

@@ -11,15 +11,17 @@ use Rattle.str_base.specs.Versions.{same_node, same_part, stamp}
 use Rattle.str_model.specs.Acts.{with_asked}
 use Rattle.str_model.specs.Gates.{Ask, DepParts, gate_turn, may_ask}
 use Rattle.str_model.specs.Gates
-use Rattle.str_model.specs.NodeFacts.{AllOwn, AskedFacts, In}
+use Rattle.str_model.specs.NodeFacts.{AllOwn, AskedFacts}
 use Rattle.str_scene.specs.Scenes.{Here, Scene, others, participants, replicas, unasked, written_parts}
 use Rattle.str_model.specs.Returns.{with_ack}
 use Rattle.str_model.specs.Views.{Doing, Global, Local, Own, lc_of}
 use Rattle.str_model.proofs.Principle.SingleChanges.{Act, Where}
 use Rattle.str_model.proofs.OwnFacts.EachOwn.{OwnKept, each_own-act}
-use Rattle.str_model.proofs.Changes.SnapshotsGain.{and_left, and_right}
 use Rattle.str_model.proofs.Changes.OwnGoesOn.{PutsOn, puts_on}
-use Rattle.str_model.proofs.Lists.Members.{in_flat_map, in_map, map_in}
+use Rattle.std.proofs.lemmas.Bool.{or_left, or_right}
+use Rattle.str_base.proofs.Tests.{and_true_left, and_true_right}
+use Rattle.str_base.proofs.Members.{in_flat_map, in_map, map_in}
+use Rattle.str_base.specs.Members.{In}
 
 -- ---- a gate that asks
 
@@ -50,14 +52,6 @@ gate_ask snap lc parts wrote p e = by_ask (find (may_ask wrote) parts) refl e
 
 -- ---- participants
 
-or_true_left : (a b : Bool) → a ≡ true → (a || b) ≡ true
-or_true_left true b e = refl
-or_true_left false b e = absurd cc
-
-or_true_right : (a b : Bool) → b ≡ true → (a || b) ≡ true
-or_true_right true b e = refl
-or_true_right false b e = e
-
 self_part : (p : PartId) → same_part p p ≡ true
 self_part p = eq-eqb p.0 p.0 refl
 
@@ -65,13 +59,13 @@ self_part p = eq-eqb p.0 p.0 refl
 asked_kept : (p : PartId) (parts : List Asked) (b : Asked) → In b (with_asked p parts) → (a : Asked) × In a parts × (b.ack ≡ a.ack) × (a.asked ≡ true → b.asked ≡ true)
 asked_kept p parts b h =
     let r = in_map {A = Asked} {B = Asked} (λ (a : Asked). record a { asked = a.asked || same_part a.part p }) parts b h in
-    (r.0, r.1, ap (λ (z : Asked). z.ack) (sym r.2), λ q. ap (λ (z : Asked). z.asked) (sym r.2) ∙ or_true_left r.0.asked (same_part r.0.part p) q)
+    (r.0, r.1, ap (λ (z : Asked). z.ack) (sym r.2), λ q. ap (λ (z : Asked). z.asked) (sym r.2) ∙ or_left r.0.asked (same_part r.0.part p) q)
 
 -- one of the partition is asked now
 asked_now_ : (p : PartId) (parts : List Asked) (a : Asked) → In a parts → a.part ≡ p → (b : Asked) × In b (with_asked p parts) × (b.asked ≡ true)
 asked_now_ p parts a h e =
     let b : Asked = record a { asked = a.asked || same_part a.part p } in
-    (b, map_in {A = Asked} {B = Asked} (λ (a : Asked). record a { asked = a.asked || same_part a.part p }) parts a h, or_true_right a.asked (same_part a.part p) (ap (λ q. same_part q p) e ∙ self_part p))
+    (b, map_in {A = Asked} {B = Asked} (λ (a : Asked). record a { asked = a.asked || same_part a.part p }) parts a h, or_right a.asked (same_part a.part p) (ap (λ q. same_part q p) e ∙ self_part p))
 
 -- each participant is one that was there, or is asked; and one is asked
 record AckedAsked (old new : List Asked) : Type 0 where
@@ -97,7 +91,7 @@ acked_asked (a ∷ old) p from ts new e0 = by_test (same_part a.part p && (same_
     by_test true t rec e =
         let is : record a { ack = Some (stamp ts) } ∷ old ≡ new = cc e in
         let one : a.asked ≡ true =
-        and_left a.asked (not (is_some a.ack)) (and_right (same_node a.node from) (a.asked && not (is_some a.ack)) (and_right (same_part a.part p) (same_node a.node from && (a.asked && not (is_some a.ack))) t)) in
+        and_true_left a.asked (not (is_some a.ack)) (and_true_right (same_node a.node from) (a.asked && not (is_some a.ack)) (and_true_right (same_part a.part p) (same_node a.node from && (a.asked && not (is_some a.ack))) t)) in
         subst (AckedAsked (a ∷ old)) is (record {
           each = λ b h. elim h [ inl q ↦ inr (ap (λ (z : Asked). z.asked) (sym q) ∙ one) | inr k ↦ inl (inr k) ];
           one = (record a { ack = Some (stamp ts) }, inl refl, one);

@@ -5,10 +5,7 @@ use Rattle.dependency_set.specs.declared.names.Dep.{Dep}
 use Rattle.partition_map.specs.declared.rows.Asked.{Asked}
 use Rattle.str_model.proofs.Changes.OwnTurns.{DecidesOne, OwnChange, o_aborts, o_acks, o_asks, o_begins, o_certifies, o_closes, o_commits, o_puts, o_rests, own_change, own_stays}
 use Rattle.str_model.proofs.Principle.SingleChanges.{Act, Where}
-use Rattle.str_model.proofs.Changes.SnapshotsGain.{and_left, and_right, if_elim}
-use Rattle.str_model.proofs.Lists.ListReads.{get_set, got_push, got_set}
-use Rattle.str_model.proofs.Lists.Members.{In, in_all_new, in_map, map_in}
-use Rattle.str_model.proofs.Changes.VersionsMet.{filter_in}
+use Rattle.str_model.proofs.Changes.SnapshotsGain.{if_elim}
 use Rattle.std.proofs.Common.{Bool, List, None, Option, Some, [], ap, arith, eq-eqb, false, filter, find, if◌then◌else◌, inl, inr, is_some, map, max, not, option_map, refl, slice_get, slice_set, subst, subst₂, sym, true, ℕ, ◌&&◌, ◌+◌, ◌||◌, ◌∙◌, ◌∷◌, ◌≡◌, ◌≤◌, ◌⊎◌}
 use Rattle.str_base.specs.Versions.{insert_all, of_tx, same_node, same_part, settled, stamp, without}
 use Rattle.str_base.specs.declared.names.Cause.{Cause}
@@ -28,17 +25,12 @@ use Rattle.str_model.specs.Views.{Aborted, Closing, Committed, Doing, Global, Lo
 use Rattle.str_model.specs.declared.messages.Input.{Input}
 use Rattle.str_scene.specs.Scenes.{Here, hosts_key, participants}
 use Rattle.str_scene.specs.declared.names.TxPlace.{TxPlace}
+use Rattle.str_base.proofs.Tests.{and_true_left, and_true_right}
+use Rattle.str_base.proofs.Members.{filter_in, find_none, in_all_new, in_map, map_in}
+use Rattle.str_base.proofs.Lists.{get_set, got_push, got_set}
+use Rattle.str_base.specs.Members.{In}
 
 -- ---- the gate
-
-none_found : {A : Type 0} (p : A → Bool) (xs : List A) (x : A) → find p xs ≡ None → In x xs → p x ≡ false
-none_found p [] x e h = absurd h
-none_found {A = A} p (y ∷ xs) x e h = by_test (none_found p xs x) (p y) refl e h
-  where
-    by_test : (find p xs ≡ None → In x xs → p x ≡ false) → (b : Bool) → p y ≡ b → (if b then Some y else find p xs) ≡ None → In x (y ∷ xs) → p x ≡ false
-    by_test rec true q n k = absurd (cc n)
-    by_test rec false q n (inl same) = ap p (sym same) ∙ q
-    by_test rec false q n (inr k) = rec n k
 
 below_greatest : (xs : List ℕ) (n : ℕ) → In n xs → n ≤ greatest xs
 below_greatest [] n h = absurd h
@@ -58,7 +50,7 @@ gate_answers snap lc parts wrote fc e a h = by_ask (find (Gates.may_ask wrote) p
     by_ack None q e =
         let top : max lc (greatest (map Gates.ack_or_zero parts)) ≡ fc = cc e in
         let le : Gates.ack_or_zero a ≤ greatest (map Gates.ack_or_zero parts) = below_greatest (map Gates.ack_or_zero parts) (Gates.ack_or_zero a) (map_in Gates.ack_or_zero parts a h) in
-        some_ack a.ack refl (none_found (λ (b : Asked). not (is_some b.ack)) parts a q h) (omega (arith, top, le))
+        some_ack a.ack refl (find_none (λ (b : Asked). not (is_some b.ack)) parts a q h) (omega (arith, top, le))
 
     by_deps : (ds : List Dep) → Gates.gate_deps lc parts ds ≡ CommitAt fc → Answered fc a
     by_deps [] e = by_ack (find (λ (b : Asked). not (is_some b.ack)) parts) refl e
@@ -95,7 +87,7 @@ acked_parts (a ∷ old) p from ts new e0 =
     here_ t = record {
       same_seats = refl;
       each = λ b h. elim h [
-        | inl q ↦ a_new a (inl refl) (and_left _ (same_node a.node from && (a.asked && not (is_some a.ack))) t) (and_left (same_node a.node from) (a.asked && not (is_some a.ack)) (and_right (same_part a.part p) (same_node a.node from && (a.asked && not (is_some a.ack))) t)) (sym q)
+        | inl q ↦ a_new a (inl refl) (and_true_left _ (same_node a.node from && (a.asked && not (is_some a.ack))) t) (and_true_left (same_node a.node from) (a.asked && not (is_some a.ack)) (and_true_right (same_part a.part p) (same_node a.node from && (a.asked && not (is_some a.ack))) t)) (sym q)
         | inr k ↦ a_old (inr k)
       ];
     }

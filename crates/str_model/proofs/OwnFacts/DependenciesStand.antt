@@ -15,11 +15,11 @@ use Rattle.str_model.proofs.Principle.SingleChanges.{Act, InRule, InTurn, InWait
 use Rattle.str_model.proofs.Principle.StepPaths.{StepPath, first-path, resolved_first, rest-path, turn-path}
 use Rattle.str_model.proofs.OwnFacts.TurnsBelow.{Below, OpenAt, UpTo, fate_same, keeps_below, keeps_up_to, leaves, resolve_all-open}
 use Rattle.str_model.proofs.OwnFacts.EarlierDependencies.{depends-act}
-use Rattle.str_model.proofs.Lists.ListReads.{get_set, get_set_other}
 use Rattle.str_model.proofs.Changes.DependencyLooks.{after_look}
-use Rattle.str_model.proofs.Lists.Members.{In}
 use Rattle.str_model.proofs.OwnFacts.LocalOwners.{Depends, same_own}
 use Rattle.str_model.proofs.OwnFacts.NodeTimes.{timed_opening}
+use Rattle.str_base.proofs.Lists.{get_set, get_set_other}
+use Rattle.str_base.specs.Members.{In}
 
 -- ---- the first part of a turn leaves open dependencies alone
 

@@ -18,7 +18,7 @@ use Rattle.str_scene.specs.Scenes.{Here, participants}
 use Rattle.str_model.specs.Turns.{Certified, cert_turn}
 use Rattle.str_model.specs.Views.{Aborted, Closing, Committed, Doing, Global, Local, Own, Remote, is_decided, lc_of}
 use Rattle.str_model.proofs.Principle.SingleChanges.{Act, AsksCommit, Comes, Goes, KeepsAck, Where, act_abort, act_abort_came, act_accept, act_ack, act_ask, act_begin, act_certify, act_close, act_commit, act_commit_came, act_mark, act_put, act_refuse, act_reply, act_request, act_take, act_unwait, act_wait}
-use Rattle.str_model.proofs.Lists.ListReads.{got_push, got_set}
+use Rattle.str_base.proofs.Lists.{got_push, got_set}
 
 -- the transaction as it stands once it is certified
 abbrev pub as_certified : Here → ℕ → Snap → Own → Own
@@ -48,7 +48,7 @@ module _ (here : Here) (input : Input) (P : Own → Type 0) where
   unfolding begun marked aborted committed closed certified asked acked requested accepted taken refused waits replied commit_came abort_came
   each_own-act w d e k (act_begin place rs d' r g) h = λ j z q. elim (got_push d'.view.own j (fresh place rs) z q) [ inl p ↦ subst P (sym p.1) (k.begins place rs) | inr p ↦ h j z p ]
   each_own-act w d e k (act_put i x y d' own g) h = set_own d'.view.own i x y own.0 (k.goes i x y own.0 g) h
-  each_own-act w d e k (act_request i l m x d' own g) h = set_own d'.view.own i x (in_phase (Remote l) x) own.0 (k.goes i x (in_phase (Remote l) x) own.0 g) h
+  each_own-act w d e k (act_request i l m x d' own g) h = set_own d'.view.own i x (in_phase (Remote l) x) own.0 (k.goes i x (in_phase (Remote l) x) own.0 (record { goes = g.goes; change = g.change })) h
   each_own-act w d e k (act_certify i lc snap x d' own f n c) h = set_own d'.view.own i x (as_certified here lc snap x) own.0 (k.certifies i lc snap x own.0 own.2 n c) h
   each_own-act w d e k (act_ask i lc p x d' own f l g) h =
       set_own d'.view.own i x (record x { parts = with_asked p x.parts; phase = Global lc }) own.0 (k.asks i lc p x own.0 f l g) h

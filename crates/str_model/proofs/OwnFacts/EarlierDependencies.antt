@@ -10,11 +10,12 @@ use Rattle.str_base.specs.Versions.{stamp}
 use Rattle.str_model.specs.Views.{Doing, Own, View, is_decided, lc_of}
 use Rattle.str_model.proofs.Principle.SingleChanges.{Act, Where}
 use Rattle.str_model.proofs.Changes.SnapshotsGain.{Extends, Gains, gains_it, gains_of}
-use Rattle.str_model.proofs.Lists.ListReads.{got_push, got_set}
-use Rattle.str_model.proofs.Lists.Members.{In}
 use Rattle.str_model.proofs.OwnFacts.LocalOwners.{Depends, Locals, WeakDep, after_own, locals-act, same_own}
 use Rattle.str_model.proofs.Changes.OwnChanges.{Becomes, OwnStep, aborts, certifies, closes, commits, goes_on, own_step, rests, starts_one, turns_one}
 use Rattle.str_model.proofs.OwnFacts.NodeTimes.{timed-step}
+use Rattle.str_base.proofs.Lists.{got_push, got_set}
+use Rattle.str_base.specs.Members.{In}
+use Rattle.std.proofs.lemmas.Bool.{cases_lt}
 
 -- ---- dependencies
 
@@ -35,11 +36,8 @@ lift_dep d e i x dep s h =
 
 -- the owner of a Local version at or below a snapshot stands before it
 pub earlier : (v : View) (t : AreTimed v) (p i lc : ℕ) (o x : Own) → Owns v p o → Owns v i x → lc_of o.phase ≡ Some lc → lc ≤ x.snap.rs → p < i
-earlier v t p i lc o x own is l le = by_order (order p i)
+earlier v t p i lc o x own is l le = by_order (cases_lt p i)
   where
-    order : (a b : ℕ) → (a < b) ⊎ (b ≤ a)
-    order a b = grind arith
-
     by_order : (p < i) ⊎ (i ≤ p) → p < i
     by_order (inl h) = h
     by_order (inr h) = absurd (omega (arith, t.rising i p x o h is own, ((t.each p o own).lc lc l).0))

@@ -10,10 +10,10 @@ use Rattle.str_model.specs.Views.{Own, View, is_decided, lc_of}
 use Rattle.str_scene.specs.SceneLimits.{IsScene}
 use Rattle.str_scene.specs.Scenes.{Here, Session, nth}
 use Rattle.str_model.proofs.ViewFacts.GatesEnd.{many_less, many_within}
-use Rattle.str_model.proofs.Lists.Members.{in_at}
 use Rattle.str_model.proofs.ViewFacts.MomentKept.{node_number}
-use Rattle.str_model.proofs.Changes.PairWords.{not_both}
 use Rattle.str_model.specs.NodeFacts.{has_lc}
+use Rattle.std.proofs.lemmas.Bool.{and_parts, false_from_ne_true}
+use Rattle.str_base.proofs.Members.{in_at}
 
 -- ---- counts
 
@@ -106,16 +106,12 @@ one_at_most q (y ∷ ys) h = by_test (q y) refl (one_at_most q ys (λ i j x z l 
     none_of : (zs : List Own) → ((i : ℕ) (x : Own) → slice_get zs i ≡ Some x → q x ≡ true → ⊥) → how_many q zs ≡ 0
     none_of [] f = refl
     none_of (z ∷ zs) f =
-        let a : one_if (q z) ≡ 0 = ap one_if (not_both (q z) (f 0 z refl)) in
+        let a : one_if (q z) ≡ 0 = ap one_if (false_from_ne_true (q z) (f 0 z refl)) in
         let r = none_of zs (λ i x e. f (suc i) x e) in omega (arith, a, r)
 
     by_test : (b : Bool) → q y ≡ b → how_many q ys ≤ 1 → one_if b + how_many q ys ≤ 1
     by_test true t rec = let n = none_of ys (λ i x e s. h 0 (suc i) y x (omega arith) refl e t s) in omega (arith, n)
     by_test false t rec = omega (arith, rec)
-
-split_and : (a b : Bool) → (a && b) ≡ true → (a ≡ true) × (b ≡ true)
-split_and true b e = (refl, e)
-split_and false b e = absurd cc
 
 -- ---- by the scene
 
@@ -178,15 +174,15 @@ module _ (here : Here) (ok : IsScene here.scene) (exists : has_node here here.no
       none : (xs : List Own) → ((i : ℕ) (x : Own) → slice_get xs i ≡ Some x → of_number is_open (1 + j) x ≡ true → ⊥) → how_many (of_number is_open (1 + j)) xs ≡ 0
       none [] f = refl
       none (z ∷ zs) f =
-          let a : one_if (of_number is_open (1 + j) z) ≡ 0 = ap one_if (not_both (of_number is_open (1 + j) z) (f 0 z refl)) in
+          let a : one_if (of_number is_open (1 + j) z) ≡ 0 = ap one_if (false_from_ne_true (of_number is_open (1 + j) z) (f 0 z refl)) in
           let r = none zs (λ i x e. f (suc i) x e) in omega (arith, a, r)
 
       by_test : (b : Bool) → same_node s.node here.node ≡ b → how_many (of_number is_open (1 + j)) own ≤ one_if b
       by_test true t = one_at_most (of_number is_open (1 + j)) own (λ i k x y l f g p q.
-          let a = split_and (is_open x) (x.place.session.0 == 1 + j) p in
-          let b = split_and (is_open y) (y.place.session.0 == 1 + j) q in
+          let a = and_parts (is_open x) (x.place.session.0 == 1 + j) p in
+          let b = and_parts (is_open y) (y.place.session.0 == 1 + j) q in
           let d = (h.order i k x y l f g (session_of i k (1 + j) x y a.1 b.1)).decided in cc (ap not d, a.0))
-      by_test false t = let n = none own (λ i x g p. cc ((session_text j s i x e g (split_and (is_open x) (x.place.session.0 == 1 + j) p).1).2, t)) in omega (arith, n)
+      by_test false t = let n = none own (λ i x g p. cc ((session_text j s i x e g (and_parts (is_open x) (x.place.session.0 == 1 + j) p).1).2, t)) in omega (arith, n)
 
   -- at most 16 are undecided: one for each session of the node
   pub open_few : how_many is_open own ≤ 16
@@ -207,7 +203,7 @@ module _ (here : Here) (ok : IsScene here.scene) (exists : has_node here here.no
   -- at most 15 are certified and undecided, where another one is undecided and isn't certified
   pub others_few : (i : ℕ) (x : Own) → slice_get own i ≡ Some x → is_decided x.phase ≡ false → lc_of x.phase ≡ None → how_many is_certain own ≤ 15
   others_few i x e o n =
-      let l = many_less is_certain is_open own x (λ y t. (split_and (is_open y) (has_lc y) t).0) (in_at own i x e) (ap (λ b. not b && has_lc x) o ∙ ap is_some n) (ap not o) in
+      let l = many_less is_certain is_open own x (λ y t. (and_parts (is_open y) (has_lc y) t).0) (in_at own i x e) (ap (λ b. not b && has_lc x) o ∙ ap is_some n) (ap not o) in
       let f = open_few in omega (arith, l, f)
 
 -- every time of a view has room for one more

@@ -16,9 +16,11 @@ use Rattle.str_model.specs.Turns
 use Rattle.str_model.specs.Views.{Aborted, Active, CertWait, Closing, Committed, Doing, Global, Local, Own, Phase, ReadWait, Remote, Reply, View, is_decided, lc_of, name_of}
 use Rattle.str_scene.specs.Scenes.{Here, participants}
 use Rattle.str_model.proofs.Principle.SingleChanges.{Act, Where, act_abort, act_abort_came, act_accept, act_ack, act_ask, act_begin, act_certify, act_close, act_commit, act_commit_came, act_mark, act_put, act_refuse, act_reply, act_request, act_take, act_unwait, act_wait}
-use Rattle.str_model.proofs.Lists.ListReads.{get_push, get_set, get_set_other, same_or_not}
-use Rattle.str_model.proofs.Lists.Members.{In, in_filter, in_insert_all, in_map, in_without}
 use Rattle.str_model.proofs.Changes.OwnChanges.{Becomes, OwnStep, aborts, certifies, closes, commits, goes_on, own_step, rests, starts_one, turns_one}
+use Rattle.str_base.proofs.Lists.{get_push, get_set, get_set_other}
+use Rattle.std.proofs.lemmas.Bool.{cases_eq}
+use Rattle.str_base.proofs.Members.{in_filter, in_insert_all, in_map, in_without}
+use Rattle.str_base.specs.Members.{In}
 
 pub open-fate : (p : Phase) → is_decided p ≡ false → phase_fate p ≡ Turns.Open
 open-fate Active e = refl
@@ -53,7 +55,7 @@ pub record After (e : View) (p : ℕ) (o : Own) : Type 0 where
 pub after_own : (d e : View) (p lc : ℕ) (o : Own) → OwnStep d e → Owns d p o → lc_of o.phase ≡ Some lc → After e p o
 after_own d e p lc o (rests q f) own l = record { owner = o; owns = rw q own; rs = refl; lc = refl }
 after_own d e p lc o (starts_one place rs le q f) own l = record { owner = o; owns = rw q (get_push d.own p _ o own); rs = refl; lc = refl }
-after_own d e p lc o (turns_one n x y is q b) own l = by_place (same_or_not p n)
+after_own d e p lc o (turns_one n x y is q b) own l = by_place (cases_eq p n)
   where
     at_y : Owns e n y
     at_y = rw q (get_set d.own n x y is)
@@ -106,7 +108,7 @@ stays_open d e (rests q f) plain n o y own op new dec =
     cc (ap (λ z. is_decided z.phase) (same_own d n n o y own (rw (← q) new) refl), op, dec)
 stays_open d e (starts_one place rs le q f) plain n o y own op new dec =
     cc (ap (λ z. is_decided z.phase) (same_own e n n o y (rw q (get_push d.own n _ o own)) new refl), op, dec)
-stays_open d e (turns_one m x z is q b) plain n o y own op new dec = by_place (same_or_not n m)
+stays_open d e (turns_one m x z is q b) plain n o y own op new dec = by_place (cases_eq n m)
   where
     is_z : y ≡ z → (b' : Becomes d d.floor e.floor x z) → (DecidesOne d d.floor e.floor x z b' → ⊥) → ⊥
     is_z s (goes_on r f) never = cc (ap (λ k. is_decided k.phase) s, r.is_open, dec)

@@ -6,8 +6,8 @@ use Rattle.str_model.specs.Owned.{AreTimed, IsTimed, Owns}
 use Rattle.str_model.specs.Runs.{opening_view}
 use Rattle.str_scene.specs.Scenes.{Scene}
 use Rattle.str_model.specs.Views.{Own, View, is_decided, lc_of}
-use Rattle.str_model.proofs.Lists.ListReads.{got_push, got_set}
 use Rattle.str_model.proofs.Changes.OwnChanges.{Becomes, OwnStep, aborts, certifies, closes, commits, goes_on, rests, starts_one, turns_one}
+use Rattle.str_base.proofs.Lists.{got_push, got_set}
 
 pub higher : (f g : ℕ) (x : Own) → f ≤ g → IsTimed f x → IsTimed g x
 higher f g x le t =

@@ -11,8 +11,8 @@ use Rattle.str_scene.specs.SceneLimits.{Exists}
 use Rattle.str_scene.specs.Scenes.{Here, Scene, nth}
 use Rattle.str_model.specs.Views.{Committed, Doing, Own, View, is_decided}
 use Rattle.str_model.proofs.Principle.SingleChanges.{Begins, NextPlace, is_first, is_next}
-use Rattle.str_model.proofs.Lists.ListReads.{got_push, got_set}
 use Rattle.str_model.proofs.Changes.AnswerChanges.{IsLastOf, TellStep, last_index-none, last_index-some, t_begins, t_decides, t_goes, t_rests}
+use Rattle.str_base.proofs.Lists.{get_pushed, got_push, got_set}
 
 pub get_set_cases : {A : Type 0} (xs : List A) (i j : ℕ) (y z : A) → slice_get xs j ≡ Some z → ((j ≡ i) × (slice_get (slice_set xs i y) j ≡ Some y)) ⊎ ((j ≢ i) × (slice_get (slice_set xs i y) j ≡ Some z))
 get_set_cases [] i j y z e = absurd cc
@@ -20,10 +20,6 @@ get_set_cases (x ∷ xs) zero zero y z e = inl (refl, refl)
 get_set_cases (x ∷ xs) zero (suc j) y z e = inr (λ q. cc, e)
 get_set_cases (x ∷ xs) (suc i) zero y z e = inr (λ q. cc, e)
 get_set_cases (x ∷ xs) (suc i) (suc j) y z e = elim (get_set_cases xs i j y z e) [ inl h ↦ inl (ap suc h.0, h.1) | inr h ↦ inr (λ q. h.0 (cc q), h.1) ]
-
-pub got_new : {A : Type 0} (xs : List A) (y : A) → slice_get (xs ++ y ∷ []) (length xs) ≡ Some y
-got_new [] y = refl
-got_new (x ∷ xs) y = got_new xs y
 
 pub order_set : (scene : Scene) (n i : ℕ) (x y : Own) (own : List Own) → slice_get own i ≡ Some x → is_decided x.phase ≡ false → y.place ≡ x.place → y.snap.rs ≡ x.snap.rs
     → InOrder scene n own → InOrder scene n (slice_set own i y)

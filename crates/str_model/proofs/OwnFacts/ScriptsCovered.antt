@@ -2,12 +2,10 @@
 pub use Rattle.str_model.specs.NodeFacts.{WritesKey, WritesKey, WritesKey, WritesKey, WritesKey, WritesKey, WrittenIn, WrittenIn, ScriptGood}
 use Rattle.dependency_set.specs.Snapshots.{Snap}
 use Rattle.str_model.proofs.Changes.MasterChanges.{AreDistinct}
-use Rattle.str_model.proofs.Changes.PairWords.{not_both, or_right_true}
 use Rattle.str_model.proofs.Principle.SingleChanges.{Act, AsksCommit, Change, Reads, Where, act_abort, act_abort_came, act_accept, act_ack, act_ask, act_begin, act_certify, act_close, act_commit, act_commit_came, act_mark, act_put, act_refuse, act_reply, act_request, act_take, act_unwait, act_wait, asks_again, asks_new, ch_away, ch_blind, ch_close, ch_gate, ch_known, ch_read, ch_reply, ch_resolve, ch_take, ch_wait, reads_again, reads_new}
 use Rattle.str_model.proofs.Principle.StepPaths.{step-keeps}
 use Rattle.str_model.proofs.Principle.Everywhere.{at_each_event, at_place}
-use Rattle.str_model.proofs.Changes.SnapshotsGain.{and_left, and_right, if_elim}
-use Rattle.str_model.proofs.Lists.ListReads.{got_push, got_set, same_or_not}
+use Rattle.str_model.proofs.Changes.SnapshotsGain.{if_elim}
 use Rattle.std.proofs.Common.{Bool, List, None, Option, Some, [], ap, arith, eq-eqb, eqb-true, false, if◌then◌else◌, inl, inr, map, not, refl, slice_get, slice_set, subst, suc, sym, true, ℕ, ◌&&◌, ◌+◌, ◌<◌, ◌||◌, ◌∙◌, ◌∷◌, ◌≡◌, ◌≢◌, ◌⊎◌}
 use Rattle.std.specs.List.{list_any}
 use Rattle.str_base.specs.Values.{is_below, set_write}
@@ -34,6 +32,9 @@ use Rattle.str_scene.specs.declared.names.Event.{Event}
 use Rattle.str_scene.specs.declared.names.Op.TheVariants.{Abort as Stop, Add, Del, Get, Need, Put, Puts}
 use Rattle.str_scene.specs.declared.names.Op.{Op}
 use Rattle.str_scene.specs.declared.names.TxPlace.{TxPlace}
+use Rattle.std.proofs.lemmas.Bool.{cases_eq, false_from_ne_true, not-true, or_cases, or_left, or_parts, or_right}
+use Rattle.str_base.proofs.Tests.{and_true_left, and_true_right}
+use Rattle.str_base.proofs.Lists.{got_push, got_set}
 
 -- ---- writes
 
@@ -41,69 +42,50 @@ set_key : (w : Write) (ws : List Write) (k : KeyId) → w.key ≡ k → wrote_ke
 set_key w [] k e = rw (eq-eqb w.key.0 k.0 (ap (λ (z : KeyId). z.0) e)) refl
 set_key w (u ∷ us) k e =
     if_elim (λ zs. wrote_key k zs ≡ true) (same_key u.key w.key) (w ∷ us) (u ∷ set_write w us)
-    (λ t. rw (eq-eqb w.key.0 k.0 (ap (λ (z : KeyId). z.0) e)) refl) (λ t. or_right_true (same_key u.key k) (wrote_key k (set_write w us)) (set_key w us k e))
-
-or_split : (a b : Bool) → (a || b) ≡ true → (a ≡ true) ⊎ (b ≡ true)
-or_split true b e = inl refl
-or_split false b e = inr e
-
-pub or_first : (a b : Bool) → a ≡ true → (a || b) ≡ true
-or_first true b e = refl
-or_first false b e = absurd cc
+    (λ t. rw (eq-eqb w.key.0 k.0 (ap (λ (z : KeyId). z.0) e)) refl) (λ t. or_right (same_key u.key k) (wrote_key k (set_write w us)) (set_key w us k e))
 
 keep_key : (w : Write) (ws : List Write) (k : KeyId) → wrote_key k ws ≡ true → wrote_key k (set_write w ws) ≡ true
 keep_key w [] k e = absurd (cc e)
-keep_key w (u ∷ us) k e = by_test (same_key u.key w.key) refl (or_split (same_key u.key k) (wrote_key k us) e) (keep_key w us k)
+keep_key w (u ∷ us) k e = by_test (same_key u.key w.key) refl (or_cases (same_key u.key k) (wrote_key k us) e) (keep_key w us k)
   where
     by_test : (b : Bool) → same_key u.key w.key ≡ b → (same_key u.key k ≡ true) ⊎ (wrote_key k us ≡ true) → (wrote_key k us ≡ true → wrote_key k (set_write w us) ≡ true)
         → wrote_key k (if b then w ∷ us else u ∷ set_write w us) ≡ true
-    by_test true q (inl h) rec = or_first (same_key w.key k) (wrote_key k us) (eq-eqb w.key.0 k.0 (sym (eqb-true u.key.0 w.key.0 q) ∙ eqb-true u.key.0 k.0 h))
-    by_test true q (inr h) rec = or_right_true (same_key w.key k) (wrote_key k us) h
-    by_test false q (inl h) rec = or_first (same_key u.key k) (wrote_key k (set_write w us)) h
-    by_test false q (inr h) rec = or_right_true (same_key u.key k) (wrote_key k (set_write w us)) (rec h)
+    by_test true q (inl h) rec = or_left (same_key w.key k) (wrote_key k us) (eq-eqb w.key.0 k.0 (sym (eqb-true u.key.0 w.key.0 q) ∙ eqb-true u.key.0 k.0 h))
+    by_test true q (inr h) rec = or_right (same_key w.key k) (wrote_key k us) h
+    by_test false q (inl h) rec = or_left (same_key u.key k) (wrote_key k (set_write w us)) h
+    by_test false q (inr h) rec = or_right (same_key u.key k) (wrote_key k (set_write w us)) (rec h)
 
 key_back : (w : Write) (ws : List Write) (k : KeyId) → wrote_key k (set_write w ws) ≡ true → (wrote_key k ws ≡ true) ⊎ (w.key ≡ k)
-key_back w [] k e = elim (or_split (same_key w.key k) false e) [ inl h ↦ inr (λ j. record { 0 = eqb-true w.key.0 k.0 h j }) | inr h ↦ absurd (cc h) ]
+key_back w [] k e = elim (or_cases (same_key w.key k) false e) [ inl h ↦ inr (λ j. record { 0 = eqb-true w.key.0 k.0 h j }) | inr h ↦ absurd (cc h) ]
 key_back w (u ∷ us) k e = by_test (same_key u.key w.key) e (key_back w us k)
   where
     by_test : (b : Bool) → wrote_key k (if b then w ∷ us else u ∷ set_write w us) ≡ true → (wrote_key k (set_write w us) ≡ true → (wrote_key k us ≡ true) ⊎ (w.key ≡ k))
         → ((same_key u.key k || wrote_key k us) ≡ true) ⊎ (w.key ≡ k)
-    by_test true h rec = elim (or_split (same_key w.key k) (wrote_key k us) h) [
+    by_test true h rec = elim (or_cases (same_key w.key k) (wrote_key k us) h) [
       | inl q ↦ inr (λ j. record { 0 = eqb-true w.key.0 k.0 q j })
-      | inr q ↦ inl (or_right_true (same_key u.key k) (wrote_key k us) q)
+      | inr q ↦ inl (or_right (same_key u.key k) (wrote_key k us) q)
     ]
-    by_test false h rec = elim (or_split (same_key u.key k) (wrote_key k (set_write w us)) h) [
-      | inl q ↦ inl (or_first (same_key u.key k) (wrote_key k us) q)
-      | inr q ↦ (elim (rec q) [ inl z ↦ inl (or_right_true (same_key u.key k) (wrote_key k us) z) | inr z ↦ inr z ])
+    by_test false h rec = elim (or_cases (same_key u.key k) (wrote_key k (set_write w us)) h) [
+      | inl q ↦ inl (or_left (same_key u.key k) (wrote_key k us) q)
+      | inr q ↦ (elim (rec q) [ inl z ↦ inl (or_right (same_key u.key k) (wrote_key k us) z) | inr z ↦ inr z ])
     ]
-
-not_false : (b : Bool) → not b ≡ true → b ≡ false
-not_false true e = absurd cc
-not_false false e = refl
-
-both_false : (a b : Bool) → (a || b) ≡ false → (a ≡ false) × (b ≡ false)
-both_false true b e = absurd cc
-both_false false b e = (refl, e)
-
-other_way : (a b : KeyId) → same_key a b ≡ false → same_key b a ≡ false
-other_way a b e = not_both (same_key b a) (λ q. absurd (cc (eq-eqb a.0 b.0 (sym (eqb-true b.0 a.0 q)), e)))
 
 -- a key that was not there is not there after a write of another one
 none_of : (w : Write) (ws : List Write) (k : KeyId) → list_any (same_key k) (map (λ (z : Write). z.key) ws) ≡ false → same_key k w.key ≡ false
     → list_any (same_key k) (map (λ (z : Write). z.key) (set_write w ws)) ≡ false
 none_of w [] k e f = rw f refl
 none_of w (u ∷ us) k e f =
-    let n = both_false (same_key k u.key) (list_any (same_key k) (map (λ (z : Write). z.key) us)) e in
+    let n = or_parts (same_key k u.key) (list_any (same_key k) (map (λ (z : Write). z.key) us)) e in
     if_elim (λ zs. list_any (same_key k) (map (λ (z : Write). z.key) zs) ≡ false) (same_key u.key w.key) (w ∷ us) (u ∷ set_write w us)
     (λ t. rw f n.1) (λ t. rw n.0 (none_of w us k n.1 f))
 
 -- each key stands once after one more write
 set_once : (w : Write) (ws : List Write) → AreDistinct ws → AreDistinct (set_write w ws)
 set_once w [] d = refl
-set_once w (u ∷ us) d = by_test (same_key u.key w.key) refl (set_once w us (and_right (not (list_any (same_key u.key) (map (λ (z : Write). z.key) us))) _ d))
+set_once w (u ∷ us) d = by_test (same_key u.key w.key) refl (set_once w us (and_true_right (not (list_any (same_key u.key) (map (λ (z : Write). z.key) us))) _ d))
   where
     fresh_ : list_any (same_key u.key) (map (λ (z : Write). z.key) us) ≡ false
-    fresh_ = not_false (list_any (same_key u.key) (map (λ (z : Write). z.key) us)) (and_left _ (Strange.distinct_keys (map (λ (z : Write). z.key) us)) d)
+    fresh_ = not-true (list_any (same_key u.key) (map (λ (z : Write). z.key) us)) (and_true_left _ (Strange.distinct_keys (map (λ (z : Write). z.key) us)) d)
 
     by_test : (b : Bool) → same_key u.key w.key ≡ b → AreDistinct (set_write w us) → AreDistinct (if b then w ∷ us else u ∷ set_write w us)
     by_test true q rec =
@@ -159,7 +141,7 @@ module _ (here : Here) where
       → ((k : KeyId) → WritesKey op k → wrote_key k y.writes ≡ true) → (lc_of y.phase ≡ None) → (y.phase ≡ CertWait → ⊥) → ((k : KeyId) → wrote_key k y.writes ≡ true → (wrote_key k x.writes ≡ true) ⊎ WritesKey op k) → AreDistinct y.writes
       → ScriptGood here x → ScriptGood here y
   next_good x y op e n p keep own lc wait back dist g = record {
-    covers = λ j o k l f q. by_place j o k l (subst (λ (z : TxPlace). slice_get (script_at here.scene z) j ≡ Some o) p f) q (same_or_not j x.next);
+    covers = λ j o k l f q. by_place j o k l (subst (λ (z : TxPlace). slice_get (script_at here.scene z) j ≡ Some o) p f) q (cases_eq j x.next);
     whole = λ m l. absurd (cc (lc, l));
     waits_ = λ q. absurd (wait q);
     inside = λ k h. subst (λ (z : TxPlace). WrittenIn (script_at here.scene z) k) (sym p) (elim (back k h) [ inl z ↦ g.inside k z | inr z ↦ (x.next, op, e, z) ]);

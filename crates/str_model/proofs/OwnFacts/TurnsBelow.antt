@@ -12,10 +12,10 @@ use Rattle.str_model.specs.Views.{Doing, Own, View, is_decided}
 use Rattle.str_model.proofs.Principle.SingleChanges.{Act, InRule, InTurn, Touches, Where, act_abort, act_abort_came, act_accept, act_ack, act_ask, act_begin, act_certify, act_close, act_commit, act_commit_came, act_mark, act_put, act_refuse, act_reply, act_request, act_take, act_unwait, act_wait, touches_turn}
 use Rattle.str_model.proofs.OwnFacts.EarlierDependencies.{depends-act, earlier}
 use Rattle.str_model.proofs.Changes.SnapshotsGain.{Extends, Gains, gains_it, gains_of}
-use Rattle.str_model.proofs.Lists.ListReads.{get_set_other, got_set}
-use Rattle.str_model.proofs.Lists.Members.{In}
 use Rattle.str_model.proofs.OwnFacts.LocalOwners.{Depends, open-fate, same_own}
 use Rattle.str_model.proofs.Changes.OwnChanges.{Becomes, OwnStep, aborts, certifies, closes, commits, goes_on, own_step, rests, starts_one, turns_one}
+use Rattle.str_base.proofs.Lists.{get_set_other, got_set}
+use Rattle.str_base.specs.Members.{In}
 
 -- a change outside the rule leaves the own transactions that it does not touch
 pub record Leaves (w : Where) (d e : View) : Type 0 where

@@ -19,8 +19,8 @@ use Rattle.str_model.specs.Runs.{opening_view}
 use Rattle.str_model.specs.Scripts.{finish, finish_next, found_read, found_write, known, noted, or_else, own_op}
 use Rattle.str_model.specs.Views.{Active, Closing, Doing, Own, Remote}
 use Rattle.str_model.proofs.Principle.SingleChanges.{Act, Change, Needs, NeedsNone, Reads, Where, act_abort, act_abort_came, act_accept, act_ack, act_ask, act_begin, act_certify, act_close, act_commit, act_commit_came, act_mark, act_put, act_refuse, act_reply, act_request, act_take, act_unwait, act_wait, ch_away, ch_blind, ch_close, ch_gate, ch_known, ch_read, ch_reply, ch_resolve, ch_take, ch_wait, reads_again, reads_new}
-use Rattle.str_model.proofs.Lists.ListReads.{got_push, got_set}
-use Rattle.str_model.proofs.ViewFacts.MarksRise.{same_key-is}
+use Rattle.str_base.proofs.Lists.{got_push, got_set}
+use Rattle.str_base.proofs.SameNames.{same_key-is}
 
 self_key : (k : KeyId) → same_key k k ≡ true
 self_key k = eq-eqb k.0 k.0 refl
@@ -119,6 +119,3 @@ module _ (here : Here) where
   needy-act input w d e (act_reply tx k rs v u fc d' g) h i y own = h i y own
   needy-act input w d e (act_commit_came from tx p fc ms d' c g) h i y own = h i y own
   needy-act input w d e (act_abort_came from tx p d' c g) h i y own = h i y own
-
-pub needy_opening : (here : Here) → AllNeedy here (opening_view here.scene)
-needy_opening here i x own = absurd (cc own)

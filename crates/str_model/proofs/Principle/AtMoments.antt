@@ -20,8 +20,9 @@ use Rattle.str_model.specs.Waiters
 use Rattle.str_model.proofs.Principle.SingleChanges.{Act, Comes, InRule, InTurn, InWait, PathTo, Where, along}
 use Rattle.str_model.proofs.Principle.StepPaths.{half_turn-path, turn-path, waiter_turn-waited}
 use Rattle.str_model.proofs.Changes.SnapshotsGain.{if_elim}
-use Rattle.str_model.proofs.Lists.Members.{In, in_append}
 use Rattle.str_model.proofs.Principle.RulePaths.{evict-path, rule-path}
+use Rattle.str_base.proofs.Members.{in_append}
+use Rattle.str_base.specs.Members.{In}
 
 module _ (here : Here) (input : Input) (I : Doing → Type 0) (keeps : (w : Where) (d e : Doing) → Act here input w d e → I d → I e) where
   All : List Doing → Type 0

@@ -16,7 +16,7 @@ use Rattle.str_model.specs.Steps.{step}
 use Rattle.str_model.specs.Views.{Doing, View, starts}
 use Rattle.str_model.proofs.Principle.SingleChanges.{Act, Where}
 use Rattle.str_model.proofs.Principle.StepPaths.{StepPath, StepTo, step-keeps, step-path}
-use Rattle.str_model.proofs.Lists.ListReads.{get_set, get_set_other, got_replicate, got_set, set_got}
+use Rattle.str_base.proofs.Lists.{get_set, get_set_other, got_replicate, got_set, set_got}
 
 -- what the laws see of a cluster: neither the journal nor which messages were given
 pub record Stage : Type 0 where

@@ -15,22 +15,15 @@ use Rattle.str_model.specs.Scripts
 use Rattle.str_model.specs.Views.{Aborted, Doing, Own, is_decided, lc_of, name_of}
 use Rattle.str_scene.specs.Scenes.{Here}
 use Rattle.str_model.proofs.Principle.SingleChanges.{NoneHeld}
-use Rattle.str_model.proofs.Changes.SnapshotsGain.{find_none}
-use Rattle.str_model.proofs.Lists.ListReads.{got_set}
-use Rattle.str_model.proofs.Lists.Members.{In, in_without}
+use Rattle.str_base.proofs.Members.{find_none, in_without}
+use Rattle.str_base.proofs.Lists.{got_set}
+use Rattle.str_base.specs.Members.{In}
+use Rattle.str_base.proofs.Tests.{or_false_left, or_false_right}
 
 pub none_of : {A : Type 0} (p : A → Bool) (xs : List A) (x : A) → list_any p xs ≡ false → In x xs → p x ≡ false
 none_of p [] x e h = absurd h
-none_of p (y ∷ xs) x e (inl q) = ap p (sym q) ∙ left (p y) (list_any p xs) e
-  where
-    left : (a b : Bool) → (a || b) ≡ false → a ≡ false
-    left true b q = absurd cc
-    left false b q = refl
-none_of p (y ∷ xs) x e (inr h) = none_of p xs x (right (p y) (list_any p xs) e) h
-  where
-    right : (a b : Bool) → (a || b) ≡ false → b ≡ false
-    right true b q = absurd cc
-    right false b q = q
+none_of p (y ∷ xs) x e (inl q) = ap p (sym q) ∙ or_false_left (p y) (list_any p xs) e
+none_of p (y ∷ xs) x e (inr h) = none_of p xs x (or_false_right (p y) (list_any p xs) e) h
 
 module _ (here : Here) (a : Arrived) where
   -- where no key is held, no version of the transaction is a Local one of these keys

@@ -16,9 +16,9 @@ use Rattle.str_model.proofs.Principle.AtMoments.{at_moments}
 use Rattle.str_model.proofs.Principle.Everywhere.{IsSeen, Stage, at_place, during, during_start, everywhere, run-append, stage_of, stays_at}
 use Rattle.str_model.proofs.Principle.NextMoments.{linked}
 use Rattle.str_model.proofs.Principle.MomentPaths.{link_path}
-use Rattle.str_model.proofs.Lists.ListReads.{get_set}
-use Rattle.str_model.proofs.Lists.Members.{in_at}
 use Rattle.str_model.proofs.Principle.TraceEvents.{Nth, Takes, Turns, ends_slice, event_turns, nobody, nth_of, somebody}
+use Rattle.str_base.proofs.Lists.{get_set}
+use Rattle.str_base.proofs.Members.{in_at}
 
 -- the j-th event of a run, which node n took
 pub record Took (scene : Scene) (es : List Event) (j : ℕ) (h : Happening) (n : NodeId) : Type 0 where
@@ -33,7 +33,7 @@ took scene es j h n q e = by_turn (subst (λ z. Turns scene (run scene r.early) 
     r = nth_of scene (opening scene) es j h q
 
     by_turn : Turns scene (run scene r.early) r.event h (happens scene (run scene r.early) r.event) → Took scene es j h n
-    by_turn (nobody a b) = absurd (cc (a, e))
+    by_turn (nobody a b c) = absurd (cc (a, e))
     by_turn (somebody t) = record { from = r; takes = t; node = (let same : Some n ≡ Some (record { 0 = t.place + 1 }) = sym e ∙ t.node in cc same) }
 
 opened : (here : Here) (input : Input) (v : View) → slice_get (from_rule here input (starts v) (rule here input (starts v))) 0 ≡ slice_get (moments_of here input v) 0

@@ -26,7 +26,7 @@ use Rattle.str_model.specs.Views.{Active, CertWait, Closing, Doing, Own, Phase, 
 use Rattle.str_model.proofs.Principle.SingleChanges.{AsksCommit, Change, GoesOn, IsMasters, IsOwn, JustMarked, Needs, Path, Reads, Touches, Where, act_abort, act_certify, act_mark, act_put, act_request, and_then, asks_new, at_abort, by_certification, by_script, ch_away, ch_blind, ch_close, ch_gate, ch_known, ch_read, ch_wait, one, own_reading, reads_new, stay, to_final, to_local}
 use Rattle.str_model.proofs.Changes.SnapshotsGain.{Extends, Gains, Names, Settles, TurnGood, extends_self, gains_it, gains_of, if_elim, read_turn-good}
 use Rattle.str_model.proofs.Changes.DependencyLooks.{deps_also}
-use Rattle.str_model.proofs.Lists.Members.{In}
+use Rattle.str_base.specs.Members.{In}
 
 pub nor_left : (a b : Bool) → not (a || b) ≡ true → a ≡ false
 nor_left true b e = absurd cc
@@ -178,7 +178,7 @@ module _ (here : Here) (input : Input) (w : Where) where
   read_done-path i k x (Plain v by fc snap) d f e r m q = with_value-path i k v by snap x d f e (ch_read k v by snap r m (to_final fc q))
   read_done-path i k x (Speculative v by snap) d f e r m q = with_value-path i k v (Some by) snap x d f e (ch_read k v (Some by) snap r m (to_local by refl q))
   read_done-path i k x (Wait by) d f e r m q = one (act_put i x _ d f.own (record { goes = phase-goes w d i x (ReadWait k) f refl refl; change = ch_wait k by r m q }))
-  read_done-path i k x (Away n) d f e r m q = one (act_request i k n x d f.own (record { goes = phase-goes w d i x (Remote k) f refl refl; change = ch_away k n r m q }))
+  read_done-path i k x (Away n) d f e r m q = one (act_request i k n x d f.own (record { goes = phase-goes w d i x (Remote k) f refl refl; change = ch_away k n r m q; away = q }))
 
   pub read_now-path : (i : ℕ) (k : KeyId) (x : Own) (d : Doing) → IsFree w d i x → Reads here x k → Path here input w d (read_now here i k x d)
   unfolding read_now

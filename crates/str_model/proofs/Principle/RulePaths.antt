@@ -40,28 +40,16 @@ use Rattle.str_base.specs.Versions.{of_pair, of_tx, same_key, same_node, stamp, 
 use Rattle.str_model.specs.Views.{Aborted, Active, Committed, Doing, Global, Own, Phase, Remote, Reply, is_decided, name_of, put}
 use Rattle.str_model.proofs.Principle.EvictionsClear.{all_evicted}
 use Rattle.str_model.proofs.Principle.SingleChanges.{Comes, InRule, IsOwn, NextPlace, NoneHeld, Path, PathTo, Takes, Touches, Where, a_prepare, a_read, act_abort, act_abort_came, act_accept, act_ack, act_begin, act_commit_came, act_mark, act_put, act_refuse, act_reply, act_take, act_wait, and_then, by_eviction, by_refusal, ch_reply, is_first, is_next, it_comes, more, one, stay, asked_now, JustMarked, far_reading}
-use Rattle.str_model.proofs.Changes.SnapshotsGain.{and_left, and_right, if_elim, or_false_right}
+use Rattle.str_model.proofs.Changes.SnapshotsGain.{if_elim}
 use Rattle.str_model.proofs.Principle.OwnPaths.{IsFresh, at_own-path, free_at, just_marked, nor_left, nor_right, op_or_commit-path, phase-goes}
-
-not_is : (b : Bool) → not b ≡ true → b ≡ false
-not_is true e = absurd cc
-not_is false e = refl
+use Rattle.std.proofs.lemmas.Bool.{not-true}
+use Rattle.str_base.proofs.Tests.{and_true_left, and_true_right, or_false_left, or_false_right}
 
 pub none_of_three : (a b c d : Bool) → (a && (not b && (not c && not d))) ≡ true → (b ≡ false) × (c ≡ false) × (d ≡ false)
 none_of_three false b c d e = absurd cc
 none_of_three true true c d e = absurd cc
 none_of_three true false true d e = absurd cc
-none_of_three true false false d e = (refl, refl, not_is d e)
-
--- what is taken: the node is a slave, not the origin, and the pair is new
-pub takes_parts : (here : Here) (a : Arrived) (d : Doing) → takes here d.view a ≡ true
-    → (is_master here.scene here.node a.part ≡ false) × (same_node a.tx.node here.node ≡ false) × (Proposals.is_known d.view a.tx a.part ≡ false)
-unfolding takes
-takes_parts here a d h = none_of_three (hosts here.scene here.node a.part) (is_master here.scene here.node a.part) (same_node a.tx.node here.node) (Proposals.is_known d.view a.tx a.part) h
-
-pub or_false_left : (a b : Bool) → (a || b) ≡ false → a ≡ false
-or_false_left true b e = absurd cc
-or_false_left false b e = refl
+none_of_three true false false d e = (refl, refl, not-true d e)
 
 fewer : (p test : Version → Bool) (vs : List Version) → list_any p vs ≡ false → list_any p (without test vs) ≡ false
 fewer p test [] e = refl
@@ -78,6 +66,16 @@ fewer-known p test vs false e = fewer p test vs e
 from_one : {X : Type 0} (xs : List X) (n : ℕ) (x : X) → nth xs n ≡ Some x → n ≡ (n - 1) + 1
 from_one xs zero x e = absurd cc
 from_one xs (suc i) x e = omega arith
+
+nth-get : {X : Type 0} (xs : List X) (n : ℕ) (x : X) → nth xs n ≡ Some x → slice_get xs (n - 1) ≡ Some x
+nth-get xs zero x e = absurd cc
+nth-get xs (suc i) x e = rw sub-one e
+
+-- the own transaction that a message names
+pub named_owns : (here : Here) (tx : TxId) (d : Doing) (x : Own) → Returns.own_named here tx d ≡ Some x → slice_get d.view.own (tx.seq - 1) ≡ Some x
+named_owns here tx d x =
+    if_elim (λ o. o ≡ Some x → slice_get d.view.own (tx.seq - 1) ≡ Some x) (same_node tx.node here.node) (nth d.view.own tx.seq) None
+    (λ e h. nth-get d.view.own tx.seq x h) (λ e h. absurd (cc h))
 
 module _ (here : Here) (input : Input) (w : Where) where
   module _ (is_rule : w ≡ InRule) where
@@ -137,16 +135,10 @@ module _ (here : Here) (input : Input) (w : Where) where
         if_elim (PathTo here input w d)
         (hosts_key here k && (not (same_node tx.node here.node) && not (list_any (Arrivals.waits_read tx k) d.view.waiters)))
         (Some (Arrivals.serve_done here tx k rs (serve_turn d.view.versions k rs) (marked k rs d))) None
-        (λ e. and_then d (marked k rs d) _ (one (act_mark k rs d (far_reading from tx (stamp rs) refl c))) (serve_done-path from tx k rs (serve_turn d.view.versions k rs) (marked k rs d) c (just_marked k rs d) (and_left (hosts_key here k) _ e) refl)) (λ e. tt)
+        (λ e. and_then d (marked k rs d) _ (one (act_mark k rs d (far_reading from tx (stamp rs) refl c))) (serve_done-path from tx k rs (serve_turn d.view.versions k rs) (marked k rs d) c (just_marked k rs d) (and_true_left (hosts_key here k) _ e) refl)) (λ e. tt)
 
-    nth-get : {X : Type 0} (xs : List X) (n : ℕ) (x : X) → nth xs n ≡ Some x → slice_get xs (n - 1) ≡ Some x
-    nth-get xs zero x e = absurd cc
-    nth-get xs (suc i) x e = rw sub-one e
-
-    pub own_named-is : (tx : TxId) (d : Doing) (x : Own) → Returns.own_named here tx d ≡ Some x → IsOwn w d (tx.seq - 1) x
-    own_named-is tx d x =
-        if_elim (λ o. o ≡ Some x → IsOwn w d (tx.seq - 1) x) (same_node tx.node here.node) (nth d.view.own tx.seq) None
-        (λ e h. (nth-get d.view.own tx.seq x h, touch (tx.seq - 1))) (λ e h. absurd (cc h))
+    own_named-is : (tx : TxId) (d : Doing) (x : Own) → Returns.own_named here tx d ≡ Some x → IsOwn w d (tx.seq - 1) x
+    own_named-is tx d x h = (named_owns here tx d x h, touch (tx.seq - 1))
 
     reply_phase-path : (from : NodeId) (tx : TxId) (x : Own) (k : KeyId) (v : Value) (by : Option TxId) (fc : Ts) (p : Phase) (d : Doing) → Comes here input from (ReadReply tx k v by fc)
         → Returns.own_named here tx d ≡ Some x → IsOwn w d (tx.seq - 1) x → x.phase ≡ p → PathTo here input w d (Returns.reply_phase (tx.seq - 1) x k v by fc.0 p d)
@@ -182,8 +174,8 @@ module _ (here : Here) (input : Input) (w : Where) where
         if_elim (λ t. t ≢ Ignore → IsFresh here d a t)
         (is_master here.scene here.node a.part && (not (same_node a.tx.node here.node) && not (Proposals.is_known d.view a.tx a.part || Proposals.is_parked d.view a.tx a.part)))
         (master_turn d.view a) Ignore
-        (λ e h. let n = and_right _ _ (and_right _ _ e) in
-        record { is = refl; unknown = nor_left (Proposals.is_known d.view a.tx a.part) (Proposals.is_parked d.view a.tx a.part) n; unparked = nor_right (Proposals.is_known d.view a.tx a.part) (Proposals.is_parked d.view a.tx a.part) n; mine = record { master = and_left _ _ e; foreign = not_is (same_node a.tx.node here.node) (and_left _ _ (and_right _ _ e)) } })
+        (λ e h. let n = and_true_right _ _ (and_true_right _ _ e) in
+        record { is = refl; unknown = nor_left (Proposals.is_known d.view a.tx a.part) (Proposals.is_parked d.view a.tx a.part) n; unparked = nor_right (Proposals.is_known d.view a.tx a.part) (Proposals.is_parked d.view a.tx a.part) n; mine = record { master = and_true_left _ _ e; foreign = not-true (same_node a.tx.node here.node) (and_true_left _ _ (and_true_right _ _ e)) } })
         (λ e h. absurd (h refl))
 
     prepare_rule-path : (from : NodeId) (a : Arrived) (d : Doing) → Comes here input from (Prepare a.tx a.part a.rs a.lc a.writes) → PathTo here input w d (Arrivals.prepare_rule here a d)
@@ -243,7 +235,7 @@ module _ (here : Here) (input : Input) (w : Where) where
         if_elim (PathTo here input w d) (takes here d.view a) (Arrivals.take_if here a (Arrivals.evict here a (length d.view.own) d)) None
         (λ h. let n = none_of_three (hosts here.scene here.node a.part) (is_master here.scene here.node a.part) (same_node a.tx.node here.node) (Proposals.is_known d.view a.tx a.part) h in
         take_if-path a from d (Arrivals.evict here a (length d.view.own) d) c (all_evicted here a d) (evict-path a from (length d.view.own) d c) (evict-unknown a (length d.view.own) d n.2) n.0 n.1
-        (and_left (hosts here.scene here.node a.part) (not (is_master here.scene here.node a.part) && (not (same_node a.tx.node here.node) && not (Proposals.is_known d.view a.tx a.part))) h)) (λ h. tt)
+        (and_true_left (hosts here.scene here.node a.part) (not (is_master here.scene here.node a.part) && (not (same_node a.tx.node here.node) && not (Proposals.is_known d.view a.tx a.part))) h)) (λ h. tt)
 
     -- what a slave takes is new at it, once its own writers of the keys are evicted
     pub takes_at : (a : Arrived) (d : Doing) → takes here d.view a ≡ true → nat_lt (proposed (Arrivals.evict here a (length d.view.own) d).view a) ts_limit ≡ true
@@ -257,7 +249,7 @@ module _ (here : Here) (input : Input) (w : Where) where
           slave = n.0;
           foreign = n.1;
           none_held = all_evicted here a d;
-          hosted = and_left (hosts here.scene here.node a.part) (not (is_master here.scene here.node a.part) && (not (same_node a.tx.node here.node) && not (Proposals.is_known d.view a.tx a.part))) h;
+          hosted = and_true_left (hosts here.scene here.node a.part) (not (is_master here.scene here.node a.part) && (not (same_node a.tx.node here.node) && not (Proposals.is_known d.view a.tx a.part))) h;
         }
 
     -- ---- answers of participants

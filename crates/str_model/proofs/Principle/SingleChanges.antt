@@ -41,7 +41,7 @@ use Rattle.str_model.specs.Turns.{Away, Certified, Conflict, DepTurn, Give, Late
 use Rattle.str_base.specs.Versions.{of_tx, raised, same_key, same_node, stamp}
 use Rattle.str_model.specs.Views.{Active, CertWait, Closing, Doing, Global, Own, ReadWait, Remote, Reply, View, is_decided, lc_of, name_of, put}
 use Rattle.str_model.proofs.Changes.SnapshotsGain.{Extends}
-use Rattle.str_model.proofs.Lists.Members.{In}
+use Rattle.str_base.specs.Members.{In}
 
 -- where in a step a change is made: in the rule, in the turn of the i-th own transaction, or among those who wait
 pub data Where : Type 0 where
@@ -132,6 +132,12 @@ pub data Change (here : Here) (input : Input) (d : Doing) (i : ℕ) (x : Own) : 
 pub record Goes (here : Here) (input : Input) (d : Doing) (i : ℕ) (x y : Own) : Type 0 where
   pub goes : GoesOn d.view x y
   pub change : Change here input d i x y
+
+-- it goes on to wait for the value of a key from the node to which the read goes
+pub record GoesAway (here : Here) (input : Input) (d : Doing) (i : ℕ) (k : KeyId) (master : NodeId) (x : Own) : Type 0 where
+  pub goes : GoesOn d.view x (in_phase (Remote k) x)
+  pub change : Change here input d i x (in_phase (Remote k) x)
+  pub away : read_turn here d.view x.snap k ≡ Away master
 
 -- the script wishes to abort: its next operation is an abort, or it closes at a need that is not met and has no dependency left
 pub data Wishing (here : Here) (x : Own) : Type 0 where
@@ -231,7 +237,7 @@ pub data Act (here : Here) (input : Input) (w : Where) : Doing → Doing → Typ
   act_begin : (place : TxPlace) (rs : ℕ) (d : Doing) → w ≡ InRule → Begins here place rs d → Act here input w d (begun place rs d)
   act_mark : (k : KeyId) (t : ℕ) (d : Doing) → IsReading here input d k t → Act here input w d (marked k t d)
   act_put : (i : ℕ) (x y : Own) (d : Doing) → IsOwn w d i x → Goes here input d i x y → Act here input w d (put i y d)
-  act_request : (i : ℕ) (k : KeyId) (master : NodeId) (x : Own) (d : Doing) → IsOwn w d i x → Goes here input d i x (in_phase (Remote k) x) → Act here input w d (requested here i k master x d)
+  act_request : (i : ℕ) (k : KeyId) (master : NodeId) (x : Own) (d : Doing) → IsOwn w d i x → GoesAway here input d i k master x → Act here input w d (requested here i k master x d)
   act_certify : (i lc : ℕ) (snap : Snap) (x : Own) (d : Doing) → IsAsking here w d i x → is_decided x.phase ≡ false → lc_of x.phase ≡ None
       → cert_turn here d.view x.snap x.writes ≡ Certified lc snap → Act here input w d (certified here i lc snap x d)
   act_ask : (i lc : ℕ) (p : PartId) (x : Own) (d : Doing) → IsOwn w d i x → is_decided x.phase ≡ false → lc_of x.phase ≡ Some lc

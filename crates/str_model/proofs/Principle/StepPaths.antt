@@ -20,11 +20,12 @@ use Rattle.str_model.specs.Views.{CertWait, Closing, Doing, Global, Local, Own, 
 use Rattle.str_model.specs.Waiters
 use Rattle.str_model.proofs.Principle.SingleChanges.{Act, InRule, InTurn, InWait, IsOwn, Path, PathTo, Touches, Where, act_abort, act_accept, act_ask, act_close, act_commit, act_put, act_refuse, act_reply, act_unwait, along, and_then, asks_again, at_need, by_late, by_lost, by_script, ch_resolve, ch_take, it_waits, one, reads_again, s_read, stay, IsTurn, asked_before, touches_turn}
 use Rattle.str_model.proofs.Changes.SnapshotsGain.{TurnGood, if_elim, reply_turn-good}
-use Rattle.str_model.proofs.Lists.ListReads.{get_set}
 use Rattle.str_model.proofs.Changes.DependencyLooks.{dep_turn_again}
-use Rattle.str_model.proofs.Lists.Members.{In, in_right}
 use Rattle.str_model.proofs.Principle.OwnPaths.{IsFree, at_own-path, certify_now-path, free_at, gate_commits, read_now-path, resolved-extends, with_value-path}
 use Rattle.str_model.proofs.Principle.RulePaths.{rule-path}
+use Rattle.str_base.proofs.Lists.{get_set}
+use Rattle.str_base.proofs.Members.{in_right}
+use Rattle.str_base.specs.Members.{In}
 
 module _ (here : Here) (input : Input) (w : Where) where
   -- ---- the pass
@@ -172,7 +173,6 @@ module _ (here : Here) (input : Input) (w : Where) where
 pub record StepPath (here : Here) (input : Input) (d e : Doing) : Type 0 where
   pub ruled : Doing
   pub is_rule : Steps.rule here input d ≡ Some ruled
-  pub is_after : Steps.after_rule here ruled ≡ e
   pub rule : Path here input InRule d ruled
   pub turns : (i : ℕ) → Path here input (InTurn i) (Pass.pass_to here i ruled) (Pass.pass_to here (suc i) ruled)
   pub waits : Path here input InWait (Pass.pass_to here (length ruled.view.own) ruled) e
@@ -190,7 +190,6 @@ module _ (here : Here) (input : Input) where
       record {
         ruled = r;
         is_rule = q;
-        is_after = refl;
         rule = p;
         turns = λ i. turn-path here input (InTurn i) i (Pass.pass_to here i r) refl;
         waits = wait_turns-path here input InWait [] e.view.waiters e refl;

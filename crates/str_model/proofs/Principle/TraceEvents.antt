@@ -18,7 +18,8 @@ use Rattle.str_model.specs.Views.{Doing, Own, View, starts}
 use Rattle.str_scene.specs.Scenes.{Here, Scene, Session, nth}
 use Rattle.str_model.proofs.Principle.Everywhere.{IsSeen, Sent, at_place, stage_of}
 use Rattle.str_model.proofs.Principle.LastMoment.{EndsAt, last_moment}
-use Rattle.str_model.proofs.Lists.ListReads.{get_set, get_set_other, same_or_not, set_got}
+use Rattle.str_base.proofs.Lists.{get_pushed, get_set, get_set_other, set_got}
+use Rattle.std.proofs.lemmas.Bool.{cases_eq}
 
 -- an event that a node takes: its view before, its input, its moments and its last one
 pub record Takes (scene : Scene) (w : World) (e : Event) (h : Happening) (w' : World) : Type 0 where
@@ -38,7 +39,7 @@ pub record Takes (scene : Scene) (w : World) (e : Event) (h : Happening) (w' : W
 
 -- an event: a node takes it, or none does
 pub data Turns (scene : Scene) (w : World) (e : Event) (h : Happening) (w' : World) : Type 0 where
-  nobody : h.node ≡ None → w'.nodes ≡ w.nodes → Turns scene w e h w'
+  nobody : h.node ≡ None → w'.nodes ≡ w.nodes → w'.answers ≡ w.answers → Turns scene w e h w'
   somebody : Takes scene w e h w' → Turns scene w e h w'
 
 module _ (scene : Scene) where
@@ -88,7 +89,7 @@ module _ (scene : Scene) where
 
   at_turns : (e : Event) (n : NodeId) (input : Input) (w : World) (o : Option View) → nth w.nodes n.0 ≡ o → IsSeen (stage_of w) input
       → Turns scene w e (Traces.seen_at scene e n input o) (Runs.step_at scene e n input w o)
-  at_turns e n input w None is seen = nobody refl refl
+  at_turns e n input w None is seen = nobody refl refl refl
   at_turns e n input w (Some v) is seen = by_place n.0 is
     where
       by_place : (k : ℕ) → nth w.nodes k ≡ Some v
@@ -101,7 +102,7 @@ module _ (scene : Scene) where
   event_turns w (ClientEvent s t) = by_session (nth scene.sessions s.0)
     where
       by_session : (o : Option Session) → Turns scene w (ClientEvent s t) (Traces.seen_client scene w (ClientEvent s t) s t o) (Runs.client_event scene (ClientEvent s t) s t w o)
-      by_session None = nobody refl refl
+      by_session None = nobody refl refl refl
       by_session (Some text) = at_turns (ClientEvent s t) text.node (Client s t) w (nth w.nodes text.node.0) refl tt
   event_turns w (DeliverEvent i) = by_message (nth w.sent i) refl
     where
@@ -111,7 +112,7 @@ module _ (scene : Scene) where
 
       given_same : (m : Message) (t : Turns scene (give i w) (DeliverEvent i) (Traces.seen_at scene (DeliverEvent i) m.receiver (Deliver m) (nth w.nodes m.receiver.0)) (Runs.at_node scene (DeliverEvent i) m.receiver (Deliver m) (give i w)))
           → Turns scene w (DeliverEvent i) (Traces.seen_at scene (DeliverEvent i) m.receiver (Deliver m) (nth w.nodes m.receiver.0)) (Runs.at_node scene (DeliverEvent i) m.receiver (Deliver m) (give i w))
-      given_same m (nobody a b) = nobody a b
+      given_same m (nobody a b c) = nobody a b c
       given_same m (somebody t) =
           somebody (record {
             place = t.place;
@@ -130,7 +131,7 @@ module _ (scene : Scene) where
           })
 
       by_message : (o : Option Message) → nth w.sent i ≡ o → Turns scene w (DeliverEvent i) (Traces.seen_message scene w (DeliverEvent i) o) (Runs.deliver_event scene (DeliverEvent i) i w o)
-      by_message None q = nobody refl refl
+      by_message None q = nobody refl refl refl
       by_message (Some m) q = given_same m (at_turns (DeliverEvent i) m.receiver (Deliver m) (give i w) (nth w.nodes m.receiver.0) refl (nth-sent i m q))
 
 -- the j-th event of a trace
@@ -161,12 +162,8 @@ pub record Was (scene : Scene) (w : World) (es : List Event) (n i : ℕ) (x : Ow
   pub at_moment : slice_get entry.moments moment ≡ Some doing
   pub owns : Owns doing.view i x
 
-last_of_list : {A : Type 0} (xs : List A) (x : A) → slice_get (xs ++ x ∷ []) (length xs) ≡ Some x
-last_of_list [] x = refl
-last_of_list (y ∷ xs) x = last_of_list xs x
-
 pub ends_slice : (ms : List Doing) (d : Doing) (e : EndsAt ms d) → slice_get ms (length e.0) ≡ Some d
-ends_slice ms d e = ap (λ xs. slice_get xs (length e.0)) e.1 ∙ last_of_list e.0 d
+ends_slice ms d e = ap (λ xs. slice_get xs (length e.0)) e.1 ∙ get_pushed e.0 d
 
 pub was_from : (scene : Scene) (w : World) (es : List Event) (n i : ℕ) (v : View) (x : Own) → slice_get (run_from scene w es).nodes n ≡ Some v → Owns v i x
     → Was scene w es n i x ⊎ ((u : View) × (slice_get w.nodes n ≡ Some u) × Owns u i x)
@@ -175,9 +172,9 @@ was_from scene w (e ∷ es) n i v x is own = later (was_from scene (happens scen
   where
     by_turn : (u : View) → slice_get (happens scene w e).nodes n ≡ Some u → Owns u i x → Turns scene w e (happening scene w e) (happens scene w e)
         → Was scene w (e ∷ es) n i x ⊎ ((u : View) × (slice_get w.nodes n ≡ Some u) × Owns u i x)
-    by_turn u g o (nobody a b) = inr (u, ap (λ ns. slice_get ns n) (sym b) ∙ g, o)
+    by_turn u g o (nobody a b c) = inr (u, ap (λ ns. slice_get ns n) (sym b) ∙ g, o)
     by_turn u g o (somebody t) =
-        elim (same_or_not n t.place) [
+        elim (cases_eq n t.place) [
           | inl s ↦ (let at : Some t.last.view ≡ Some u = sym (ap (λ ns. slice_get ns n) t.after ∙ (ap (λ m. slice_get (slice_set w.nodes t.place t.last.view) m) s ∙ get_set w.nodes t.place t.view t.last.view t.is)) ∙ g in
               let same : t.last.view ≡ u = cc at in
               inl (record {

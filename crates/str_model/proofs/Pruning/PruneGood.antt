@@ -13,10 +13,13 @@ use Rattle.str_model.specs.declared.messages.Input.{Input}
 use Rattle.str_model.specs.Proposals.{is_done, is_pair, proposed}
 use Rattle.str_model.specs.Views.{Doing, Own, View, is_decided, name_of}
 use Rattle.str_model.proofs.Principle.SingleChanges.{Act, Where, act_abort, act_abort_came, act_accept, act_ack, act_ask, act_begin, act_certify, act_close, act_commit, act_commit_came, act_mark, act_put, act_refuse, act_reply, act_request, act_take, act_unwait, act_wait}
-use Rattle.str_model.proofs.Lists.ListReads.{get_push, get_set, get_set_other, same_or_not}
-use Rattle.str_model.proofs.Lists.Members.{In, in_filter, in_insert_all, in_map, in_without}
 use Rattle.str_model.proofs.Changes.OwnChanges.{Becomes, OwnStep, aborts, certifies, closes, commits, goes_on, own_step, rests, starts_one, turns_one}
-use Rattle.str_model.proofs.Pruning.PruneLists.{and_cases, or_left, or_right}
+use Rattle.std.proofs.lemmas.Bool.{and_from, and_parts, cases_eq, not-true, or_left, or_right}
+use Rattle.str_base.proofs.Lists.{get_push, get_set, get_set_other}
+use Rattle.str_base.proofs.Members.{in_filter, in_insert_all, in_map, in_without}
+use Rattle.str_base.proofs.SameNames.{same_tx-is}
+use Rattle.str_base.specs.Members.{In}
+use Rattle.str_model.proofs.Changes.PairWords.{becomes-open}
 
 -- the version's transaction is one of another node whose pair is done, or an own one that has its decision
 pub data Finished (here : Here) (v : View) (q : Version) : Type 0 where
@@ -53,24 +56,17 @@ done_act here input w d e (act_wait r d' h) = ([], sym (append-nil d'.view.done)
 done_act here input w d e (act_unwait kept rest r d' h) = ([], sym (append-nil d'.view.done))
 done_act here input w d e (act_reply tx k rs v u fc d' h) = ([], sym (append-nil d'.view.done))
 
-decided_becomes : (v : View) (f g : ℕ) (x y : Own) → Becomes v f g x y → is_decided x.phase ≡ false
-decided_becomes v f g x y (goes_on b e) = b.was_open
-decided_becomes v f g x y (certifies lc o n p q s lt e) = o
-decided_becomes v f g x y (commits lc fc o l c e m) = o
-decided_becomes v f g x y (closes o n e m) = o
-decided_becomes v f g x y (aborts c o e m) = o
-
 -- a decided own transaction stays
 stays_decided : (d e : View) → OwnStep d e → (i : ℕ) (x : Own) → slice_get d.own i ≡ Some x → is_decided x.phase ≡ true → slice_get e.own i ≡ Some x
 stays_decided d e (rests o f) i x q z = ap (λ (xs : List Own). slice_get xs i) o ∙ q
 stays_decided d e (starts_one place rs up o f) i x q z = ap (λ (xs : List Own). slice_get xs i) o ∙ get_push d.own i (Acts.fresh place rs) x q
-stays_decided d e (turns_one j y y' is o b) i x q z = ap (λ (xs : List Own). slice_get xs i) o ∙ by_place (same_or_not i j)
+stays_decided d e (turns_one j y y' is o b) i x q z = ap (λ (xs : List Own). slice_get xs i) o ∙ by_place (cases_eq i j)
   where
     by_place : (i ≡ j) ⊎ ((i ≡ j) → ⊥) → slice_get (slice_set d.own j y') i ≡ Some x
     by_place (inl k) =
         let both : Some x ≡ Some y = sym q ∙ (ap (λ (n : ℕ). slice_get d.own n) k ∙ is) in
         let same : x ≡ y = cc both in
-        absurd (cc (z, ap (λ (u : Own). is_decided u.phase) same, decided_becomes d d.floor e.floor y y' b))
+        absurd (cc (z, ap (λ (u : Own). is_decided u.phase) same, becomes-open d d.floor e.floor y y' b))
     by_place (inr k) = get_set_other d.own j i y' k ∙ q
 
 finished_stays : (here : Here) (input : Input) (w : Where) (d e : Doing) → Act here input w d e → (q : Version) → Finished here d.view q → Finished here e.view q
@@ -81,25 +77,12 @@ finished_stays here input w d e a q (f_own i x n at z) = f_own i x n (stays_deci
 
 -- ---- each change
 
-tx_same : (a b : TxId) → same_tx a b ≡ true → a ≡ b
-tx_same a b h =
-    let r = and_cases (same_node a.node b.node) (a.seq == b.seq) h in
-    let n = eqb-true a.node.0 b.node.0 r.0 in let s = eqb-true a.seq b.seq r.1 in (λ j. record { node = record { 0 = n j }; seq = s j })
-
-not_false : (b : Bool) → not b ≡ true → b ≡ false
-not_false true e = absurd cc
-not_false false e = refl
-
 last_done : (xs : List (TxId × PartId)) (tx : TxId) (p : PartId) (t : TxId) (r : PartId) → t ≡ tx → r.0 ≡ p.0 → list_any (is_pair t r) (xs ++ (tx, p) ∷ []) ≡ true
 last_done xs tx p t r e f =
     let node : tx.node.0 ≡ t.node.0 = ap (λ (z : TxId). z.node.0) (sym e) in
     let seq : tx.seq ≡ t.seq = ap (λ (z : TxId). z.seq) (sym e) in
-    let one : is_pair t r (tx, p) ≡ true = and_both (same_tx tx t) (same_part p r) (and_both (same_node tx.node t.node) (tx.seq == t.seq) (eq-eqb tx.node.0 t.node.0 node) (eq-eqb tx.seq t.seq seq)) (eq-eqb p.0 r.0 (sym f)) in
+    let one : is_pair t r (tx, p) ≡ true = and_from (same_tx tx t) (same_part p r) (and_from (same_node tx.node t.node) (tx.seq == t.seq) (eq-eqb tx.node.0 t.node.0 node) (eq-eqb tx.seq t.seq seq)) (eq-eqb p.0 r.0 (sym f)) in
     list_any-append (is_pair t r) xs ((tx, p) ∷ []) ∙ or_right (list_any (is_pair t r) xs) (list_any (is_pair t r) ((tx, p) ∷ [])) (or_left (is_pair t r (tx, p)) false one)
-  where
-    and_both : (a b : Bool) → a ≡ true → b ≡ true → (a && b) ≡ true
-    and_both true b g h = h
-    and_both false b g h = absurd cc
 
 finals_by : (here : Here) (input : Input) (w : Where) (d e : Doing) → Act here input w d e → (q : Version) → In q e.view.versions → is_undecided q.kind ≡ false → Finals here d.view → (Finished here d.view q → Finished here e.view q) → Finished here e.view q
 unfolding begun marked aborted committed closed certified asked acked requested accepted taken refused waits replied commit_came abort_came
@@ -119,7 +102,7 @@ finals_by here input w d e (act_commit i lc fc x d' own l n le f g) q m k h s =
     elim (in_insert_all (map (settled fc) (filter (Acts.is_hosted_of here (name_of here i)) d'.view.versions)) (without (of_tx (name_of here i)) d'.view.versions) q m) [
       | inl j ↦ (let r = in_map (settled fc) (filter (Acts.is_hosted_of here (name_of here i)) d'.view.versions) q j in
           let u = in_filter (Acts.is_hosted_of here (name_of here i)) d'.view.versions r.0 r.1 in
-          let t = tx_same r.0.tx (name_of here i) (and_cases (of_tx (name_of here i) r.0) (hosts here.scene here.node r.0.part) u.1).0 in
+          let t = same_tx-is r.0.tx (name_of here i) (and_parts (of_tx (name_of here i) r.0) (hosts here.scene here.node r.0.part) u.1).0 in
           f_own i _ (ap (λ (z : Version). z.tx) (sym r.2) ∙ t) (get_set d'.view.own i x _ own.0) refl)
       | inr j ↦ s (h q (in_without (of_tx (name_of here i)) d'.view.versions q j) k)
     ]
@@ -141,10 +124,10 @@ finals_by here input w d e (act_reply tx l rs v u fc d' c) q m k h s = s (h q m 
 finals_by here input w d e (act_commit_came from tx p fc ms d' c g) q m k h s =
     elim (in_insert_all (map (settled fc.0) (filter (of_pair tx p) d'.view.versions)) (without (of_pair tx p) d'.view.versions) q m) [
       | inl j ↦ (let r = in_map (settled fc.0) (filter (of_pair tx p) d'.view.versions) q j in
-          let u = and_cases (same_tx r.0.tx tx) (same_part r.0.part p) (in_filter (of_pair tx p) d'.view.versions r.0 r.1).1 in
-          let t : q.tx ≡ tx = ap (λ (z : Version). z.tx) (sym r.2) ∙ tx_same r.0.tx tx u.0 in
+          let u = and_parts (same_tx r.0.tx tx) (same_part r.0.part p) (in_filter (of_pair tx p) d'.view.versions r.0 r.1).1 in
+          let t : q.tx ≡ tx = ap (λ (z : Version). z.tx) (sym r.2) ∙ same_tx-is r.0.tx tx u.0 in
           let part : q.part.0 ≡ p.0 = ap (λ (z : Version). z.part.0) (sym r.2) ∙ eqb-true r.0.part.0 p.0 u.1 in
-          let f = not_false (same_node tx.node here.node) (and_cases (not (same_node tx.node here.node)) (not (is_done d'.view tx p)) (and_cases (hosts here.scene here.node p) (not (same_node tx.node here.node) && not (is_done d'.view tx p)) g).1).0 in
+          let f = not-true (same_node tx.node here.node) (and_parts (not (same_node tx.node here.node)) (not (is_done d'.view tx p)) (and_parts (hosts here.scene here.node p) (not (same_node tx.node here.node) && not (is_done d'.view tx p)) g).1).0 in
           f_done (ap (λ (z : TxId). same_node z.node here.node) t ∙ f) (last_done d'.view.done tx p q.tx q.part t part))
       | inr j ↦ s (h q (in_without (of_pair tx p) d'.view.versions q j) k)
     ]

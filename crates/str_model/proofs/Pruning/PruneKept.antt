@@ -9,9 +9,9 @@ use Rattle.str_model.specs.Proposals.{proposed}
 use Rattle.str_model.specs.Pruning.{low, low_from}
 use Rattle.str_model.specs.Views.{Doing, Own, View, is_decided}
 use Rattle.str_model.proofs.Principle.SingleChanges.{Act, Where, act_abort, act_abort_came, act_accept, act_ack, act_ask, act_begin, act_certify, act_close, act_commit, act_commit_came, act_mark, act_put, act_refuse, act_reply, act_request, act_take, act_unwait, act_wait}
-use Rattle.str_model.proofs.Lists.ListReads.{got_set}
 use Rattle.str_model.proofs.Changes.OwnChanges.{Becomes, OwnStep, aborts, certifies, closes, commits, goes_on, own_step, rests, starts_one, turns_one}
 use Rattle.str_model.proofs.Pruning.PruneOrder.{InOrder, order_all, order_filter, order_finalise}
+use Rattle.str_base.proofs.Lists.{got_set}
 
 -- the floor and the snapshot of each own undecided transaction are at or above the mark
 pub record Above (g : ℕ) (v : View) : Type 0 where

@@ -5,26 +5,7 @@ use Rattle.str_base.specs.declared.names.KeyId.{KeyId}
 use Rattle.str_base.specs.declared.names.Version.{Version}
 use Rattle.str_base.specs.Versions.{is_undecided, newest, same_key, ts_or_zero, visible}
 use Rattle.str_model.specs.Pruning.{covers, hides, pruned_versions}
-
-pub or_cases : (p q : Bool) → (p || q) ≡ true → (p ≡ true) ⊎ (q ≡ true)
-or_cases true q e = inl refl
-or_cases false q e = inr e
-
-pub and_cases : (p q : Bool) → (p && q) ≡ true → (p ≡ true) × (q ≡ true)
-and_cases true q e = (refl, e)
-and_cases false q e = absurd cc
-
-pub or_left : (p q : Bool) → p ≡ true → (p || q) ≡ true
-or_left true q e = refl
-or_left false q e = absurd cc
-
-pub or_right : (p q : Bool) → q ≡ true → (p || q) ≡ true
-or_right true q e = refl
-or_right false q e = e
-
-pub and_true : (p q : Bool) → p ≡ true → q ≡ true → (p && q) ≡ true
-and_true true q e f = f
-and_true false q e f = absurd cc
+use Rattle.std.proofs.lemmas.Bool.{and_from, and_parts, or_cases, or_left, or_right}
 
 -- a test that the other implies
 pub any_more : (p q : Version → Bool) → ((v : Version) → p v ≡ true → q v ≡ true) → (vs : List Version) → list_any p vs ≡ true → list_any q vs ≡ true
@@ -35,12 +16,12 @@ any_more p q h (v ∷ vs) e =
 -- what covers a key at a mark covers it at each greater one
 covers_more : (g g' : ℕ) (l k : KeyId) (w : Version) → g ≤ g' → same_key l k ≡ true → covers g l w ≡ true → covers g' k w ≡ true
 covers_more g g' l k w le s e =
-    let a = and_cases (not (is_undecided w.kind)) (same_key w.key l && nat_le w.ts.0 g) e in
-    let b = and_cases (same_key w.key l) (nat_le w.ts.0 g) a.1 in
+    let a = and_parts (not (is_undecided w.kind)) (same_key w.key l && nat_le w.ts.0 g) e in
+    let b = and_parts (same_key w.key l) (nat_le w.ts.0 g) a.1 in
     let key : w.key.0 ≡ k.0 = eqb-true w.key.0 l.0 b.0 ∙ eqb-true l.0 k.0 s in
     let low : w.ts.0 ≤ g = leb-true w.ts.0 g b.1 in
-    and_true (not (is_undecided w.kind)) (same_key w.key k && nat_le w.ts.0 g') a.0
-    (and_true (same_key w.key k) (nat_le w.ts.0 g') (eq-eqb w.key.0 k.0 key) (le-leb w.ts.0 g' (omega (arith, low, le))))
+    and_from (not (is_undecided w.kind)) (same_key w.key k && nat_le w.ts.0 g') a.0
+    (and_from (same_key w.key k) (nat_le w.ts.0 g') (eq-eqb w.key.0 k.0 key) (le-leb w.ts.0 g' (omega (arith, low, le))))
 
 -- what is hidden covers no key that what follows does not cover
 pub any_later : (g g' : ℕ) (k : KeyId) (v : Version) (vs : List Version) → g ≤ g' → hides g v vs ≡ true → list_any (covers g' k) vs ≡ list_any (covers g' k) (v ∷ vs)
@@ -49,8 +30,8 @@ any_later g g' k v vs le h = by_cover (covers g' k v) refl
     by_cover : (b : Bool) → covers g' k v ≡ b → list_any (covers g' k) vs ≡ (b || list_any (covers g' k) vs)
     by_cover false c = refl
     by_cover true c =
-        let a = and_cases (not (is_undecided v.kind)) (list_any (covers g v.key) vs) h in
-        let s = and_cases (same_key v.key k) (nat_le v.ts.0 g') (and_cases (not (is_undecided v.kind)) (same_key v.key k && nat_le v.ts.0 g') c).1 in
+        let a = and_parts (not (is_undecided v.kind)) (list_any (covers g v.key) vs) h in
+        let s = and_parts (same_key v.key k) (nat_le v.ts.0 g') (and_parts (not (is_undecided v.kind)) (same_key v.key k && nat_le v.ts.0 g') c).1 in
         any_more (covers g v.key) (covers g' k) (λ w e. covers_more g g' v.key k w le s.0 e) vs a.1
 
 -- the last cover is never hidden
@@ -66,8 +47,8 @@ any_kept g g' k (v ∷ vs) le = by_hidden (hides g v vs) refl (any_kept g g' k v
 -- what is hidden at a mark is hidden at each greater one
 hides_more : (g g' : ℕ) (v : Version) (vs : List Version) → g ≤ g' → hides g v vs ≡ true → hides g' v vs ≡ true
 hides_more g g' v vs le h =
-    let a = and_cases (not (is_undecided v.kind)) (list_any (covers g v.key) vs) h in
-    and_true (not (is_undecided v.kind)) (list_any (covers g' v.key) vs) a.0
+    let a = and_parts (not (is_undecided v.kind)) (list_any (covers g v.key) vs) h in
+    and_from (not (is_undecided v.kind)) (list_any (covers g' v.key) vs) a.0
     (any_more (covers g v.key) (covers g' v.key) (λ w e. covers_more g g' v.key v.key w le (eq-eqb v.key.0 v.key.0 refl) e) vs a.1)
 
 -- pruning at a greater mark later comes to pruning at the greater mark
@@ -89,7 +70,7 @@ filter_pruned g test h (v ∷ vs) = by_hidden (hides g v vs) refl (filter_pruned
   where
     fails : hides g v vs ≡ true → (b : Bool) → test v ≡ b → filter test vs ≡ (if b then v ∷ filter test vs else filter test vs)
     fails k false e = refl
-    fails k true e = absurd (cc (h v e, (and_cases (not (is_undecided v.kind)) (list_any (covers g v.key) vs) k).0))
+    fails k true e = absurd (cc (h v e, (and_parts (not (is_undecided v.kind)) (list_any (covers g v.key) vs) k).0))
 
     by_hidden : (b : Bool) → hides g v vs ≡ b → filter test (pruned_versions g vs) ≡ filter test vs
         → filter test (if b then pruned_versions g vs else v ∷ pruned_versions g vs) ≡ filter test (v ∷ vs)
@@ -116,7 +97,7 @@ last_pruned g k test up one o (v ∷ vs) = by_hidden (hides g v vs) refl (λ p. 
     overtaken : hides g v vs ≡ true → (b : Bool) → test v ≡ b → last_or o (filter test vs) ≡ last_or o (if b then v ∷ filter test vs else filter test vs)
     overtaken h false e = refl
     overtaken h true e =
-        let a = and_cases (not (is_undecided v.kind)) (list_any (covers g v.key) vs) h in
+        let a = and_parts (not (is_undecided v.kind)) (list_any (covers g v.key) vs) h in
         last_any test o (Some v) vs (any_more (covers g v.key) test (λ w c. up w (covers_more g g v.key k w (omega arith) (one v e) c)) vs a.1)
 
     kept : (b : Bool) → test v ≡ b → ((p : Option Version) → last_or p (filter test (pruned_versions g vs)) ≡ last_or p (filter test vs)) → last_or o (if b then v ∷ filter test (pruned_versions g vs) else filter test (pruned_versions g vs)) ≡ last_or o (if b then v ∷ filter test vs else filter test vs)
@@ -131,12 +112,12 @@ last_pruned g k test up one o (v ∷ vs) = by_hidden (hides g v vs) refl (λ p. 
 pub visible_pruned : (g : ℕ) (vs : List Version) (k : KeyId) (r : ℕ) → g ≤ r → visible (pruned_versions g vs) k r ≡ visible vs k r
 visible_pruned g vs k r le =
     last_pruned g k (λ v. same_key v.key k && nat_le v.ts.0 r)
-    (λ w c. (let a = and_cases (same_key w.key k) (nat_le w.ts.0 g) (and_cases (not (is_undecided w.kind)) (same_key w.key k && nat_le w.ts.0 g) c).1 in
-    let low : w.ts.0 ≤ g = leb-true w.ts.0 g a.1 in and_true (same_key w.key k) (nat_le w.ts.0 r) a.0 (le-leb w.ts.0 r (omega (arith, low, le)))))
-    (λ v e. (and_cases (same_key v.key k) (nat_le v.ts.0 r) e).0) None vs
+    (λ w c. (let a = and_parts (same_key w.key k) (nat_le w.ts.0 g) (and_parts (not (is_undecided w.kind)) (same_key w.key k && nat_le w.ts.0 g) c).1 in
+    let low : w.ts.0 ≤ g = leb-true w.ts.0 g a.1 in and_from (same_key w.key k) (nat_le w.ts.0 r) a.0 (le-leb w.ts.0 r (omega (arith, low, le)))))
+    (λ v e. (and_parts (same_key v.key k) (nat_le v.ts.0 r) e).0) None vs
 
 -- the newest timestamp stays, whatever the mark
 pub newest_pruned : (g : ℕ) (vs : List Version) (k : KeyId) → newest (pruned_versions g vs) k ≡ newest vs k
 newest_pruned g vs k =
     ap ts_or_zero (last_pruned g k (λ v. same_key v.key k)
-    (λ w c. (and_cases (same_key w.key k) (nat_le w.ts.0 g) (and_cases (not (is_undecided w.kind)) (same_key w.key k && nat_le w.ts.0 g) c).1).0) (λ v e. e) None vs)
+    (λ w c. (and_parts (same_key w.key k) (nat_le w.ts.0 g) (and_parts (not (is_undecided w.kind)) (same_key w.key k && nat_le w.ts.0 g) c).1).0) (λ v e. e) None vs)

@@ -1,7 +1,7 @@
 -- What a replica decides is the same over a pruned list: in full at or above the mark, else up to the transaction that a refusal names.
 use Rattle.std.proofs.Common.{Bool, List, None, Option, Some, [], ap, false, find, if◌then◌else◌, inl, inr, max, nat_lt, not, refl, sym, true, ℕ, ◌&&◌, ◌+◌, ◌||◌, ◌∙◌, ◌∷◌, ◌≡◌, ◌≤◌, arith, ltb-true, lt-ltb}
 use Rattle.std.specs.List.{list_any}
-use Rattle.std.proofs.lemmas.Bool.{le-ltb}
+use Rattle.std.proofs.lemmas.Bool.{and_parts, le-ltb}
 use Rattle.str_base.specs.declared.names.KeyId.{KeyId}
 use Rattle.str_base.specs.declared.names.PartId.{PartId}
 use Rattle.str_base.specs.declared.names.TxId.{TxId}
@@ -16,7 +16,6 @@ use Rattle.str_model.specs.Proposals.{MasterTurn, Refuse, accepts, is_done, is_k
 use Rattle.str_model.specs.Pruning.{covers, hides, pruned, pruned_versions}
 use Rattle.str_model.specs.Turns.{met}
 use Rattle.str_model.specs.Views.{View}
-use Rattle.str_model.proofs.Pruning.PruneLists.{and_cases}
 use Rattle.str_model.proofs.Pruning.PruneOrder.{InOrder, PassesOpen}
 use Rattle.str_model.proofs.Pruning.PruneTurns.{find_met_low, key_found, key_met_pruned, passed_pruned}
 
@@ -27,7 +26,7 @@ any_pruned g p (v ∷ vs) h = by_hidden (hides g v vs) refl (any_pruned g p vs (
   where
     fails : hides g v vs ≡ true → (b : Bool) → p v ≡ b → list_any p vs ≡ (b || list_any p vs)
     fails k false e = refl
-    fails k true e = absurd (cc (h v (inl refl) e, (and_cases (not (is_undecided v.kind)) (list_any (covers g v.key) vs) k).0))
+    fails k true e = absurd (cc (h v (inl refl) e, (and_parts (not (is_undecided v.kind)) (list_any (covers g v.key) vs) k).0))
 
     by_hidden : (b : Bool) → hides g v vs ≡ b → list_any p (pruned_versions g vs) ≡ list_any p vs → list_any p (if b then pruned_versions g vs else v ∷ pruned_versions g vs) ≡ list_any p (v ∷ vs)
     by_hidden true k r = r ∙ fails k (p v) refl
@@ -50,15 +49,12 @@ pub held_pruned : (g : ℕ) (vs : List Version) (tx : TxId) (ws : List Write) �
 held_pruned g vs tx ws =
     (λ j. find
     (λ w. any_pruned g (λ v. same_key v.key w.key && (of_tx tx v && is_local v.kind)) vs
-    (λ v i e. local_open v.kind (and_cases (of_tx tx v) (is_local v.kind) (and_cases (same_key v.key w.key) (of_tx tx v && is_local v.kind) e).1).1) j) ws)
+    (λ v i e. local_open v.kind (and_parts (of_tx tx v) (is_local v.kind) (and_parts (same_key v.key w.key) (of_tx tx v && is_local v.kind) e).1).1) j) ws)
 
 pub proposed_pruned : (g : ℕ) (view : View) (a : Arrived) → proposed (pruned g view) a ≡ proposed view a
 proposed_pruned g view a = (λ j. max a.lc.0 (1 + passed_pruned g view a.writes j))
 
 -- ---- the master
-
-not_open : (kind : Kind) → is_undecided kind ≡ false → not (is_undecided kind) ≡ true
-not_open kind e = rw e refl
 
 parks_none : (g : ℕ) (a : Arrived) (v : Version) → is_undecided v.kind ≡ false → v.ts.0 ≤ g → parks a v ≡ false
 parks_none g a v e low = rw e refl

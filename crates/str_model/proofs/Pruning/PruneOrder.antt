@@ -4,9 +4,11 @@ use Rattle.std.specs.List.{list_any}
 use Rattle.str_base.specs.declared.names.Version.{Version}
 use Rattle.str_base.specs.Versions.{finalise, insert_all, insert_version, is_before, is_undecided, same_key, settled, without}
 use Rattle.str_model.specs.Pruning.{covers, hides, pruned_versions}
-use Rattle.str_model.proofs.Lists.Members.{In, in_filter, in_insert}
-use Rattle.str_model.proofs.Pruning.PruneLists.{and_cases, and_true, any_kept, any_later, or_right, pruned_again}
-use Rattle.str_model.proofs.Lists.VersionOrder.{before_mix, before_not}
+use Rattle.str_model.proofs.Pruning.PruneLists.{any_kept, any_later, pruned_again}
+use Rattle.std.proofs.lemmas.Bool.{and_from, and_parts, or_right}
+use Rattle.str_base.proofs.Members.{in_filter, in_insert}
+use Rattle.str_base.proofs.Order.{before_mix, before_not, insert_first}
+use Rattle.str_base.specs.Members.{In}
 
 -- in order: none comes before one that stands earlier
 abbrev pub InOrder : List Version → Type 0
@@ -78,10 +80,6 @@ any_insert p v (w ∷ ws) = by_before (is_before v w) (any_insert p v ws)
     by_before true r = refl
     by_before false r = ap (λ z. p w || z) r ∙ swap (p v) (p w) (list_any p ws)
 
-first_of : (v : Version) (vs : List Version) → ((w : Version) → In w vs → is_before v w ≡ true) → insert_version v vs ≡ v ∷ vs
-first_of v [] h = refl
-first_of v (w ∷ ws) h = rw (h w (inl refl)) refl
-
 -- what follows may be pruned first
 cons_again : (g : ℕ) (v : Version) (vs : List Version) → pruned_versions g (v ∷ pruned_versions g vs) ≡ pruned_versions g (v ∷ vs)
 cons_again g v vs =
@@ -108,8 +106,8 @@ pruned_insert g v (w ∷ ws) o = by_hidden (hides g w ws) refl (is_before v w) r
 
     hidden_still : hides g w ws ≡ true → hides g w (insert_version v ws) ≡ true
     hidden_still h =
-        let a = and_cases (not (is_undecided w.kind)) (list_any (covers g w.key) ws) h in
-        and_true (not (is_undecided w.kind)) (list_any (covers g w.key) (insert_version v ws)) a.0 (any_insert (covers g w.key) v ws ∙ or_right (covers g w.key v) (list_any (covers g w.key) ws) a.1)
+        let a = and_parts (not (is_undecided w.kind)) (list_any (covers g w.key) ws) h in
+        and_from (not (is_undecided w.kind)) (list_any (covers g w.key) (insert_version v ws)) a.0 (any_insert (covers g w.key) v ws ∙ or_right (covers g w.key v) (list_any (covers g w.key) ws) a.1)
 
     hides_same : hides g w (insert_version v (pruned_versions g ws)) ≡ hides g w (insert_version v ws)
     hides_same =
@@ -119,7 +117,7 @@ pruned_insert g v (w ∷ ws) o = by_hidden (hides g w ws) refl (is_before v w) r
     by_hidden : (h : Bool) → hides g w ws ≡ h → (b : Bool) → is_before v w ≡ b
         → pruned_versions g (insert_version v (pruned_versions g ws)) ≡ pruned_versions g (insert_version v ws)
         → pruned_versions g (insert_version v (if h then pruned_versions g ws else w ∷ pruned_versions g ws)) ≡ pruned_versions g (if b then v ∷ w ∷ ws else w ∷ insert_version v ws)
-    by_hidden true h true b r = r ∙ (ap (pruned_versions g) (first_of v ws (before_rest b)) ∙ hidden_first h)
+    by_hidden true h true b r = r ∙ (ap (pruned_versions g) (insert_first v ws (before_rest b)) ∙ hidden_first h)
     by_hidden true h false b r = r ∙ sym (rw (hidden_still h) refl)
     by_hidden false h true b r =
         let rest : w ∷ pruned_versions g ws ≡ pruned_versions g (w ∷ ws) = rw h refl in
@@ -167,7 +165,7 @@ pruned_without g test [] h = refl
 pruned_without g test (v ∷ vs) h = by_test (test v) refl (hides g v vs) refl (pruned_without g test vs (λ w k. h w (inr k)))
   where
     any_without : (us : List Version) → PassesOpen test us → list_any (covers g v.key) (without test us) ≡ list_any (covers g v.key) us
-    any_without us k = any_open test us k (covers g v.key) (λ w c. (and_cases (not (is_undecided w.kind)) (same_key w.key v.key && nat_le w.ts.0 g) c).0)
+    any_without us k = any_open test us k (covers g v.key) (λ w c. (and_parts (not (is_undecided w.kind)) (same_key w.key v.key && nat_le w.ts.0 g) c).0)
 
     by_test : (b : Bool) → test v ≡ b → (c : Bool) → hides g v vs ≡ c → pruned_versions g (without test vs) ≡ without test (pruned_versions g vs)
         → pruned_versions g (if not b then v ∷ without test vs else without test vs) ≡ without test (if c then pruned_versions g vs else v ∷ pruned_versions g vs)

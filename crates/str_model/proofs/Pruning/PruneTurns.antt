@@ -3,7 +3,7 @@ use Rattle.std.proofs.Common.{Bool, List, None, Option, Some, [], ap, arith, eq-
 use Rattle.std.specs.List.{last_or, list_any}
 use Rattle.std.proofs.lemmas.List.Folds.{find-append}
 use Rattle.std.specs.Option.{option_or}
-use Rattle.std.proofs.lemmas.Bool.{le-ltb}
+use Rattle.std.proofs.lemmas.Bool.{and_parts, le-ltb, not-true, or_cases, or_left, or_right}
 use Rattle.dependency_set.specs.Snapshots.{Snap}
 use Rattle.str_base.specs.declared.names.KeyId.{KeyId}
 use Rattle.str_base.specs.declared.names.Kind.{Kind}
@@ -16,10 +16,11 @@ use Rattle.str_model.specs.Pruning.{covers, hides, pruned, pruned_versions}
 use Rattle.str_model.specs.Turns.{CertTurn, ReadTurn, ServeTurn, cert_after, cert_joined, cert_turn, conflicts, greatest, joined, joined_one, met, passed, read_after, read_turn, serve_after, serve_turn}
 use Rattle.str_model.specs.Turns
 use Rattle.str_model.specs.Views.{Own, View}
-use Rattle.str_model.proofs.Lists.Members.{In, in_filter}
-use Rattle.str_model.proofs.Pruning.PruneLists.{and_cases, filter_pruned, newest_pruned, or_cases, or_left, or_right, visible_pruned}
+use Rattle.str_model.proofs.Pruning.PruneLists.{filter_pruned, newest_pruned, visible_pruned}
 use Rattle.str_model.proofs.Pruning.PruneOrder.{InOrder, Kernel, PassesOpen, kernel_all, order_filter, pruned_without}
-use Rattle.str_model.proofs.Lists.VersionOrder.{before_time}
+use Rattle.str_base.proofs.Members.{in_filter}
+use Rattle.str_base.proofs.Order.{before_time}
+use Rattle.str_base.specs.Members.{In}
 
 -- ---- versions that become Final
 
@@ -29,7 +30,7 @@ filter_open g test (v ∷ vs) h = by_hidden (hides g v vs) refl (filter_open g t
   where
     fails : hides g v vs ≡ true → (b : Bool) → test v ≡ b → filter test vs ≡ (if b then v ∷ filter test vs else filter test vs)
     fails k false e = refl
-    fails k true e = absurd (cc (h v (inl refl) e, (and_cases (not (is_undecided v.kind)) (list_any (covers g v.key) vs) k).0))
+    fails k true e = absurd (cc (h v (inl refl) e, (and_parts (not (is_undecided v.kind)) (list_any (covers g v.key) vs) k).0))
 
     by_hidden : (b : Bool) → hides g v vs ≡ b → filter test (pruned_versions g vs) ≡ filter test vs
         → filter test (if b then pruned_versions g vs else v ∷ pruned_versions g vs) ≡ filter test (v ∷ vs)
@@ -67,7 +68,7 @@ chain_pruned g k (v ∷ vs) = by_key (same_key v.key k) refl (hides g v vs) refl
     same s =
         ap (λ z. not (is_undecided v.kind) && z)
         (any_filter (covers g v.key) (λ w. same_key w.key k)
-        (λ w c. (let a = and_cases (same_key w.key v.key) (nat_le w.ts.0 g) (and_cases (not (is_undecided w.kind)) (same_key w.key v.key && nat_le w.ts.0 g) c).1 in
+        (λ w c. (let a = and_parts (same_key w.key v.key) (nat_le w.ts.0 g) (and_parts (not (is_undecided w.kind)) (same_key w.key v.key && nat_le w.ts.0 g) c).1 in
         eq-eqb w.key.0 k.0 (eqb-true w.key.0 v.key.0 a.0 ∙ eqb-true v.key.0 k.0 s))) vs)
 
     by_key : (b : Bool) → same_key v.key k ≡ b → (c : Bool) → hides g v vs ≡ c → chain k (pruned_versions g vs) ≡ pruned_versions g (chain k vs)
@@ -92,17 +93,13 @@ record Hider (g : ℕ) (v : Version) (vs : List Version) : Type 0 where
   above : v.ts.0 ≤ by.ts.0
   low : by.ts.0 ≤ g
 
-not_false : (b : Bool) → not b ≡ true → b ≡ false
-not_false true e = absurd cc
-not_false false e = refl
-
 hider : (g : ℕ) (v : Version) (vs : List Version) → InOrder (v ∷ vs) → hides g v vs ≡ true → Hider g v vs
 hider g v vs o h =
-    let r = any_in (covers g v.key) vs (and_cases (not (is_undecided v.kind)) (list_any (covers g v.key) vs) h).1 in
-    let a = and_cases (not (is_undecided r.0.kind)) (same_key r.0.key v.key && nat_le r.0.ts.0 g) r.2 in
-    let b = and_cases (same_key r.0.key v.key) (nat_le r.0.ts.0 g) a.1 in
+    let r = any_in (covers g v.key) vs (and_parts (not (is_undecided v.kind)) (list_any (covers g v.key) vs) h).1 in
+    let a = and_parts (not (is_undecided r.0.kind)) (same_key r.0.key v.key && nat_le r.0.ts.0 g) r.2 in
+    let b = and_parts (same_key r.0.key v.key) (nat_le r.0.ts.0 g) a.1 in
     let key : r.0.key.0 ≡ v.key.0 = eqb-true r.0.key.0 v.key.0 b.0 in
-    record { by = r.0; among = r.1; final = not_false (is_undecided r.0.kind) a.0; key = key; above = before_time v r.0 (sym key) (o.0 r.0 r.1); low = leb-true r.0.ts.0 g b.1 }
+    record { by = r.0; among = r.1; final = not-true (is_undecided r.0.kind) a.0; key = key; above = before_time v r.0 (sym key) (o.0 r.0 r.1); low = leb-true r.0.ts.0 g b.1 }
 
 -- a test that fails on all Final versions at or below the mark
 pub find_low : (g : ℕ) (p : Version → Bool) → ((v : Version) → is_undecided v.kind ≡ false → v.ts.0 ≤ g → p v ≡ false) → (vs : List Version) → InOrder vs
@@ -114,7 +111,7 @@ find_low g p f (v ∷ vs) o = by_hidden (hides g v vs) refl (find_low g p f vs o
     fails h =
         let r = hider g v vs o h in
         let le = r.above in let low = r.low in
-        f v (not_false (is_undecided v.kind) (and_cases (not (is_undecided v.kind)) (list_any (covers g v.key) vs) h).0) (omega (arith, le, low))
+        f v (not-true (is_undecided v.kind) (and_parts (not (is_undecided v.kind)) (list_any (covers g v.key) vs) h).0) (omega (arith, le, low))
 
     by_hidden : (b : Bool) → hides g v vs ≡ b → find p (pruned_versions g vs) ≡ find p vs → find p (if b then pruned_versions g vs else v ∷ pruned_versions g vs) ≡ find p (v ∷ vs)
     by_hidden true h r = r ∙ sym (rw (fails h) refl)
@@ -166,7 +163,7 @@ key_pruned g p up k (v ∷ vs) h o = by_hidden (hides g v vs) refl (key_pruned g
     passed_on c false e = refl
     passed_on c true e =
         let r = hider g v vs o c in
-        let final = not_false (is_undecided v.kind) (and_cases (not (is_undecided v.kind)) (list_any (covers g v.key) vs) c).0 in
+        let final = not-true (is_undecided v.kind) (and_parts (not (is_undecided v.kind)) (list_any (covers g v.key) vs) c).0 in
         some_found p k vs (λ w i. h w (inr i)) (in_any p vs r.by r.among (up v r.by final r.final r.above e)) ∙ ap Some (sym (h v (inl refl)))
 
     by_hidden : (b : Bool) → hides g v vs ≡ b → key_found (find p (pruned_versions g vs)) ≡ key_found (find p vs)
@@ -210,7 +207,7 @@ joined_list g own (v ∷ vs) snap = by_hidden (hides g v vs) refl (λ s. joined_
     by_hidden : (b : Bool) → hides g v vs ≡ b → ((s : Snap) → joined own (pruned_versions g vs) s ≡ joined own vs s)
         → joined own (if b then pruned_versions g vs else v ∷ pruned_versions g vs) snap ≡ joined own vs (joined_one own v v.kind snap)
     by_hidden true h r =
-        r snap ∙ ap (joined own vs) (sym (joined_final own v v.kind snap (not_false (is_undecided v.kind) (and_cases (not (is_undecided v.kind)) (list_any (covers g v.key) vs) h).0)))
+        r snap ∙ ap (joined own vs) (sym (joined_final own v v.kind snap (not-true (is_undecided v.kind) (and_parts (not (is_undecided v.kind)) (list_any (covers g v.key) vs) h).0)))
     by_hidden false h r = r (joined_one own v v.kind snap)
 
 joined_append : (own : List Own) (xs ys : List Version) (snap : Snap) → joined own (xs ++ ys) snap ≡ joined own ys (joined own xs snap)
@@ -239,13 +236,13 @@ pre_pruned g vs k r = ap (last_or None) (filter_pruned g (λ v. same_key v.key k
     pre_open Final e = absurd cc
 
     open_one : (v : Version) → (same_key v.key k && (nat_le v.ts.0 r && is_pre v.kind)) ≡ true → is_undecided v.kind ≡ true
-    open_one v e = pre_open v.kind (and_cases (nat_le v.ts.0 r) (is_pre v.kind) (and_cases (same_key v.key k) (nat_le v.ts.0 r && is_pre v.kind) e).1).1
+    open_one v e = pre_open v.kind (and_parts (nat_le v.ts.0 r) (is_pre v.kind) (and_parts (same_key v.key k) (nat_le v.ts.0 r && is_pre v.kind) e).1).1
 
 pub undecided_pruned : (g : ℕ) (vs : List Version) (k : KeyId) (r : ℕ) → last_undecided (pruned_versions g vs) k r ≡ last_undecided vs k r
 undecided_pruned g vs k r =
     ap (last_or None)
     (filter_pruned g (λ v. same_key v.key k && (nat_le v.ts.0 r && is_undecided v.kind))
-    (λ v e. (and_cases (nat_le v.ts.0 r) (is_undecided v.kind) (and_cases (same_key v.key k) (nat_le v.ts.0 r && is_undecided v.kind) e).1).1) vs)
+    (λ v e. (and_parts (nat_le v.ts.0 r) (is_undecided v.kind) (and_parts (same_key v.key k) (nat_le v.ts.0 r && is_undecided v.kind) e).1).1) vs)
 
 pub read_pruned : (here : Here) (g : ℕ) (view : View) (snap : Snap) (k : KeyId) → g ≤ snap.rs → read_turn here (pruned g view) snap k ≡ read_turn here view snap k
 unfolding read_turn

@@ -19,13 +19,16 @@ use Rattle.str_model.specs.Steps.{drop_held, step}
 use Rattle.str_model.specs.Views.{Doing, Own, View, is_decided, name_of}
 use Rattle.str_model.proofs.Principle.SingleChanges.{Act, Arrives, IsHere, Where, a_prepare, a_read, act_abort, act_abort_came, act_accept, act_ack, act_ask, act_begin, act_certify, act_close, act_commit, act_commit_came, act_mark, act_put, act_refuse, act_reply, act_request, act_take, act_unwait, act_wait, it_comes, it_waits, left_waiting}
 use Rattle.str_model.proofs.Pruning.PruneKept.{Above, above-act, order-act}
-use Rattle.str_model.proofs.Lists.Members.{In, in_append, in_left, in_right}
 use Rattle.str_model.proofs.Pruning.PruneGood.{Finals, Finished, f_done, f_own, finals-act}
-use Rattle.str_model.proofs.Pruning.PruneLists.{and_cases, pruned_again}
+use Rattle.str_model.proofs.Pruning.PruneLists.{pruned_again}
 use Rattle.str_model.proofs.Pruning.PruneOrder.{InOrder, PassesOpen, in_pruned, order_pruned}
 use Rattle.str_model.proofs.Pruning.TwinRules.{BothTo, IsOpen, IsReady}
 use Rattle.str_model.proofs.Pruning.TwinStep.{BodyFar, InputFar, twin_step}
 use Rattle.str_model.proofs.Pruning.TwinTurns.{Far}
+use Rattle.std.proofs.lemmas.Bool.{and_parts, true_from_ne_false}
+use Rattle.str_base.proofs.Members.{in_append, in_left, in_right}
+use Rattle.str_base.specs.Members.{In}
+use Rattle.str_base.proofs.SameNames.{same_tx-is}
 
 -- a read request or a Prepare is of a transaction that has its decision, or its snapshot is at or above the mark
 abbrev pub BodyHigh : ℕ → (TxId → Type 0) → Body → Type 0
@@ -99,20 +102,11 @@ module _ (g : ℕ) (Dec : TxId → Type 0) (here : Here) (input : Input) (high :
 
   -- ---- what a turn needs
 
-  tx_same : (a b : TxId) → same_tx a b ≡ true → a ≡ b
-  tx_same a b h =
-      let r = and_cases (same_node a.node b.node) (a.seq == b.seq) h in
-      let n = eqb-true a.node.0 b.node.0 r.0 in let s = eqb-true a.seq b.seq r.1 in (λ j. record { node = record { 0 = n j }; seq = s j })
-
-  undecided_or : (b : Bool) → (b ≡ false → ⊥) → b ≡ true
-  undecided_or true h = refl
-  undecided_or false h = absurd (h refl)
-
   own_open : (v : View) → Good g Dec here v → (i : ℕ) (x : Own) → slice_get v.own i ≡ Some x → is_decided x.phase ≡ false → PassesOpen (of_tx (name_of here i)) v.versions
-  own_open v a i x q o z m e = undecided_or (is_undecided z.kind) (λ k. never (a.finals z m k))
+  own_open v a i x q o z m e = true_from_ne_false (is_undecided z.kind) (λ k. never (a.finals z m k))
     where
       t : z.tx ≡ name_of here i
-      t = tx_same z.tx (name_of here i) e
+      t = same_tx-is z.tx (name_of here i) e
 
       never : Finished here v z → ⊥
       never (f_done n h) = cc (n, ap (λ (u : TxId). same_node u.node here.node) t ∙ eq-eqb here.node.0 here.node.0 refl)
@@ -126,13 +120,13 @@ module _ (g : ℕ) (Dec : TxId → Type 0) (here : Here) (input : Input) (high :
   good_ready d a i x q o = record { fit = record { opens = own_open d.view a i x q o; order = a.order }; above = a.above.open_ i x q o }
 
   good_open : (d : Doing) → Good g Dec here d.view → IsOpen g Dec here d
-  good_open d a tx p f h z m e = undecided_or (is_undecided z.kind) (λ k. never (a.finals z m k))
+  good_open d a tx p f h z m e = true_from_ne_false (is_undecided z.kind) (λ k. never (a.finals z m k))
     where
       r : (same_tx z.tx tx ≡ true) × (same_part z.part p ≡ true)
-      r = and_cases (same_tx z.tx tx) (same_part z.part p) e
+      r = and_parts (same_tx z.tx tx) (same_part z.part p) e
 
       t : z.tx ≡ tx
-      t = tx_same z.tx tx r.0
+      t = same_tx-is z.tx tx r.0
 
       part : z.part ≡ p
       part = let n = eqb-true z.part.0 p.0 r.1 in (λ j. record { 0 = n j })

@@ -28,6 +28,7 @@ use Rattle.str_model.proofs.Pruning.PruneOrder.{InOrder, PassesOpen}
 use Rattle.str_model.proofs.Pruning.TwinChoices.{Fit, ServedAlike, s_gives, s_same, serve_alike, twin_op_or_commit}
 use Rattle.str_model.proofs.Pruning.Twins.{Twin, twin_abort_came, twin_aborted, twin_accepted, twin_acked, twin_begun, twin_commit_came, twin_marked, twin_put, twin_refused, twin_replied, twin_taken, twin_waits}
 use Rattle.str_model.proofs.Pruning.TwinTurns.{Ready}
+use Rattle.std.proofs.lemmas.Bool.{and_parts, not-true}
 
 module _ (g : ℕ) (Dec : TxId → Type 0) (here : Here) where
   abbrev Both : Doing → Doing → Type 0
@@ -140,18 +141,10 @@ module _ (g : ℕ) (Dec : TxId → Type 0) (here : Here) where
   decides_same : (tx : TxId) (p : PartId) (d e : Doing) → Both d e → decides here tx p d.view ≡ decides here tx p e.view
   decides_same tx p d e b = ap (λ (v : View). decides here tx p v) b.view
 
-  and_cases : (p q : Bool) → (p && q) ≡ true → (p ≡ true) × (q ≡ true)
-  and_cases true q e = (refl, e)
-  and_cases false q e = absurd cc
-
-  not_false : (b : Bool) → not b ≡ true → b ≡ false
-  not_false true e = absurd cc
-  not_false false e = refl
-
   open_pair : (tx : TxId) (p : PartId) (d : Doing) → IsOpen d → decides here tx p d.view ≡ true → PassesOpen (of_pair tx p) d.view.versions
   open_pair tx p d a h =
-      let r = and_cases (not (same_node tx.node here.node)) (not (is_done d.view tx p)) (and_cases (hosts here.scene here.node p) (not (same_node tx.node here.node) && not (is_done d.view tx p)) h).1 in
-      a tx p (not_false (same_node tx.node here.node) r.0) (not_false (is_done d.view tx p) r.1)
+      let r = and_parts (not (same_node tx.node here.node)) (not (is_done d.view tx p)) (and_parts (hosts here.scene here.node p) (not (same_node tx.node here.node) && not (is_done d.view tx p)) h).1 in
+      a tx p (not-true (same_node tx.node here.node) r.0) (not-true (is_done d.view tx p) r.1)
 
   pub twin_commit_rule : (tx : TxId) (p : PartId) (fc : ℕ) (ms : List Rattle.str_model.specs.declared.names.KeyMark.KeyMark) (d e : Doing) → InOrder d.view.versions → InOrder e.view.versions → IsOpen d → IsOpen e → Both d e
       → BothTo (if decides here tx p d.view then Some (commit_came tx p fc ms d) else None) (if decides here tx p e.view then Some (commit_came tx p fc ms e) else None)
@@ -312,6 +305,6 @@ module _ (g : ℕ) (Dec : TxId → Type 0) (here : Here) where
       (ap (λ (v : View). hosts_key here k && (not (same_node tx.node here.node) && not (list_any (Arrivals.waits_read tx k) v.waiters))) b.view)
       (Some (Arrivals.serve_done here tx k rs (serve_turn d.view.versions k rs) (marked k rs d))) (Some (Arrivals.serve_done here tx k rs (serve_turn e.view.versions k rs) (marked k rs e)))
       (λ z. served tx k rs d e
-      (far (not_false (same_node tx.node here.node)
-      (and_cases (not (same_node tx.node here.node)) (not (list_any (Arrivals.waits_read tx k) d.view.waiters))
-      (and_cases (hosts_key here k) (not (same_node tx.node here.node) && not (list_any (Arrivals.waits_read tx k) d.view.waiters)) z).1).0)) b)
+      (far (not-true (same_node tx.node here.node)
+      (and_parts (not (same_node tx.node here.node)) (not (list_any (Arrivals.waits_read tx k) d.view.waiters))
+      (and_parts (hosts_key here k) (not (same_node tx.node here.node) && not (list_any (Arrivals.waits_read tx k) d.view.waiters)) z).1).0)) b)

@@ -21,7 +21,6 @@ use Rattle.str_model.specs.Steps
 use Rattle.str_model.specs.Strange.{is_valid}
 use Rattle.str_model.specs.Views.{Doing, Own, View, letter, name_of, starts}
 use Rattle.str_model.proofs.Principle.SingleChanges.{Act, Comes, InRule, Path, Where, along}
-use Rattle.str_model.proofs.Lists.Members.{In}
 use Rattle.str_model.proofs.Pruning.PruneMaster.{TurnAlike, held_pruned, proposed_pruned, t_refuse, t_same}
 use Rattle.str_model.proofs.Pruning.PruneOrder.{InOrder}
 use Rattle.str_model.proofs.Principle.RulePaths.{evict-path, rule-path}
@@ -29,6 +28,8 @@ use Rattle.str_model.proofs.Pruning.TwinChoices.{twin_at_own}
 use Rattle.str_model.proofs.Pruning.TwinRules.{BothTo, IsOpen, IsReady, known_same, twin_abort_rule, twin_ack, twin_client, twin_commit_rule, twin_read_reply, twin_read_req, twin_refuse}
 use Rattle.str_model.proofs.Pruning.Twins.{Twin, alike_append, alike_self, twin_aborted, twin_accepted, twin_refused, twin_taken, twin_waits}
 use Rattle.str_model.proofs.Pruning.TwinTurns.{Far, Ready, masters_alike, masters_same, twin_after}
+use Rattle.str_base.specs.Members.{In}
+use Rattle.std.proofs.lemmas.Bool.{and_parts, not-true}
 
 -- what comes with a snapshot of another node's transaction
 abbrev pub BodyFar : ℕ → (TxId → Type 0) → Here → Body → Type 0
@@ -90,14 +91,6 @@ module _ (g : ℕ) (Dec : TxId → Type 0) (here : Here) (input : Input) (Good :
       let w : is_parked d.view a.tx a.part ≡ is_parked e.view a.tx a.part = ap (λ (x : View). is_parked x a.tx a.part) t.view in
       (λ j. is_master here.scene here.node a.part && (not (same_node a.tx.node here.node) && not (k j || w j)))
 
-  cases : (p q : Bool) → (p && q) ≡ true → (p ≡ true) × (q ≡ true)
-  cases true q e = (refl, e)
-  cases false q e = absurd cc
-
-  not_false : (b : Bool) → not b ≡ true → b ≡ false
-  not_false true e = absurd cc
-  not_false false e = refl
-
   prepared : (a : Arrived) (d e : Doing) → (same_node a.tx.node here.node ≡ false → Dec a.tx ⊎ (g ≤ a.rs.0)) → Good d → Good e → Both d e → Ends (Arrivals.prepare_rule here a d) (Arrivals.prepare_rule here a e)
   unfolding Arrivals.prepare_rule prepare_turn
   prepared a d e h u v t = by_new (new_here a d.view) refl (new_here a e.view) (new_same a d e (same_node a.tx.node here.node) refl u v t)
@@ -105,9 +98,9 @@ module _ (g : ℕ) (Dec : TxId → Type 0) (here : Here) (input : Input) (Good :
       by_new : (b : Bool) → new_here a d.view ≡ b → (c : Bool) → new_here a d.view ≡ c
           → Ends (Arrivals.master_done here a (if b then master_turn d.view a else Ignore) d) (Arrivals.master_done here a (if c then master_turn e.view a else Ignore) e)
       by_new true p true q =
-          let r = cases (not (same_node a.tx.node here.node)) (not (is_known d.view a.tx a.part || is_parked d.view a.tx a.part))
-          (cases (is_master here.scene here.node a.part) (not (same_node a.tx.node here.node) && not (is_known d.view a.tx a.part || is_parked d.view a.tx a.part)) p).1 in
-          judged a d e (h (not_false (same_node a.tx.node here.node) r.0)) u v t
+          let r = and_parts (not (same_node a.tx.node here.node)) (not (is_known d.view a.tx a.part || is_parked d.view a.tx a.part))
+          (and_parts (is_master here.scene here.node a.part) (not (same_node a.tx.node here.node) && not (is_known d.view a.tx a.part || is_parked d.view a.tx a.part)) p).1 in
+          judged a d e (h (not-true (same_node a.tx.node here.node) r.0)) u v t
       by_new true p false q = absurd (cc (p, q))
       by_new false p true q = absurd (cc (p, q))
       by_new false p false q = tt

@@ -21,12 +21,13 @@ use Rattle.str_model.specs.Views.{Closing, Doing, Global, Local, Own, Phase, Vie
 use Rattle.str_model.specs.Waiters
 use Rattle.str_model.proofs.Principle.SingleChanges.{Act, InTurn, InWait, Path, Where, act_ask, along}
 use Rattle.str_model.proofs.Principle.StepPaths.{first-path, half_turn-path, resolved_first, turn-path, waiter_turn-waited}
-use Rattle.str_model.proofs.Lists.Members.{In, in_right}
 use Rattle.str_model.proofs.Pruning.PruneMaster.{TurnAlike, master_alike, master_pruned, t_refuse, t_same}
 use Rattle.str_model.proofs.Pruning.PruneOrder.{InOrder}
 use Rattle.str_model.proofs.Pruning.PruneTurns.{serve_pruned}
 use Rattle.str_model.proofs.Pruning.TwinChoices.{Fit, ServedAlike, s_gives, s_same, serve_alike, twin_again, twin_at_own, twin_close_free, twin_resolve}
 use Rattle.str_model.proofs.Pruning.Twins.{Twin, alike_append, alike_self, twin_accepted, twin_asked, twin_committed, twin_refused, twin_replied, twin_waiters}
+use Rattle.str_base.proofs.Members.{in_right}
+use Rattle.str_base.specs.Members.{In}
 
 -- what a turn needs at the i-th own transaction
 pub record Ready (g : ℕ) (Dec : TxId → Type 0) (here : Here) (i : ℕ) (x : Own) (d : Doing) : Type 0 where

@@ -24,6 +24,7 @@ use Rattle.str_model.specs.Pruning.{pruned, pruned_versions}
 use Rattle.str_model.specs.Views.{Doing, Own, View, letter, name_of, put, release, send}
 use Rattle.str_model.proofs.Pruning.PruneOrder.{InOrder, Kernel, PassesOpen, kernel_all, order_filter}
 use Rattle.str_model.proofs.Pruning.PruneTurns.{kernel_filter, kernel_finalise, kernel_without}
+use Rattle.std.proofs.lemmas.Bool.{and_parts}
 
 -- two messages are one, or a reply or a refusal of one transaction that has its decision
 pub data Alike (Dec : TxId → Type 0) : Message → Message → Type 0 where
@@ -165,7 +166,7 @@ module _ (g : ℕ) (Dec : TxId → Type 0) where
       }
 
   hosted_open : (here : Here) (tx : TxId) (vs : List Version) → PassesOpen (of_tx tx) vs → PassesOpen (Acts.is_hosted_of here tx) vs
-  hosted_open here tx vs h v i e = h v i (Rattle.str_model.proofs.Pruning.PruneLists.and_cases (of_tx tx v) (hosts here.scene here.node v.part) e).0
+  hosted_open here tx vs h v i e = h v i (and_parts (of_tx tx v) (hosts here.scene here.node v.part) e).0
 
   pub twin_committed : (here : Here) (i lc fc : ℕ) (x : Own) (d e : Doing) → InOrder d.view.versions → InOrder e.view.versions → PassesOpen (of_tx (name_of here i)) d.view.versions → PassesOpen (of_tx (name_of here i)) e.view.versions
       → Twin g Dec d e → Twin g Dec (committed here i lc fc x d) (committed here i lc fc x e)

@@ -9,7 +9,7 @@ use Rattle.str_model.specs.declared.messages.Waiter.{Waiter}
 use Rattle.str_model.specs.declared.messages.Waiter.TheVariants.{Held, Read}
 use Rattle.str_base.specs.Versions.{stamp}
 use Rattle.str_model.specs.Acts.{replied, with_waiters}
-use Rattle.str_model.specs.NodeFacts.{In, MomentFacts, how_many, one_if}
+use Rattle.str_model.specs.NodeFacts.{MomentFacts, how_many, one_if}
 use Rattle.str_model.specs.Owned.{Owns}
 use Rattle.str_model.specs.Pass.{is_empty, pass_to, turn}
 use Rattle.str_model.specs.Pass
@@ -28,12 +28,14 @@ use Rattle.str_model.proofs.Principle.RulePaths.{rule-path}
 use Rattle.str_model.proofs.OwnFacts.TurnsBelow.{leaves}
 use Rattle.str_model.proofs.Room.PartCosts.{Grew, cost, grew_more, grew_none, grew_within}
 use Rattle.str_model.proofs.OwnFacts.FewOwn.{is_open}
-use Rattle.str_model.proofs.Lists.Members.{in_append}
 use Rattle.str_model.proofs.Room.NeedRules.{BodyFits, InputFits, OptRuled, Ruled, accept_cost, is_active, is_busy, is_idle, refuse_cost, ruled}
 use Rattle.str_model.proofs.Room.NeedTurns.{turn_cost}
 use Rattle.str_model.proofs.ViewFacts.NodeKept.{moment_along, pass_passed}
 use Rattle.str_model.proofs.Changes.VersionChanges.{WaitStep, w_fewer, w_more, wait_step}
 use Rattle.str_model.proofs.ViewFacts.QuietTurns.{none_rests, turn_decided, turn_idle}
+use Rattle.str_base.proofs.Members.{in_append}
+use Rattle.str_base.specs.Members.{In}
+use Rattle.std.proofs.lemmas.Bool.{and_parts}
 
 -- ---- who waits writes no more than 16 keys
 
@@ -124,13 +126,9 @@ module _ (here : Here) (ok : IsScene here.scene) (exists : has_node here here.no
       active-is (Committed m fc) e = absurd (cc e)
       active-is (Aborted m c) e = absurd (cc e)
 
-      both : (a b : Bool) → (a && b) ≡ true → (a ≡ true) × (b ≡ true)
-      both true b e = (refl, e)
-      both false b e = absurd cc
-
       by_idle : (x : Own) (b c : Bool) → Owns d.view i x → is_decided x.phase ≡ b → is_idle x ≡ c → Grew (242 * one_if (not b && not c)) d (turn here i d)
       by_idle x true c own e f = rests (242 * one_if false) (turn_decided here i d x own e)
-      by_idle x false true own e f = let p = both (is_active x.phase) (is_empty x.snap.deps) f in rests (242 * one_if false) (turn_idle here i d x own (active-is x.phase p.0) (empty-is x.snap.deps p.1))
+      by_idle x false true own e f = let p = and_parts (is_active x.phase) (is_empty x.snap.deps) f in rests (242 * one_if false) (turn_idle here i d x own (active-is x.phase p.0) (empty-is x.snap.deps p.1))
       by_idle x false false own e f = turn_cost here ok exists i input d h
 
       by_own : (o : Option Own) → slice_get d.view.own i ≡ o → Grew (242 * one_if (passes_at is_busy o)) d (turn here i d)

@@ -41,16 +41,16 @@ use Rattle.str_model.specs.Turns.{Away, CertTurn, Certified, Conflict, Give, Pla
 use Rattle.str_model.specs.Views.{Aborted, Active, CertWait, Closing, Committed, Doing, Global, Local, Own, Phase, ReadWait, Remote, Reply, View, is_decided, lc_of, letter, put, starts}
 use Rattle.str_scene.specs.SceneLimits.{IsScene}
 use Rattle.str_scene.specs.Scenes.{Here, Session, hosts_key, is_master, nth, replicas}
-use Rattle.str_model.proofs.Principle.SingleChanges.{InRule}
 use Rattle.str_model.proofs.Room.PartCosts.{Grew, aborted_cost, certified_cost, copies_seven, cost, parts_few, put_cost}
-use Rattle.str_model.proofs.Lists.ListCounts.{many_append}
+use Rattle.str_model.proofs.ListCounts.{many_append}
 use Rattle.str_model.proofs.OwnFacts.FewOwn.{is_open}
 use Rattle.str_model.proofs.ViewFacts.GatesEnd.{many_mono}
-use Rattle.str_model.proofs.Lists.ListReads.{got_set}
 use Rattle.str_model.proofs.Room.NeedTurns.{read_cost}
 use Rattle.str_model.proofs.Room.SmallNumbers.{writes_few}
-use Rattle.str_model.proofs.Principle.RulePaths.{own_named-is}
+use Rattle.str_model.proofs.Principle.RulePaths.{named_owns}
 use Rattle.str_model.proofs.ViewFacts.TimesEnd.{many_set}
+use Rattle.str_base.proofs.Lists.{got_set}
+use Rattle.str_base.proofs.Tests.{and_true_left}
 
 -- ---- what fits in a message
 
@@ -93,11 +93,7 @@ pub record Ruled (v : View) (r : Doing) : Type 0 where
   pub waiting : length r.view.waiters ≤ length v.waiters + 1
 
 busy_open : (xs : List Own) → how_many is_busy xs ≤ how_many is_open xs
-busy_open xs = many_mono is_busy is_open xs (λ x e. left (is_open x) (not (is_idle x)) e)
-  where
-    left : (a b : Bool) → (a && b) ≡ true → a ≡ true
-    left true b q = refl
-    left false b q = absurd cc
+busy_open xs = many_mono is_busy is_open xs (λ x e. and_true_left (is_open x) (not (is_idle x)) e)
 
 spent_rules : (v : View) (r : Doing) → Spent 32 (starts v) r → Ruled v r
 spent_rules v r s = record { cost_is = (let b = busy_open r.view.own in let c = s.cost_is in omega (arith, b, c)); waiting = s.waiting }
@@ -379,7 +375,7 @@ module _ (here : Here) (ok : IsScene here.scene) (exists : has_node here here.no
 
       by_own : (o : Option Own) → Returns.own_named here tx (starts v) ≡ o → OptRuled v (Returns.reply_own i k a by fc o (starts v))
       by_own None e = tt
-      by_own (Some x) e = by_phase x x.phase (own_named-is here (Client (record { 0 = 0 }) 0) InRule refl tx (starts v) x e).0 refl
+      by_own (Some x) e = by_phase x x.phase (named_owns here tx (starts v) x e) refl
 
   ack_ruled : (from : NodeId) (tx : TxId) (p : PartId) (ts : ℕ) → OptRuled v (Returns.ack_rule here from tx p ts (starts v))
   unfolding Returns.ack_rule acked
@@ -406,7 +402,7 @@ module _ (here : Here) (ok : IsScene here.scene) (exists : has_node here here.no
 
       by_own : (o : Option Own) → Returns.own_named here tx (starts v) ≡ o → OptRuled v (Returns.ack_own i from p ts o (starts v))
       by_own None e = tt
-      by_own (Some x) e = by_phase x x.phase (own_named-is here (Client (record { 0 = 0 }) 0) InRule refl tx (starts v) x e).0 refl
+      by_own (Some x) e = by_phase x x.phase (named_owns here tx (starts v) x e) refl
 
   refuse_ruled : (from : NodeId) (tx : TxId) (p : PartId) (by : TxId) (k : KeyId) → OptRuled v (Returns.refuse_rule here from tx p by k (starts v))
   unfolding Returns.refuse_rule
@@ -433,7 +429,7 @@ module _ (here : Here) (ok : IsScene here.scene) (exists : has_node here here.no
 
       by_own : (o : Option Own) → Returns.own_named here tx (starts v) ≡ o → OptRuled v (Returns.refuse_own here i from p by k o (starts v))
       by_own None e = tt
-      by_own (Some x) e = by_phase x x.phase (own_named-is here (Client (record { 0 = 0 }) 0) InRule refl tx (starts v) x e).0 refl
+      by_own (Some x) e = by_phase x x.phase (named_owns here tx (starts v) x e) refl
 
   -- ---- decisions that come
 

@@ -10,7 +10,7 @@ use Rattle.str_model.specs.declared.messages.Input.{Input}
 use Rattle.str_base.specs.Versions.{same_part}
 use Rattle.str_model.specs.Acts.{aborted, asked, decided_as, marked, with_asked}
 use Rattle.str_model.specs.Gates.{Ask, CommitAt, GateTurn, Missing, Shut, gate_of}
-use Rattle.str_model.specs.NodeFacts.{In, MomentFacts}
+use Rattle.str_model.specs.NodeFacts.{MomentFacts}
 use Rattle.str_model.specs.Owned.{Owns}
 use Rattle.str_model.specs.Pass.{gates, gates_in, half_turn, is_empty, pass_to, turn}
 use Rattle.str_model.specs.Pass
@@ -25,10 +25,11 @@ use Rattle.str_model.proofs.Principle.SingleChanges.{InTurn}
 use Rattle.str_model.proofs.Principle.StepPaths.{first-path, half_turn-path, resolved_first}
 use Rattle.str_model.proofs.Room.PartCosts.{Grew, aborted_cost, asked_cost, certified_cost, closed_cost, committed_cost, grew_more, grew_none, grew_within, marked_cost, others_seven, parts_few, put_cost, requested_cost, to_ask_few}
 use Rattle.str_model.proofs.ViewFacts.GatesEnd.{Asks, OfScene, asks_next, participants_of, seats_of}
-use Rattle.str_model.proofs.Lists.ListReads.{get_set}
 use Rattle.str_model.proofs.ViewFacts.NodeKept.{moment_along}
 use Rattle.str_model.proofs.Room.SmallNumbers.{writes_few}
 use Rattle.str_model.proofs.ViewFacts.QuietTurns.{decided_rests, none_rests, open_does}
+use Rattle.str_base.proofs.Lists.{get_set}
+use Rattle.str_base.specs.Members.{In}
 
 -- ---- one transaction
 

@@ -17,18 +17,22 @@ use Rattle.str_model.specs.declared.messages.Body.TheVariants.{Abort, Commit, Pr
 use Rattle.str_model.specs.declared.messages.Message.{Message}
 use Rattle.str_model.specs.declared.messages.Outcome.TheVariants.{Aborted as Aborts, Committed as Commits}
 use Rattle.str_model.specs.Acts.{abort_letters, aborted, answer_of, ask_letters, asked, asked_ones, certified, closed, commit_letters, committed, copies, marked, marks_in, requested}
-use Rattle.str_model.specs.NodeFacts.{In, MomentFacts, how_many, one_if, seats}
+use Rattle.str_model.specs.NodeFacts.{MomentFacts, how_many, one_if, seats}
 use Rattle.str_model.specs.Owned.{Owns}
 use Rattle.str_model.specs.Strange.{has_node}
 use Rattle.str_model.specs.Views.{Doing, Own, View, lc_of, letter, name_of, put, release}
 use Rattle.str_scene.proofs.Mapped.{is-mapped, participants-mapped}
 use Rattle.str_scene.specs.SceneLimits.{Exists, IsScene}
 use Rattle.str_scene.specs.Scenes.{Here, all_parts, first_or, in_part, leads, map_of, others, part_of, participants, replicas, unasked, written_parts}
-use Rattle.str_model.proofs.Changes.SnapshotsGain.{and_left, and_right, if_elim}
+use Rattle.str_model.proofs.Changes.SnapshotsGain.{if_elim}
 use Rattle.str_model.proofs.ViewFacts.GatesEnd.{many_mono, open_at, to_ask}
-use Rattle.str_model.proofs.Lists.Members.{in_filter, in_flat_map, in_map, map_in}
 use Rattle.str_model.proofs.Room.SmallNumbers.{writes_few}
-use Rattle.str_model.proofs.Changes.PairWords.{any_has, same_part-is}
+use Rattle.str_model.proofs.Changes.PairWords.{any_has}
+use Rattle.str_base.proofs.SameNames.{same_part-is}
+use Rattle.str_base.proofs.Tests.{and_true_left, and_true_right}
+use Rattle.str_base.proofs.Members.{in_filter, in_flat_map, in_map, map_in}
+use Rattle.str_base.proofs.Lists.{length-filter-le}
+use Rattle.str_base.specs.Members.{In}
 
 -- how much a step has added so far
 abbrev pub cost : Doing → ℕ
@@ -53,11 +57,6 @@ release-length a [] = refl
 release-length a (b ∷ bs) =
     if_elim (λ zs. length zs ≡ length (b ∷ bs) + 1) (nat_lt a.tx.seq b.tx.seq) (a ∷ b ∷ bs) (b ∷ release a bs) (λ e. omega arith) (λ e. let r = release-length a bs in omega (arith, r))
 
-filter_fewer : {A : Type 0} (p : A → Bool) (xs : List A) → length (filter p xs) ≤ length xs
-filter_fewer p [] = omega arith
-filter_fewer {A = A} p (x ∷ xs) =
-    if_elim (λ (zs : List A). length zs ≤ length (x ∷ xs)) (p x) (x ∷ filter p xs) (filter p xs) (λ e. let r = filter_fewer p xs in omega (arith, r)) (λ e. let r = filter_fewer p xs in omega (arith, r))
-
 filter_many : {A : Type 0} (p : A → Bool) (xs : List A) → length (filter p xs) ≡ how_many p xs
 filter_many p [] = refl
 filter_many {A = A} p (x ∷ xs) = by_test (p x) (filter_many p xs)
@@ -74,8 +73,8 @@ module _ (here : Here) (ok : IsScene here.scene) (exists : has_node here here.no
     where
       node_exists : Exists here.node.0 8
       node_exists =
-          let a = ltb-true 0 here.node.0 (and_left (nat_lt 0 here.node.0) (nat_le here.node.0 here.scene.nodes) exists) in
-          let b = le_of here.node.0 here.scene.nodes (and_right (nat_lt 0 here.node.0) (nat_le here.node.0 here.scene.nodes) exists) in
+          let a = ltb-true 0 here.node.0 (and_true_left (nat_lt 0 here.node.0) (nat_le here.node.0 here.scene.nodes) exists) in
+          let b = le_of here.node.0 here.scene.nodes (and_true_right (nat_lt 0 here.node.0) (nat_le here.node.0 here.scene.nodes) exists) in
           (omega (arith, a), omega (arith, b, ok.nodes.1))
         where
           le_of : (m n : ℕ) → nat_le m n ≡ true → m ≤ n
@@ -88,7 +87,7 @@ module _ (here : Here) (ok : IsScene here.scene) (exists : has_node here here.no
   pub copies_seven : (a : Arrived) → length (copies here a (replicas here.scene a.part)) ≤ 7
   copies_seven a =
       let s = others_seven a.part in
-      let f = filter_fewer (λ (r : NodeId). not (same_node r a.tx.node)) (others here.node (replicas here.scene a.part)) in
+      let f = length-filter-le (λ (r : NodeId). not (same_node r a.tx.node)) (others here.node (replicas here.scene a.part)) in
       let m : length (copies here a (replicas here.scene a.part)) ≡ length (others a.tx.node (others here.node (replicas here.scene a.part))) = length-map (others a.tx.node (others here.node (replicas here.scene a.part))) _ in
       omega (arith, s, f, m)
 
@@ -122,7 +121,7 @@ module _ (here : Here) (ok : IsScene here.scene) (exists : has_node here here.no
         let u = in_flat_map (λ (p : PartId). map (unasked p) (others here.node (replicas here.scene p))) (written_parts here.scene x.writes) t.0 t.1 in
         let m = in_map (unasked u.0) (others here.node (replicas here.scene u.0)) t.0 u.2 in
         let w : is_written (part_of here.scene) x.writes u.0 ≡ true = (in_filter (λ p. is_written (part_of here.scene) x.writes p) (all_parts here.scene) u.0 u.1).1 in
-        let p : u.0 ≡ q = ap (λ (z : Asked). z.part) m.2 ∙ (ap (λ z. z.0) t.2 ∙ same_part-is r.0.part q (and_left (same_part r.0.part q) (not r.0.asked) r.2)) in
+        let p : u.0 ≡ q = ap (λ (z : Asked). z.part) m.2 ∙ (ap (λ z. z.0) t.2 ∙ same_part-is r.0.part q (and_true_left (same_part r.0.part q) (not r.0.asked) r.2)) in
         subst (λ z. is_written (part_of here.scene) x.writes z ≡ true) p w
 
     -- at most 16 partitions are left to be asked
@@ -165,7 +164,7 @@ module _ (here : Here) (i : ℕ) where
       record {
         cost_is = (let a = length-append d.sent (abort_letters here i x.parts) in
             let b : length (abort_letters here i x.parts) ≡ length (asked_ones x.parts) = length-map (asked_ones x.parts) (λ (a : Asked). letter here a.node (Abort (name_of here i) a.part)) in
-            let c = filter_fewer (λ (a : Asked). a.asked) x.parts in
+            let c = length-filter-le (λ (a : Asked). a.asked) x.parts in
             let e = release-length (answer_of here i x (Aborts cause)) d.released in omega (arith, le, a, b, c, e));
         waiters = refl;
       }

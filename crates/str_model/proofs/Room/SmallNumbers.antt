@@ -9,7 +9,7 @@ use Rattle.str_base.specs.declared.names.Version.{Version}
 use Rattle.str_scene.specs.declared.names.Op.{Op}
 use Rattle.str_scene.specs.declared.names.TxPlace.{TxPlace}
 use Rattle.str_base.specs.Versions.{is_local, of_tx, same_node}
-use Rattle.str_model.specs.NodeFacts.{In, MomentFacts, how_many, is_stopped, one_if}
+use Rattle.str_model.specs.NodeFacts.{MomentFacts, how_many, is_stopped, one_if}
 use Rattle.str_model.specs.Owned.{Owns}
 use Rattle.str_model.specs.Scripts.{own_op}
 use Rattle.str_model.specs.Strange.{has_node}
@@ -17,8 +17,9 @@ use Rattle.str_model.specs.Views.{Own, View}
 use Rattle.str_scene.specs.SceneLimits.{IsScene}
 use Rattle.str_scene.specs.Scenes.{Here, Scene, Session, nth, ops_at, or_none, script_at}
 use Rattle.str_model.proofs.OwnFacts.FewOwn.{is_open, open_few}
-use Rattle.str_model.proofs.Changes.SnapshotsGain.{and_left, and_right}
 use Rattle.str_model.proofs.Changes.PairWords.{any_has}
+use Rattle.str_base.proofs.Tests.{and_true_left, and_true_right}
+use Rattle.str_base.specs.Members.{In}
 
 -- ---- evictions
 
@@ -71,8 +72,8 @@ module _ (here : Here) (v : View) (h : MomentFacts here v) (vs : List Version) (
   there_open : (n : ℕ) → list_any (is_local_of (named here.node (suc n))) vs ≡ true → is_there (slice_get v.own n) ≡ true
   there_open n e =
       let r = any_has (is_local_of (named here.node (suc n))) vs e in
-      let o = h.base.locals r.0 (some_of r.0 r.1) (local_is r.0 (and_right (of_tx (named here.node (suc n)) r.0) (is_local r.0.kind) r.2)) in
-      let s : r.0.tx.seq ≡ suc n = eqb-true r.0.tx.seq (suc n) (and_right (same_node r.0.tx.node here.node) (r.0.tx.seq == suc n) (and_left (of_tx (named here.node (suc n)) r.0) (is_local r.0.kind) r.2)) in
+      let o = h.base.locals r.0 (some_of r.0 r.1) (local_is r.0 (and_true_right (of_tx (named here.node (suc n)) r.0) (is_local r.0.kind) r.2)) in
+      let s : r.0.tx.seq ≡ suc n = eqb-true r.0.tx.seq (suc n) (and_true_right (same_node r.0.tx.node here.node) (r.0.tx.seq == suc n) (and_true_left (of_tx (named here.node (suc n)) r.0) (is_local r.0.kind) r.2)) in
       let own : slice_get v.own n ≡ Some o.owner = subst (λ m. slice_get v.own m ≡ Some o.owner) (omega (arith, s, o.seq)) o.owns in
       ap is_there own ∙ ap not o.open_
 

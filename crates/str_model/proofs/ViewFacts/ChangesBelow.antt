@@ -8,7 +8,6 @@ use Rattle.str_model.proofs.OwnFacts.AtHome.{AckStep, a_new, a_old, acked_parts}
 use Rattle.str_model.proofs.Principle.SingleChanges.{Act, Arrives, Change, Comes, Goes, IsHere, IsReading, ReadsTo, Where, a_prepare, a_read, act_abort, act_abort_came, act_accept, act_ack, act_ask, act_begin, act_certify, act_close, act_commit, act_commit_came, act_mark, act_put, act_refuse, act_reply, act_request, act_take, act_unwait, act_wait, ch_away, ch_blind, ch_close, ch_gate, ch_known, ch_read, ch_reply, ch_resolve, ch_take, ch_wait, far_reading, it_comes, it_waits, left_waiting, own_reading, to_final, to_local}
 use Rattle.str_model.proofs.Changes.SnapshotsGain.{CertGood, cert_turn-good, if_elim}
 use Rattle.str_model.proofs.Changes.OwnGoesOn.{puts_on}
-use Rattle.str_model.proofs.Lists.Members.{In, in_append, in_left, in_map, in_right}
 use Rattle.str_model.specs.Owned.{final_times}
 use Rattle.std.proofs.Common.{true, List, None, Option, Some, [], ap, arith, filter, find, inl, inr, map, nat_lt, refl, slice_set, subst, sym, ℕ, ◌+◌, ◌<◌, ◌∙◌, ◌∷◌, ◌≡◌, ◌≤◌}
 use Rattle.str_base.specs.declared.names.KeyId.{KeyId}
@@ -38,6 +37,8 @@ use Rattle.str_model.specs.Turns.{Certified, met}
 use Rattle.str_model.specs.Views.{Aborted, Committed, Doing, Global, Local, Own, Phase, Remote, View, lc_of, name_of, put}
 use Rattle.str_scene.specs.declared.names.TxPlace.{TxPlace}
 use Rattle.str_scene.specs.Scenes.{Here, participants}
+use Rattle.str_base.proofs.Members.{in_append, in_left, in_map, in_right}
+use Rattle.str_base.specs.Members.{In}
 
 module _ (here : Here) (input : Input) (w : Where) where
   -- how many timestamps the change proposes
@@ -166,7 +167,7 @@ module _ (here : Here) (input : Input) (w : Where) where
           read_time (far_reading from tx rs q z) = let r = came_below from (ReadReq tx m rs) z in omega (arith, r, q, le)
       view_act d e (act_put i x y d' own g) k h = put_below d' i y h (own_higher b c y le (goes_below d' i x y h (own_at b d'.view h i x own.0) g))
       view_act d e (act_request i m n x d' own g) k h =
-          put_below d' i (in_phase (Remote m) x) h (own_higher b c (in_phase (Remote m) x) le (goes_below d' i x (in_phase (Remote m) x) h (own_at b d'.view h i x own.0) g))
+          put_below d' i (in_phase (Remote m) x) h (own_higher b c (in_phase (Remote m) x) le (goes_below d' i x (in_phase (Remote m) x) h (own_at b d'.view h i x own.0) (record { goes = g.goes; change = g.change })))
       view_act d e (act_certify i lc snap x d' own f n q) k h =
           let k' : b + 1 ≤ c = k in
           let u = view_higher b c d'.view le h in

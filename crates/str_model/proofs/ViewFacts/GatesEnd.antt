@@ -11,7 +11,7 @@ use Rattle.str_base.specs.Versions.{same_part}
 use Rattle.str_model.specs.Acts.{asked, committed, decided_as, with_asked}
 use Rattle.str_model.specs.Gates.{Ask, CommitAt, DepParts, GateTurn, Missing, Shut, gate_of, gate_turn, may_ask}
 use Rattle.str_model.specs.Gates
-use Rattle.str_model.specs.NodeFacts.{EndedAt, In, IsShut, how_many, one_if, seats}
+use Rattle.str_model.specs.NodeFacts.{EndedAt, IsShut, how_many, one_if, seats}
 use Rattle.str_model.specs.Owned.{Owns}
 use Rattle.str_model.specs.Pass.{gates}
 use Rattle.str_model.specs.Pass
@@ -19,11 +19,13 @@ use Rattle.str_scene.specs.Scenes.{Here, Scene, all_parts, others, participants,
 use Rattle.str_model.specs.Scripts
 use Rattle.str_model.specs.Views.{Aborted, Active, CertWait, Closing, Committed, Doing, Global, Local, Own, Phase, ReadWait, Remote, Reply, View, is_decided, lc_of}
 use Rattle.str_model.proofs.OwnFacts.AskedParts.{find_some}
-use Rattle.str_model.proofs.Changes.SnapshotsGain.{and_left, and_right}
-use Rattle.str_model.proofs.Lists.ListReads.{get_set}
-use Rattle.str_model.proofs.Lists.Members.{in_filter, in_flat_map, in_map, map_in}
 use Rattle.str_model.proofs.OwnFacts.LocalOwners.{same_own}
-use Rattle.str_model.proofs.Changes.PairWords.{any_has, has_at, not_both}
+use Rattle.str_model.proofs.Changes.PairWords.{any_has}
+use Rattle.std.proofs.lemmas.Bool.{and_from, false_from_ne_true, not-true}
+use Rattle.str_base.proofs.Members.{any_in, in_filter, in_flat_map, in_map, map_in}
+use Rattle.str_base.proofs.Tests.{and_true_left, and_true_right}
+use Rattle.str_base.proofs.Lists.{found_passes, get_set}
+use Rattle.str_base.specs.Members.{In}
 
 -- ---- partitions that may be asked
 
@@ -88,19 +90,15 @@ not_or_right : (a b : Bool) → not (a || b) ≡ true → not b ≡ true
 not_or_right true b e = absurd cc
 not_or_right false b e = e
 
-both : (a b : Bool) → a ≡ true → b ≡ true → (a && b) ≡ true
-both true b p q = q
-both false b p q = absurd cc
-
 -- what is open after a partition was asked was open
 still_open : (p q : PartId) (parts : List Asked) → open_at (with_asked p parts) q ≡ true → (open_at parts q ≡ true) × ((same_part q p ≡ true) → ⊥)
 still_open p q parts e =
     let h = any_has (λ (a : Asked). same_part a.part q && not a.asked) (with_asked p parts) e in
     let r = in_map {A = Asked} {B = Asked} (λ (a : Asked). record a { asked = a.asked || same_part a.part p }) parts h.0 h.1 in
     let t : (same_part r.0.part q && not (r.0.asked || same_part r.0.part p)) ≡ true = ap (λ (z : Asked). same_part z.part q && not z.asked) r.2 ∙ h.2 in
-    let s = and_left (same_part r.0.part q) (not (r.0.asked || same_part r.0.part p)) t in
-    let n = and_right (same_part r.0.part q) (not (r.0.asked || same_part r.0.part p)) t in (
-      has_at (λ (a : Asked). same_part a.part q && not a.asked) parts r.0 r.1 (both (same_part r.0.part q) (not r.0.asked) s (not_or_left r.0.asked (same_part r.0.part p) n)),
+    let s = and_true_left (same_part r.0.part q) (not (r.0.asked || same_part r.0.part p)) t in
+    let n = and_true_right (same_part r.0.part q) (not (r.0.asked || same_part r.0.part p)) t in (
+      any_in (λ (a : Asked). same_part a.part q && not a.asked) parts r.0 r.1 (and_from (same_part r.0.part q) (not r.0.asked) s (not_or_left r.0.asked (same_part r.0.part p) n)),
       λ z. clash r.0.part s z (not_or_right r.0.asked (same_part r.0.part p) n),
     )
   where
@@ -113,21 +111,13 @@ asked_less scene p parts a h e f o =
     let self : same_part p p ≡ true = eq-eqb p.0 p.0 refl in
     many_less (open_at (with_asked p parts)) (open_at parts) (all_parts scene) p (λ q k. (still_open p q parts k).0)
     (subst (λ q. In q (all_parts scene)) e (o a h))
-    (not_both (open_at (with_asked p parts) p) (λ k. (still_open p p parts k).1 self))
-    (has_at (λ (b : Asked). same_part b.part p && not b.asked) parts a h (both (same_part a.part p) (not a.asked) (ap (λ q. same_part q p) e ∙ self) (ap not f)))
+    (false_from_ne_true (open_at (with_asked p parts) p) (λ k. (still_open p p parts k).1 self))
+    (any_in (λ (b : Asked). same_part b.part p && not b.asked) parts a h (and_from (same_part a.part p) (not a.asked) (ap (λ q. same_part q p) e ∙ self) (ap not f)))
 
 asked_of : (scene : Scene) (p : PartId) (parts : List Asked) → OfScene scene parts → OfScene scene (with_asked p parts)
 asked_of scene p parts o b h =
     let r = in_map {A = Asked} {B = Asked} (λ (a : Asked). record a { asked = a.asked || same_part a.part p }) parts b h in
     subst (λ q. In q (all_parts scene)) (ap (λ (z : Asked). z.part) r.2) (o r.0 r.1)
-
-pub find_true : {A : Type 0} (p : A → Bool) (xs : List A) (x : A) → find p xs ≡ Some x → p x ≡ true
-find_true p [] x e = absurd (cc e)
-find_true {A = A} p (y ∷ ys) x e = by_test (p y) refl (find_true p ys x) e
-  where
-    by_test : (b : Bool) → p y ≡ b → (find p ys ≡ Some x → p x ≡ true) → (if b then Some y else find p ys) ≡ Some x → p x ≡ true
-    by_test true t rec q = let is : y ≡ x = cc q in ap p (sym is) ∙ t
-    by_test false t rec q = rec q
 
 -- the participant for which the gate asks
 gate_open : (snap : Snap) (lc : ℕ) (parts : List Asked) (wrote : List DepParts) (p : PartId) → gate_turn snap lc parts wrote ≡ Ask p → (a : Asked) × In a parts × (a.part ≡ p) × (a.asked ≡ false)
@@ -142,12 +132,8 @@ gate_open snap lc parts wrote p e = by_ask (find (may_ask wrote) parts) refl e
     by_deps [] q = by_missing (find (λ a. not (is_some a.ack)) parts) q
     by_deps (d ∷ ds) q = cc q
 
-    is_not : (b : Bool) → not b ≡ true → b ≡ false
-    is_not true q = absurd cc
-    is_not false q = refl
-
     by_ask : (o : Option Asked) → find (may_ask wrote) parts ≡ o → Gates.gate_asks snap lc parts o ≡ Ask p → (a : Asked) × In a parts × (a.part ≡ p) × (a.asked ≡ false)
-    by_ask (Some a) f q = (a, find_some (may_ask wrote) parts a f, cc q, is_not a.asked (and_left (not a.asked) (not (Gates.is_written wrote a.part)) (find_true (may_ask wrote) parts a f)))
+    by_ask (Some a) f q = (a, find_some (may_ask wrote) parts a f, cc q, not-true a.asked (and_true_left (not a.asked) (not (Gates.dependency_wrote wrote a.part)) (found_passes (may_ask wrote) parts a f)))
     by_ask None f q = absurd (by_deps snap.deps q)
 
 -- ---- the participants of a transaction are of the scene

@@ -16,8 +16,9 @@ use Rattle.str_base.specs.Values.{is_below}
 use Rattle.str_model.specs.Views.{Active, Closing, Own, View}
 use Rattle.str_model.proofs.Principle.SingleChanges.{JustMarked, Needs}
 use Rattle.str_model.proofs.Changes.SnapshotsGain.{if_elim}
-use Rattle.str_model.proofs.Lists.Members.{In}
 use Rattle.str_model.specs.Owned.{WaitsFor}
+use Rattle.str_base.proofs.SameNames.{same_key-is}
+use Rattle.str_base.specs.Members.{In}
 
 -- ---- lists of marks
 
@@ -112,6 +113,3 @@ finish-looks Stop a x = record { reads = refl; rs = refl; waits = λ k h. h }
 pub finish_next-looks : (o : Option Op) (a : Value) (x : Own) → LooksLess x (finish_next o a x)
 finish_next-looks None a x = record { reads = refl; rs = refl; waits = λ k h. h }
 finish_next-looks (Some op) a x = finish-looks op a x
-
-pub same_key-is : (k l : KeyId) → same_key k l ≡ true → k ≡ l
-same_key-is k l e = let n : k.0 ≡ l.0 = eqb-true k.0 l.0 e in λ j. record { 0 = n j }

@@ -2,7 +2,7 @@
 use Rattle.std.proofs.Common.{arith, inl, inr, length, ltb-true, nat_lt, replicate, suc, true, zero, ℕ, ◌+◌, ◌-◌, ◌<◌, ◌∙◌, ◌≡◌}
 use Rattle.std.proofs.lemmas.List.{length-replicate}
 use Rattle.str_model.specs.declared.messages.Input.{Input}
-use Rattle.str_model.specs.NodeFacts.{In, MomentFacts}
+use Rattle.str_model.specs.NodeFacts.{MomentFacts}
 use Rattle.str_model.specs.Proposals.{ts_limit}
 use Rattle.str_model.specs.Runs.{opening_view}
 use Rattle.str_model.specs.Strange.{has_node}
@@ -12,7 +12,6 @@ use Rattle.str_scene.specs.SceneLimits.{IsScene}
 use Rattle.str_model.proofs.Principle.SingleChanges.{Act, Where}
 use Rattle.str_model.proofs.OwnFacts.AskedParts.{asked-act}
 use Rattle.str_model.proofs.OwnFacts.EarlierDependencies.{depends-act}
-use Rattle.str_model.proofs.Changes.SnapshotsGain.{and_left}
 use Rattle.str_model.proofs.OwnFacts.AtHome.{home-step}
 use Rattle.str_model.proofs.ViewFacts.MarksKept.{marks_length}
 use Rattle.str_model.proofs.OwnFacts.PlacesInOrder.{order-step}
@@ -25,10 +24,12 @@ use Rattle.str_model.proofs.OwnFacts.UnmetNeeds.{needy-act}
 use Rattle.str_model.proofs.ViewFacts.ValuesKept.{values-act}
 use Rattle.str_model.proofs.ViewFacts.VersionsKept.{versions-act}
 use Rattle.str_model.proofs.ViewFacts.WaitersKept.{waiters-act}
+use Rattle.str_base.proofs.Tests.{and_true_left}
+use Rattle.str_base.specs.Members.{In}
 
 -- a node that exists has a number from 1 on
 pub node_number : (here : Here) → has_node here here.node ≡ true → here.node.0 ≡ here.node.0 - 1 + 1
-node_number here e = let k = ltb-true 0 here.node.0 (and_left (nat_lt 0 here.node.0) _ e) in omega (arith, k)
+node_number here e = let k = ltb-true 0 here.node.0 (and_true_left (nat_lt 0 here.node.0) _ e) in omega (arith, k)
 
 pub moment-act : (here : Here) → IsScene here.scene → has_node here here.node ≡ true → (input : Input) (w : Where) (d e : Doing) → Act here input w d e → MomentFacts here d.view → MomentFacts here e.view
 moment-act here ok exists input w d e act h =

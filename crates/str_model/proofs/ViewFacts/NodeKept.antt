@@ -6,7 +6,7 @@ use Rattle.str_model.specs.Acts.{aborted, closed, decided_as}
 use Rattle.str_base.specs.declared.names.Cause.TheVariants.{Wish}
 use Rattle.str_model.specs.declared.messages.Input.{Input}
 use Rattle.str_model.specs.Gates.{DepParts, dep_parts, gate_turn, parts_of}
-use Rattle.str_model.specs.NodeFacts.{EndedAt, In, IsShut, MomentFacts, NodeFacts}
+use Rattle.str_model.specs.NodeFacts.{EndedAt, IsShut, MomentFacts, NodeFacts}
 use Rattle.str_model.specs.Owned.{Owns}
 use Rattle.str_model.specs.Pass.{gates_in, half_turn, pass_to, turn}
 use Rattle.str_model.specs.Pass
@@ -21,10 +21,11 @@ use Rattle.str_model.proofs.Principle.SingleChanges.{Act, InRule, InTurn, InWait
 use Rattle.str_model.proofs.Principle.StepPaths.{StepPath, StepTo, first-path, half_turn-path, resolved_first, step-path, turn-path}
 use Rattle.str_model.proofs.OwnFacts.TurnsBelow.{Below, UpTo, leaves}
 use Rattle.str_model.proofs.ViewFacts.GatesEnd.{Asks, OfScene, gates-end, participants_of, seats_of, to_ask-within}
-use Rattle.str_model.proofs.Lists.ListReads.{get_set}
 use Rattle.str_model.proofs.ViewFacts.MomentKept.{moment-act, moment_opening}
 use Rattle.str_model.proofs.OwnFacts.LocalOwners.{same_own}
 use Rattle.str_model.proofs.OwnFacts.DependenciesStand.{pass_length, resolved_up, same_length, step_open}
+use Rattle.str_base.proofs.Lists.{get_set}
+use Rattle.str_base.specs.Members.{In}
 
 -- ---- what a gate sees of the dependencies
 

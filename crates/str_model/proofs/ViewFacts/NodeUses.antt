@@ -12,7 +12,7 @@ use Rattle.str_model.specs.declared.messages.Arrived.{Arrived}
 use Rattle.partition_map.specs.Maps.{is_written}
 use Rattle.str_base.specs.Versions.{is_local, of_pair, of_tx, same_key, same_node, same_part, same_tx}
 use Rattle.str_model.specs.Arrivals.{held_key}
-use Rattle.str_model.specs.NodeFacts.{In, MomentFacts, OpenTo, WeakDep, how_many}
+use Rattle.str_model.specs.NodeFacts.{MomentFacts, OpenTo, WeakDep, how_many}
 use Rattle.str_model.specs.Owned.{Owns}
 use Rattle.str_model.specs.Proposals.{is_known}
 use Rattle.str_model.specs.Strange.{has_key, has_node}
@@ -23,13 +23,17 @@ use Rattle.str_scene.specs.Scenes.{Here, hosts, part_of}
 use Rattle.str_model.proofs.OwnFacts.TurnsBelow.{OpenAt}
 use Rattle.str_model.proofs.OwnFacts.EarlierDependencies.{earlier}
 use Rattle.str_model.proofs.OwnFacts.FewOwn.{is_certain, others_few}
-use Rattle.str_model.proofs.Changes.SnapshotsGain.{and_left, and_right}
-use Rattle.str_model.proofs.ViewFacts.GatesEnd.{find_true}
 use Rattle.str_model.proofs.OwnFacts.LocalOwners.{same_own}
-use Rattle.str_model.proofs.Changes.PairWords.{any_has, has_at, not_both, same_part-is}
+use Rattle.str_model.proofs.Changes.PairWords.{any_has}
 use Rattle.str_model.proofs.Changes.PairChanges.{unknown_not}
 use Rattle.str_model.proofs.OwnFacts.DependenciesStand.{fate_open}
 use Rattle.str_model.proofs.ViewFacts.ValidMessages.{NamedWrites}
+use Rattle.std.proofs.lemmas.Bool.{and_from, false_from_ne_true}
+use Rattle.str_base.proofs.Members.{any_in}
+use Rattle.str_base.proofs.SameNames.{same_part-is}
+use Rattle.str_base.proofs.Tests.{and_true_left, and_true_right}
+use Rattle.str_base.proofs.Lists.{found_passes}
+use Rattle.str_base.specs.Members.{In}
 
 -- ---- whom a read and a certification are told of
 
@@ -84,11 +88,11 @@ module _ (here : Here) (v : View) (h : MomentFacts here v) where
 
   same_named : (i : ℕ) (u : Version) → of_tx (name_of here i) u ≡ true → (u.tx.node.0 ≡ here.node.0) × (u.tx.seq ≡ i + 1)
   same_named i u e =
-      (eqb-true u.tx.node.0 here.node.0 (and_left (same_node u.tx.node here.node) (u.tx.seq == i + 1) e), eqb-true u.tx.seq (i + 1) (and_right (same_node u.tx.node here.node) (u.tx.seq == i + 1) e))
+      (eqb-true u.tx.node.0 here.node.0 (and_true_left (same_node u.tx.node here.node) (u.tx.seq == i + 1) e), eqb-true u.tx.seq (i + 1) (and_true_right (same_node u.tx.node here.node) (u.tx.seq == i + 1) e))
 
   -- one that isn't certified has none
   pub none_before : (i : ℕ) (x : Own) → Owns v i x → lc_of x.phase ≡ None → (u : Version) → In u v.versions → of_tx (name_of here i) u ≡ false
-  none_before i x own none u m = not_both (of_tx (name_of here i) u) (λ e.
+  none_before i x own none u m = false_from_ne_true (of_tx (name_of here i) u) (λ e.
       let n = same_named i u e in
       let o = (h.versions u m).own n.0 in
       let same = same_own v o.place i o.owner x o.owns own (omega (arith, o.seq, n.1)) in
@@ -103,7 +107,7 @@ module _ (here : Here) (v : View) (h : MomentFacts here v) where
       let same = same_own v o.place i o.owner x o.owns own (omega (arith, o.seq, n.1)) in
       let w : In o.write x.writes = subst (λ (z : Own). In o.write z.writes) same o.written in
       let p : part_of here.scene o.write.key ≡ u.part = ap (λ k. part_of here.scene k) o.key ∙ sym f.part in
-      has_at (λ (z : Write). same_part (part_of here.scene z.key) u.part) x.writes o.write w (eq-eqb (part_of here.scene o.write.key).0 u.part.0 (ap (λ (z : PartId). z.0) p))
+      any_in (λ (z : Write). same_part (part_of here.scene z.key) u.part) x.writes o.write w (eq-eqb (part_of here.scene o.write.key).0 u.part.0 (ap (λ (z : PartId). z.0) p))
 
   -- ---- what arrives
 
@@ -114,22 +118,18 @@ module _ (here : Here) (v : View) (h : MomentFacts here v) where
       let key : u.key ≡ w.key = λ i. record { 0 = eqb-true u.key.0 w.key.0 k i } in
       let part : u.part ≡ a.part = (h.versions u m).part ∙ (ap (λ z. part_of here.scene z) key ∙ same_part-is (part_of here.scene w.key) a.part (n.keys w j).1) in
       let p : same_part u.part a.part ≡ true = eq-eqb u.part.0 a.part.0 (ap (λ (z : PartId). z.0) part) in
-      cc (f u m, both_true (same_tx u.tx a.tx) (same_part u.part a.part) t p)
-    where
-      both_true : (x y : Bool) → x ≡ true → y ≡ true → (x && y) ≡ true
-      both_true true y p q = q
-      both_true false y p q = absurd cc
+      cc (f u m, and_from (same_tx u.tx a.tx) (same_part u.part a.part) t p)
 
   -- a pair that is not known has no version
   pub unknown_none : (a : Arrived) → is_known v a.tx a.part ≡ false → (u : Version) → In u v.versions → of_pair a.tx a.part u ≡ false
-  unknown_none a f u m = not_both (of_pair a.tx a.part u) (λ e. unknown_not a.tx a.part v f (inr (u, m, e)))
+  unknown_none a f u m = false_from_ne_true (of_pair a.tx a.part u) (λ e. unknown_not a.tx a.part v f (inr (u, m, e)))
 
   -- a version elsewhere is beside what arrives here: of another partition, and of none of the keys
   pub is_beside : (a : Arrived) → NamedWrites here a.tx a.part a.rs a.lc a.writes → hosts here.scene here.node a.part ≡ true → (u : Version) → In u v.versions → hosts here.scene here.node u.part ≡ false
       → (same_part u.part a.part ≡ false) × (list_any (λ w. same_key u.key w.key) a.writes ≡ false)
   is_beside a n hs u m f = (
-    not_both (same_part u.part a.part) (λ e. other (same_part-is u.part a.part e)),
-    not_both (list_any (λ (w : Write). same_key u.key w.key) a.writes) (λ e.
+    false_from_ne_true (same_part u.part a.part) (λ e. other (same_part-is u.part a.part e)),
+    false_from_ne_true (list_any (λ (w : Write). same_key u.key w.key) a.writes) (λ e.
         let r = any_has (λ (w : Write). same_key u.key w.key) a.writes e in
         let key : u.key ≡ r.0.key = λ i. record { 0 = eqb-true u.key.0 r.0.key.0 r.2 i } in
         other ((h.versions u m).part ∙ (ap (λ z. part_of here.scene z) key ∙ same_part-is (part_of here.scene r.0.key) a.part (n.keys r.0 r.1).1))),
@@ -148,11 +148,11 @@ module _ (here : Here) (v : View) (h : MomentFacts here v) where
   pub held_open : (q : ℕ) (ws : List Write) (w : Write) → (let tx : TxId = record { node = here.node; seq = q } in held_key v.versions tx ws) ≡ Some w → IsCertain v q
   held_open q ws w e =
       let tx : TxId = record { node = here.node; seq = q } in
-      let t = find_true (λ (w : Write). list_any (λ u. same_key u.key w.key && (of_tx tx u && is_local u.kind)) v.versions) ws w e in
+      let t = found_passes (λ (w : Write). list_any (λ u. same_key u.key w.key && (of_tx tx u && is_local u.kind)) v.versions) ws w e in
       let r = any_has (λ (u : Version). same_key u.key w.key && (of_tx tx u && is_local u.kind)) v.versions t in
-      let both = and_right (same_key r.0.key w.key) (of_tx tx r.0 && is_local r.0.kind) r.2 in
-      let o = h.base.locals r.0 r.1 (local_is r.0 (and_right (of_tx tx r.0) (is_local r.0.kind) both)) in
-      let s : r.0.tx.seq ≡ q = eqb-true r.0.tx.seq q (and_right (same_node r.0.tx.node here.node) (r.0.tx.seq == q) (and_left (of_tx tx r.0) (is_local r.0.kind) both)) in
+      let both = and_true_right (same_key r.0.key w.key) (of_tx tx r.0 && is_local r.0.kind) r.2 in
+      let o = h.base.locals r.0 r.1 (local_is r.0 (and_true_right (of_tx tx r.0) (is_local r.0.kind) both)) in
+      let s : r.0.tx.seq ≡ q = eqb-true r.0.tx.seq q (and_true_right (same_node r.0.tx.node here.node) (r.0.tx.seq == q) (and_true_left (of_tx tx r.0) (is_local r.0.kind) both)) in
       record { place = o.place; owner = o.owner; number = sym s ∙ o.seq; owns = o.owns; open_ = o.open_; lc = r.0.ts.0; is_lc = o.lc }
     where
       local_is : (u : Version) → is_local u.kind ≡ true → u.kind ≡ LocalKind

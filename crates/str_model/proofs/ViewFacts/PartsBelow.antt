@@ -4,7 +4,6 @@ use Rattle.dependency_set.specs.Snapshots.{Snap}
 use Rattle.partition_map.specs.declared.rows.Asked.{Asked}
 use Rattle.str_model.proofs.ViewFacts.TimesBelow.{MarksBelow, OwnBelow, VersionsBelow, ViewBelow, greatest_below, mark_below, own_at}
 use Rattle.str_model.proofs.Changes.SnapshotsGain.{Extends, Gains, gains_it, gains_of, if_elim}
-use Rattle.str_model.proofs.Lists.Members.{In, in_insert_all, in_map, in_without}
 use Rattle.str_model.specs.Owned.{final_times}
 use Rattle.std.proofs.Common.{Bool, List, None, Option, Some, [], ap, arith, find, inl, inr, is_some, map, max, not, refl, slice_set, suc, sym, true, zero, ℕ, ◌+◌, ◌-◌, ◌<◌, ◌∷◌, ◌≡◌, ◌⊎◌}
 use Rattle.str_base.specs.declared.names.KeyId.{KeyId}
@@ -28,6 +27,8 @@ use Rattle.str_model.specs.Views.{Active, Closing, Own, View, lc_of}
 use Rattle.str_scene.specs.declared.names.Op.TheVariants.{Abort as Stop, Add, Del, Get, Need, Put, Puts}
 use Rattle.str_scene.specs.declared.names.Op.{Op}
 use Rattle.str_scene.specs.Scenes.{Here}
+use Rattle.str_base.proofs.Members.{in_insert_all, in_map, in_without}
+use Rattle.str_base.specs.Members.{In}
 
 -- ---- lists
 

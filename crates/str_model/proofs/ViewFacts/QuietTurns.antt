@@ -2,7 +2,7 @@
 use Rattle.std.proofs.Common.{List, None, Some, [], ap, false, inl, inr, length, refl, slice_get, subst, sym, true, ℕ, ◌-◌, ◌∙◌, ◌∷◌, ◌≡◌}
 use Rattle.dependency_set.specs.declared.names.Dep.{Dep}
 use Rattle.str_model.specs.Gates.{Ask, CommitAt, GateTurn, Missing, Shut, gate_of}
-use Rattle.str_model.specs.NodeFacts.{EndedAt, In, IsShut}
+use Rattle.str_model.specs.NodeFacts.{EndedAt, IsShut}
 use Rattle.str_model.specs.Owned.{Owns}
 use Rattle.str_model.specs.Pass.{gates, half_turn, turn}
 use Rattle.str_model.specs.Pass
@@ -13,7 +13,8 @@ use Rattle.str_model.specs.Turns
 use Rattle.str_model.specs.Views.{Aborted, Active, CertWait, Closing, Committed, Doing, Global, Local, Own, Phase, ReadWait, Remote, Reply, View, is_decided, lc_of, put}
 use Rattle.str_scene.specs.Scenes.{Here}
 use Rattle.str_model.proofs.OwnFacts.TurnsBelow.{OpenAt}
-use Rattle.str_model.proofs.Lists.ListReads.{set_got}
+use Rattle.str_base.proofs.Lists.{set_got}
+use Rattle.str_base.specs.Members.{In}
 
 -- ---- one own transaction
 

@@ -17,7 +17,6 @@ use Rattle.str_base.specs.Versions.{chain, last_pre, last_undecided, mark_of, ne
 use Rattle.str_base.specs.Versions
 use Rattle.str_model.proofs.Changes.SnapshotsGain.{if_elim, in_last, visible-is}
 use Rattle.str_model.proofs.Changes.DependencyLooks.{ffc_also}
-use Rattle.str_model.proofs.Lists.Members.{In, in_at, in_filter}
 use Rattle.str_model.specs.declared.messages.Body.{Body}
 use Rattle.str_model.specs.declared.messages.Body.TheVariants.{Abort, Ack, Commit, Prepare, ReadReply, ReadReq, Refuse, Replicate}
 use Rattle.str_model.specs.declared.messages.Waiter.{Waiter}
@@ -27,6 +26,8 @@ use Rattle.str_model.specs.Turns.{Away, CertTurn, Certified, CommittedAt, Confli
 use Rattle.str_model.specs.Turns
 use Rattle.str_model.specs.Views.{Aborted, Committed, Own, Phase, View}
 use Rattle.str_scene.specs.Scenes.{Here, hosts_key}
+use Rattle.str_base.proofs.Members.{in_at, in_filter}
+use Rattle.str_base.specs.Members.{In}
 
 -- those of a message
 abbrev pub BodyBelow : ℕ → Body → Type 0

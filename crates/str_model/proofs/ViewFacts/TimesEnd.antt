@@ -18,11 +18,11 @@ use Rattle.str_model.proofs.Principle.SingleChanges.{Act, Where, act_abort, act_
 use Rattle.str_model.proofs.ViewFacts.ChangesBelow.{view_act}
 use Rattle.str_model.proofs.ViewFacts.PartsBelow.{insert_below}
 use Rattle.str_model.proofs.ViewFacts.TimesBelow.{BodyBelow, VersionsBelow, body_higher}
-use Rattle.str_model.proofs.Lists.ListCounts.{many_append}
+use Rattle.str_model.proofs.ListCounts.{many_append}
 use Rattle.str_model.proofs.OwnFacts.EachOwn.{as_certified}
-use Rattle.str_model.proofs.Lists.Members.{in_map}
 use Rattle.str_model.proofs.Changes.VersionChanges.{still}
 use Rattle.str_model.proofs.ViewFacts.ValidMessages.{named_below, valid_named}
+use Rattle.str_base.proofs.Members.{in_map}
 
 -- ---- how many were certified
 

@@ -18,7 +18,7 @@ use Rattle.dependency_set.specs.Snapshots.{Snap, accept_final, holds}
 use Rattle.str_base.specs.Values.{is_below, set_write}
 use Rattle.str_base.specs.Versions.{last_pre, same_key, visible}
 use Rattle.str_model.specs.Acts.{decided_as, in_phase}
-use Rattle.str_model.specs.NodeFacts.{AllOwn, In, OwnValues}
+use Rattle.str_model.specs.NodeFacts.{AllOwn, OwnValues}
 use Rattle.str_scene.specs.Scenes.{Here, first_or, hosts_key, part_of, replicas}
 use Rattle.str_scene.specs.SceneLimits.{IsOp, IsScene}
 use Rattle.str_model.specs.Scripts.{finish, finish_next, found_read, found_write, known, noted, or_else, own_op}
@@ -30,10 +30,12 @@ use Rattle.str_model.specs.Views.{Active, CertWait, Closing, Doing, Own, Phase, 
 use Rattle.str_model.proofs.Principle.SingleChanges.{Act, Change, NeedsNone, ReadsTo, Where, ch_away, ch_blind, ch_close, ch_gate, ch_known, ch_read, ch_reply, ch_resolve, ch_take, ch_wait, to_final, to_local}
 use Rattle.str_model.proofs.OwnFacts.AskedParts.{find_some}
 use Rattle.str_model.proofs.OwnFacts.EachOwn.{OwnKept, each_own-act}
-use Rattle.str_model.proofs.Changes.SnapshotsGain.{and_left, and_right, if_elim, visible-is}
+use Rattle.str_model.proofs.Changes.SnapshotsGain.{if_elim, visible-is}
 use Rattle.str_model.proofs.ViewFacts.MarksRise.{script_op}
-use Rattle.str_model.proofs.Lists.Members.{in_append}
 use Rattle.str_model.proofs.ViewFacts.ValidMessages.{came_named}
+use Rattle.str_base.proofs.Tests.{and_true_left, and_true_right}
+use Rattle.str_base.proofs.Members.{in_append}
+use Rattle.str_base.specs.Members.{In}
 
 module _ (here : Here) where
   -- the value's byte string is one of the scene
@@ -182,8 +184,8 @@ module _ (here : Here) where
       change_values i x y (ch_away k to r m e) h = phase_values x (Remote k) (λ l b u fc q. absurd (cc q)) h
       change_values i x y (ch_reply from tx l k a by fc c p u e s) h =
           let n = came_named here input from (ReadReply tx k a by fc) c in
-          let m = and_right (has_key here k) (has_value here a && (has_writer here by && below_limit fc)) (and_right (has_node here tx.node) (has_key here k && (has_value here a && (has_writer here by && below_limit fc))) n) in
-          let g : Good a = and_left (has_value here a) (has_writer here by && below_limit fc) m in
+          let m = and_true_right (has_key here k) (has_value here a && (has_writer here by && below_limit fc)) (and_true_right (has_node here tx.node) (has_key here k && (has_value here a && (has_writer here by && below_limit fc))) n) in
+          let g : Good a = and_true_left (has_value here a) (has_writer here by && below_limit fc) m in
           phase_values x (Reply k a by fc.0) (λ l' b u fc' q. let is : a ≡ b = cc q in subst Good is g) h
       change_values i x y (ch_take k a b by of fc gc snap e q) h =
           let g : Good b = reply_good x.snap a b by of fc gc snap q (h.reply k a by fc e) in next_values x (own_op here x) b (noted k b of snap x) refl g (noted_values x k b of snap g h)

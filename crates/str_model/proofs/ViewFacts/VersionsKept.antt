@@ -17,7 +17,7 @@ use Rattle.dependency_set.specs.Snapshots.{Snap}
 use Rattle.partition_map.specs.Maps.{has_node as row_has}
 use Rattle.str_base.specs.Versions.{of_pair, of_tx, same_key, same_node, settled, without}
 use Rattle.str_model.specs.Acts.{abort_came, aborted, accepted, acked, asked, begun, certified, closed, commit_came, committed, fresh, is_hosted_of, local_version, marked, pre_version, refused, replied, requested, taken, waits}
-use Rattle.str_model.specs.NodeFacts.{AllOwn, In, IsMasters, OwnValues, OwnVersion, ScriptGood, VersionFacts, WritesKey, WrittenIn}
+use Rattle.str_model.specs.NodeFacts.{AllOwn, IsMasters, OwnValues, OwnVersion, ScriptGood, VersionFacts, WritesKey, WrittenIn}
 use Rattle.str_model.specs.Owned.{Owns, wrote_key}
 use Rattle.str_scene.specs.Scenes.{Here, Scene, hosts, is_master, leads, part_of, replicas}
 use Rattle.str_scene.specs.SceneLimits.{IsOp, IsScene}
@@ -26,15 +26,18 @@ use Rattle.str_model.specs.Strange.{has_key, has_node}
 use Rattle.str_model.specs.Views.{Doing, Own, View, lc_of, name_of}
 use Rattle.str_model.proofs.Principle.SingleChanges.{Act, Comes, IsHere, Takes, Where, act_abort, act_abort_came, act_accept, act_ack, act_ask, act_begin, act_certify, act_close, act_commit, act_commit_came, act_mark, act_put, act_refuse, act_reply, act_request, act_take, act_unwait, act_wait, it_comes, it_waits}
 use Rattle.str_model.proofs.OwnFacts.EachOwn.{as_certified}
-use Rattle.str_model.proofs.Changes.SnapshotsGain.{and_left, and_right}
-use Rattle.str_model.proofs.Lists.ListReads.{get_push, get_set, get_set_other, same_or_not}
 use Rattle.str_model.proofs.ViewFacts.MarksRise.{script_op}
-use Rattle.str_model.proofs.Lists.Members.{in_filter, in_insert_all, in_map, in_right, in_without}
 use Rattle.str_model.proofs.OwnFacts.LocalOwners.{same_own}
-use Rattle.str_model.proofs.Changes.PairWords.{has_at, pair-is, same_part-is}
+use Rattle.str_model.proofs.Changes.PairWords.{pair-is}
 use Rattle.str_model.proofs.Changes.OwnTurns.{OwnChange, o_aborts, o_acks, o_asks, o_begins, o_certifies, o_closes, o_commits, o_puts, o_rests, own_change}
 use Rattle.str_model.proofs.ViewFacts.ValidMessages.{NamedWrites, came_named, named_writes}
 use Rattle.str_model.proofs.ViewFacts.WaitersKept.{AllWaiting}
+use Rattle.str_base.proofs.Members.{any_in, in_filter, in_insert_all, in_map, in_right, in_without}
+use Rattle.str_base.proofs.SameNames.{same_part-is}
+use Rattle.str_base.proofs.Tests.{and_true_left, and_true_right}
+use Rattle.str_base.proofs.Lists.{get_push, get_set, get_set_other}
+use Rattle.std.proofs.lemmas.Bool.{cases_eq, or_left}
+use Rattle.str_base.specs.Members.{In}
 
 -- ---- a certified transaction keeps its writes
 
@@ -57,7 +60,7 @@ module _ (here : Here) (input : Input) (d e : View) where
           record { new = y; owns = rw q (subst (λ m. slice_get (slice_set d.own n y) m ≡ Some y) (sym s) (get_set d.own n z y is)); is_lc = r.0; writes = r.1 }
 
       by_place : (n : ℕ) (z y : Own) → Owns d n z → e.own ≡ slice_set d.own n y → (z ≡ x → (lc_of y.phase ≡ Some lc) × (y.writes ≡ x.writes)) → StaysCertified e i lc x
-      by_place n z y is q f = elim (same_or_not i n) [ inl s ↦ at_it n z y is q s f | inr s ↦ at_other n y q s ]
+      by_place n z y is q f = elim (cases_eq i n) [ inl s ↦ at_it n z y is q s f | inr s ↦ at_other n y q s ]
 
       was : (z : Own) → z ≡ x → lc_of z.phase ≡ Some lc
       was z s = ap (λ (u : Own). lc_of u.phase) s ∙ l
@@ -104,14 +107,14 @@ made here input w d e (act_commit n lc fc x d' o l none le f g) u h =
     elim (in_insert_all (map (settled fc) (filter (is_hosted_of here (name_of here n)) d'.view.versions)) (without (of_tx (name_of here n)) d'.view.versions) u h) [
       | inl j ↦ (let r = in_map (settled fc) (filter (is_hosted_of here (name_of here n)) d'.view.versions) u j in
           let m = in_filter (is_hosted_of here (name_of here n)) d'.view.versions r.0 r.1 in
-          m_settled fc r.0 m.0 (and_right (of_tx (name_of here n) r.0) (hosts here.scene here.node r.0.part) m.1) (sym r.2))
+          m_settled fc r.0 m.0 (and_true_right (of_tx (name_of here n) r.0) (hosts here.scene here.node r.0.part) m.1) (sym r.2))
       | inr j ↦ m_old (in_without (of_tx (name_of here n)) d'.view.versions u j)
     ]
 made here input w d e (act_commit_came from t p fc ms d' c g) u h =
     elim (in_insert_all (map (settled fc.0) (filter (of_pair t p) d'.view.versions)) (without (of_pair t p) d'.view.versions) u h) [
       | inl j ↦ (let r = in_map (settled fc.0) (filter (of_pair t p) d'.view.versions) u j in
           let m = in_filter (of_pair t p) d'.view.versions r.0 r.1 in
-          m_settled fc.0 r.0 m.0 (subst (λ q. hosts here.scene here.node q ≡ true) (sym (pair-is t p r.0 m.1).1) (and_left (hosts here.scene here.node p) _ g)) (sym r.2))
+          m_settled fc.0 r.0 m.0 (subst (λ q. hosts here.scene here.node q ≡ true) (sym (pair-is t p r.0 m.1).1) (and_true_left (hosts here.scene here.node p) _ g)) (sym r.2))
       | inr j ↦ m_old (in_without (of_pair t p) d'.view.versions u j)
     ]
 made here input w d e (act_begin place rs d' r g) u h = m_old h
@@ -140,17 +143,13 @@ writes_key scene Stop k h q = absurd q
 -- each key that a transaction wrote is one of the scene
 pub write_key : (here : Here) → IsScene here.scene → (x : Own) → ScriptGood here x → (w : Write) → In w x.writes → has_key here w.key ≡ true
 write_key here ok x g w h =
-    let k : wrote_key w.key x.writes ≡ true = has_at (λ (z : Write). same_key z.key w.key) x.writes w h (eq-eqb w.key.0 w.key.0 refl) in
+    let k : wrote_key w.key x.writes ≡ true = any_in (λ (z : Write). same_key z.key w.key) x.writes w h (eq-eqb w.key.0 w.key.0 refl) in
     let i : WrittenIn _ w.key = g.inside w.key k in
     lt-ltb w.key.0 (length here.scene.keys.names) (writes_key here.scene i.1 w.key (script_op here.scene ok x.place i.0 i.1 i.2) i.3)
 
 leads_has : (n : NodeId) (row : List NodeId) → leads n row ≡ true → row_has n row ≡ true
 leads_has n [] e = absurd (cc e)
-leads_has n (r ∷ rs) e = or_yes (same_node r n) (list_any (λ (z : NodeId). same_node z n) rs) e
-  where
-    or_yes : (a b : Bool) → a ≡ true → (a || b) ≡ true
-    or_yes true b q = refl
-    or_yes false b q = absurd cc
+leads_has n (r ∷ rs) e = or_left (same_node r n) (list_any (λ (z : NodeId). same_node z n) rs) e
 
 -- a master has its partition
 pub master_hosts : (here : Here) (p : PartId) → is_master here.scene here.node p ≡ true → hosts here.scene here.node p ≡ true

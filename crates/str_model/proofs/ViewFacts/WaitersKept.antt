@@ -10,19 +10,20 @@ use Rattle.str_model.specs.declared.messages.Waiter.{Waiter}
 use Rattle.str_model.specs.declared.messages.Waiter.TheVariants.{Held, Read}
 use Rattle.str_base.specs.Versions.{of_pair, of_tx, same_part, same_tx, settled, without}
 use Rattle.str_model.specs.Acts.{abort_came, aborted, accepted, acked, asked, begun, certified, closed, commit_came, committed, is_hosted_of, local_version, marked, pre_version, refused, replied, requested, taken, waits}
-use Rattle.str_model.specs.NodeFacts.{In, IsMasters, WaiterFacts}
+use Rattle.str_model.specs.NodeFacts.{IsMasters, WaiterFacts}
 use Rattle.str_scene.specs.Scenes.{Here}
 use Rattle.str_model.specs.Proposals.{holds_pair, proposed}
 use Rattle.str_model.specs.Strange.{below_limit, has_key, has_named, has_node}
 use Rattle.str_model.specs.Views.{Doing, View, name_of}
 use Rattle.str_model.proofs.Principle.SingleChanges.{Act, Arrives, IsHere, Takes, Where, a_prepare, a_read, act_abort, act_abort_came, act_accept, act_ack, act_ask, act_begin, act_certify, act_close, act_commit, act_commit_came, act_mark, act_put, act_refuse, act_reply, act_request, act_take, act_unwait, act_wait, left_waiting}
-use Rattle.str_model.proofs.Lists.ListCounts.{many_has, many_some}
-use Rattle.str_model.proofs.Changes.SnapshotsGain.{and_left, and_right}
-use Rattle.str_model.proofs.Lists.Members.{in_append, in_filter, in_insert_all, in_map, in_without}
+use Rattle.str_model.proofs.ListCounts.{many_has, many_some}
 use Rattle.str_model.proofs.Changes.PairWords.{Has, pair_same, same_pair}
 use Rattle.str_model.proofs.Changes.PairChanges.{AtMaster, left_none, one_pair, park_step, parked, taken_none, unknown_not}
 use Rattle.str_model.proofs.Changes.VersionChanges.{WaitStep, w_fewer, w_more, wait_step}
 use Rattle.str_model.proofs.ViewFacts.ValidMessages.{came_named, valid_named}
+use Rattle.str_base.proofs.Tests.{and_true_left, and_true_right}
+use Rattle.str_base.proofs.Members.{in_append, in_filter, in_insert_all, in_map, in_without}
+use Rattle.str_base.specs.Members.{In}
 
 -- all who wait
 abbrev pub AllWaiting : Here → View → Type 0
@@ -133,8 +134,8 @@ module _ (here : Here) (input : Input) (w : Where) (d e : Doing) (act : Act here
   new_waiter : (r : Waiter) → Arrives here input d r → In r e.view.waiters → WaiterFacts here e.view r
   new_waiter r (a_read from tx k rs c) j =
       let n : has_named here (ReadReq tx k rs) ≡ true = subst (λ b. has_named here b ≡ true) c.3 (valid_named here c.0 c.4) in
-      let q = and_right (has_node here tx.node) (has_key here k && below_limit rs) n in
-      record { node = and_left (has_node here tx.node) (has_key here k && below_limit rs) n; key = and_left (has_key here k) (below_limit rs) q; hosted = c.6; below = and_right (has_key here k) (below_limit rs) q }
+      let q = and_true_right (has_node here tx.node) (has_key here k && below_limit rs) n in
+      record { node = and_true_left (has_node here tx.node) (has_key here k && below_limit rs) n; key = and_true_left (has_key here k) (below_limit rs) q; hosted = c.6; below = and_true_right (has_key here k) (below_limit rs) q }
   new_waiter r (a_prepare from a c u z m) j =
       record {
         masters = m;

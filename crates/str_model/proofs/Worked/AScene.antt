@@ -7,7 +7,7 @@ use Rattle.str_scene.specs.declared.names.Op.{Op}
 use Rattle.str_scene.specs.SceneLimits.{Exists, IsByteText, IsEvent, IsKey, IsOp, IsRow, IsScene, IsScript, IsSession}
 use Rattle.str_scene.specs.Scenes.{KeyTable, Session}
 use Rattle.str_base.specs.Versions.{same_node}
-use Rattle.str_model.proofs.Worked.Rows1.{scene_byte_values}
+use Rattle.str_model.proofs.Worked.Commits.ByteValues.{byte_values}
 use Rattle.str_model.proofs.Worked.Words.{add, c, get, key, node, puts, session, words}
 
 at_none : {A : Type 0} (P : A → Type 0) (xs : List A) → xs ≡ [] → (i : ℕ) (y : A) → slice_get xs i ≡ Some y → P y
@@ -45,8 +45,8 @@ second_ok =
     (at_more (IsOp 2 table) (get 0) (add 0 (pos 3) ∷ get 0 ∷ []) (omega arith)
     (at_more (IsOp 2 table) (add 0 (pos 3)) (get 0 ∷ []) (omega arith, omega arith) (at_one (IsOp 2 table) (get 0) (omega arith))))
 
-pub is_scene : IsScene scene_byte_values
-unfolding scene_byte_values words table
+pub is_scene : IsScene byte_values
+unfolding byte_values words table
 is_scene = record {
   version = inr refl;
   nodes = (omega arith, omega arith);
@@ -66,12 +66,12 @@ is_scene = record {
     text_order = refl;
   };
   few_sessions = omega arith;
-  sessions = at_one (IsSession scene_byte_values) (session 1 ((puts 0 0 ∷ []) ∷ (get 0 ∷ add 0 (pos 3) ∷ get 0 ∷ []) ∷ [])) (record {
+  sessions = at_one (IsSession byte_values) (session 1 ((puts 0 0 ∷ []) ∷ (get 0 ∷ add 0 (pos 3) ∷ get 0 ∷ []) ∷ [])) (record {
     node = (omega arith, omega arith);
     scripts = at_more (IsScript 2 table) (puts 0 0 ∷ []) ((get 0 ∷ add 0 (pos 3) ∷ get 0 ∷ []) ∷ []) first_ok (at_one (IsScript 2 table) (get 0 ∷ add 0 (pos 3) ∷ get 0 ∷ []) second_ok);
   });
-  at_one_node = λ n. omega (arith, count_by-le-length (λ (s : Session). same_node s.node n) scene_byte_values.sessions);
+  at_one_node = λ n. omega (arith, count_by-le-length (λ (s : Session). same_node s.node n) byte_values.sessions);
   few_transactions = omega arith;
   few_events = omega arith;
-  events = at_one (IsEvent scene_byte_values) (c 1 10) ((omega arith, omega arith), omega arith);
+  events = at_one (IsEvent byte_values) (c 1 10) ((omega arith, omega arith), omega arith);
 }

@@ -1,6 +1,7 @@
 use Rattle.std.proofs.Common.{drop, max, ◌<◌, ◌≡◌}
 use Rattle.local_certify.specs.Causes.{time_end}
-use Rattle.local_certify.specs.Judging.{held, passed_by}
+use Rattle.local_certify.specs.Judging.{passed_by}
+use Rattle.snapshot_read.specs.Shown.{held}
 use Rattle.local_certify.proofs.certs.passed.Given as goal
 
 abbrev pub invariant-loop-write : goal.invariant-loop-write

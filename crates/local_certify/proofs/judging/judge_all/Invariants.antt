@@ -1,6 +1,6 @@
 use Rattle.std.proofs.Common.{drop, ◌≡◌}
-use Rattle.local_certify.specs.Judging.{held, judged_all}
-use Rattle.snapshot_read.specs.Shown.{AreNamed}
+use Rattle.local_certify.specs.Judging.{judged_all}
+use Rattle.snapshot_read.specs.Shown.{AreNamed, held}
 use Rattle.local_certify.proofs.judging.judge_all.Given as goal
 
 abbrev pub invariant-loop-write : goal.invariant-loop-write

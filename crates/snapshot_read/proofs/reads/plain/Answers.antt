@@ -1,10 +1,9 @@
-use Rattle.std.proofs.Common.{refl, sym, ◌≡◌}
-use Rattle.snapshot_read.proofs.Gating.{waits_at, waits_gated}
+use Rattle.std.proofs.Common.{refl, ◌≡◌}
+use Rattle.snapshot_read.proofs.Gating.{shut_waits}
 use Rattle.snapshot_read.proofs.reads.plain.Goals as goal
 
 pub returns-in-Some-clause-turn : goal.returns-in-Some-clause-turn
-returns-in-Some-clause-turn c =
-    λ here n. sym (waits_gated here c.args.snap _ c.in-Some.by (waits_at here.node c.args.node c.args.snap c.in-Some.by n ((c.in-Some.ensures.some c.in-Some.by).0 refl)))
+returns-in-Some-clause-turn c = shut_waits c.args.node c.args.snap _ c.in-Some.by ((c.in-Some.ensures.some c.in-Some.by).0 refl)
 
 pub returns-in-Some-clause-wait : goal.returns-in-Some-clause-wait
 returns-in-Some-clause-wait c =

@@ -9,7 +9,7 @@ use Rattle.link_arena.specs.HeadLists.{key_below, key_names, key_one, lookup}
 use Rattle.link_arena.specs.OneSide.{row_at}
 use Rattle.link_arena.specs.Rows.{IsPlace, put_before, taken}
 use Rattle.link_arena.specs.Sides.{version_of}
-use Rattle.link_arena.proofs.ArenaLemmas.{at_is, at_seen, has_key, key_seen, list_is, room_again, side_beside, told, tx_seen}
+use Rattle.link_arena.proofs.ArenaLemmas.{are_lists, at_is, at_seen, has_key, key_seen, list_is, room_again, side_beside, told, tx_seen}
 use Rattle.link_arena.proofs.arena.Arena.relink.Goals as goal
 
 pub enter-requires-clause-place : goal.enter-requires-clause-place
@@ -59,3 +59,6 @@ returns-clause-tx_list c k =
     let t = side_beside tx_before of_tx ByTx c.self.inside.nodes c.leave.new.nodes c.self.inside.txs.items None c.self.invariant.by_tx c.leave.ensures.beside in
     let u = side_beside tx_before of_tx ByTx c.leave.new.nodes c.enter.new.nodes c.self.inside.txs.items None t.0 c.enter.ensures.beside in
     list_is tx_before ByTx c.enter.new.nodes c.self.inside.txs.items k ∙ u.1 k ∙ t.1 k ∙ tx_seen c.self.inside.nodes c.self.inside.keys.items c.self.inside.txs.items c.self.inside.spare c.args.self.now c.self.view_is k
+
+pub returns-clause-lists : goal.returns-clause-lists
+returns-clause-lists c = are_lists c.enter.new.nodes c.enter.new.heads c.self.inside.txs c.self.inside.spare (invariant_of-self c)

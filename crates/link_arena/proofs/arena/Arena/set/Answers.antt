@@ -6,7 +6,7 @@ use Rattle.link_arena.specs.declared.nodes.Node.{Node}
 use Rattle.link_arena.specs.declared.nodes.Side.TheVariants.{ByKey, ByTx}
 use Rattle.link_arena.specs.HeadLists.{key_below, key_names}
 use Rattle.link_arena.specs.Sides.{version_at, version_of}
-use Rattle.link_arena.proofs.ArenaLemmas.{at_is, at_seen, dated_at, key_seen, list_is, side_changed, tx_seen, updated}
+use Rattle.link_arena.proofs.ArenaLemmas.{are_lists, at_is, at_seen, dated_at, key_seen, list_is, side_changed, tx_seen, updated}
 use Rattle.link_arena.proofs.arena.Arena.set.Goals as goal
 
 pub invariant_of-self : goal.invariant_of-self
@@ -41,3 +41,6 @@ returns-clause-tx_list c t =
     list_is tx_before ByTx c.write.new.nodes c.self.inside.txs.items t
     ∙ (side_changed tx_before of_tx ByTx c.self.inside.nodes c.write.new.nodes c.self.inside.txs.items c.args.slot.0 _ _ c.self.invariant.by_tx c.read-node.ensures c.write.ensures.updates refl (λ t. refl)).1 t
     ∙ tx_seen c.self.inside.nodes c.self.inside.keys.items c.self.inside.txs.items c.self.inside.spare c.args.self.now c.self.view_is t
+
+pub returns-clause-lists : goal.returns-clause-lists
+returns-clause-lists c = are_lists c.write.new.nodes c.self.inside.keys c.self.inside.txs c.self.inside.spare (invariant_of-self c)

@@ -7,7 +7,7 @@ use Rattle.link_arena.specs.Arenas.{key_list, tx_list}
 use Rattle.link_arena.specs.declared.nodes.Side.TheVariants.{ByKey, ByTx}
 use Rattle.link_arena.specs.HeadLists.{key_below, key_names, key_one, tx_one}
 use Rattle.link_arena.specs.Rows.{taken}
-use Rattle.link_arena.proofs.ArenaLemmas.{at_is, at_seen, has_key, has_tx, key_seen, list_is, side_beside, side_emptied, told, tx_seen, updated}
+use Rattle.link_arena.proofs.ArenaLemmas.{are_lists, at_is, at_seen, has_key, has_tx, key_seen, list_is, side_beside, side_emptied, told, tx_seen, updated}
 use Rattle.link_arena.proofs.arena.Arena.unlink.Goals as goal
 
 pub leave-requires-2-clause-side : goal.leave-requires-2-clause-side
@@ -54,3 +54,6 @@ returns-clause-tx_list c =
     told of_tx tx_one v v.tx (has_tx v) _ (λ t. taken s (tx_list c.args.self.now t)) (λ t. tx_list c.args.self.now t)
     (now v.tx ∙ c.leave-2.ensures.row ∙ ap (λ (ss : List ℕ). taken s ss) (was v.tx))
     (λ o n. now o ∙ c.leave-2.ensures.others o n ∙ was o)
+
+pub returns-clause-lists : goal.returns-clause-lists
+returns-clause-lists c = are_lists c.remove.new.self c.leave.new.heads c.leave-2.new.heads c.self.inside.spare (invariant_of-self c)

@@ -1,4 +1,4 @@
-use Rattle.std.proofs.Common.{Some, [], arith, length, slice_get, subst, suc, zero, ℕ, ◌<◌, ◌∷◌, ◌≡◌}
+use Rattle.std.proofs.Common.{Some, [], arith, slice_get, subst, suc, zero, ℕ, ◌<◌, ◌∷◌, ◌≡◌}
 use Rattle.str_base.specs.declared.names.Write.{Write}
 use Rattle.local_certify.proofs.certs.tests.cert.Goals as goal
 

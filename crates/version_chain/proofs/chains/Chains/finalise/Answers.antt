@@ -1,16 +1,20 @@
-use Rattle.std.proofs.Common.{ap, subst}
-use Rattle.version_chain.specs.ChainLists.{IsOrdered}
-use Rattle.version_chain.proofs.Keeping.{ordered_finalise}
-use Rattle.version_chain.proofs.Settling.{settled_all}
-use Rattle.str_base.specs.Versions.{of_pair}
+use Rattle.std.proofs.Common.{List, ap, arith, sym, ◌∙◌}
+use Rattle.str_base.specs.declared.names.Version.{Version}
+use Rattle.str_base.specs.Versions.{of_pair, without}
+use Rattle.version_chain.specs.Undecided.{undecided_of}
+use Rattle.version_chain.proofs.Deciding.{finalise_undecided}
 use Rattle.version_chain.proofs.chains.Chains.finalise.Goals as goal
 
 pub invariant_of-self : goal.invariant_of-self
 invariant_of-self c =
-    let e = settled_all (of_pair c.args.tx c.args.part) c.args.fc.0 c.self.inside.items.items c.gather-kept.new.versions.items c.settle.new.versions.items c.gather-kept.result c.gather-kept.ensures.kept c.gather-kept.ensures.items c.settle.ensures.items in
-    rw e (ordered_finalise (of_pair c.args.tx c.args.part) c.args.fc.0 c.self.inside.items.items c.self.invariant)
-
-pub returns-clause-order : goal.returns-clause-order
-returns-clause-order c =
-    let e = settled_all (of_pair c.args.tx c.args.part) c.args.fc.0 c.self.inside.items.items c.gather-kept.new.versions.items c.settle.new.versions.items c.gather-kept.result c.gather-kept.ensures.kept c.gather-kept.ensures.items c.settle.ensures.items in
-    (subst IsOrdered (ap (λ v. v.versions) c.self.view_is) c.self.invariant, rw e (ordered_finalise (of_pair c.args.tx c.args.part) c.args.fc.0 c.self.inside.items.items c.self.invariant))
+    let vs = c.self.inside.all.versions in
+    let test = of_pair c.args.tx c.args.part in
+    let i = c.self.invariant in
+    record {
+      order = c.finalise.ensures.order.1;
+      undecided =
+          c.remove.ensures.versions ∙ ap (λ (ws : List Version). without test ws) i.undecided ∙ finalise_undecided test c.args.fc.0 vs i.order
+          ∙ sym (ap (λ (ws : List Version). undecided_of ws) c.finalise.ensures.versions);
+      room = omega (arith, c.finalise.ensures.spare, i.room);
+      few_room = omega (arith, c.remove.ensures.spare, i.few_room);
+    }

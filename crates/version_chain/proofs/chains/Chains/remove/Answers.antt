@@ -1,20 +1,20 @@
-use Rattle.std.proofs.Common.{ap, subst, not, rules}
-use Rattle.std.proofs.lemmas.Fn.{filter_same}
-use Rattle.str_base.specs.Versions.{of_pair}
-use Rattle.version_chain.specs.ChainLists.{IsOrdered}
-use Rattle.version_chain.proofs.Keeping.{ordered_filter}
+use Rattle.std.proofs.Common.{List, ap, arith, sym, ◌∙◌}
+use Rattle.str_base.specs.declared.names.Version.{Version}
+use Rattle.str_base.specs.Versions.{of_pair, without}
+use Rattle.version_chain.specs.Undecided.{undecided_of}
+use Rattle.version_chain.proofs.Deciding.{without_undecided}
 use Rattle.version_chain.proofs.chains.Chains.remove.Goals as goal
 
 pub invariant_of-self : goal.invariant_of-self
 invariant_of-self c =
-    let e = filter_same _ (λ v. not (of_pair c.args.tx c.args.part v)) _ (λ x b f k. search rules) _ _ c.retain.ensures.filtered in
-    rw e (ordered_filter (λ v. not (of_pair c.args.tx c.args.part v)) _ c.self.invariant)
-
-pub returns-clause-versions : goal.returns-clause-versions
-returns-clause-versions c =
-    rw (← c.self.view_is) (filter_same _ _ _ (λ x b f k. search rules) _ _ c.retain.ensures.filtered)
-
-pub returns-clause-order : goal.returns-clause-order
-returns-clause-order c =
-    let e = filter_same _ (λ v. not (of_pair c.args.tx c.args.part v)) _ (λ x b f k. search rules) _ _ c.retain.ensures.filtered in
-    (subst IsOrdered (ap (λ v. v.versions) c.self.view_is) c.self.invariant, rw e (ordered_filter (λ v. not (of_pair c.args.tx c.args.part v)) _ c.self.invariant))
+    let vs = c.self.inside.all.versions in
+    let test = of_pair c.args.tx c.args.part in
+    let i = c.self.invariant in
+    record {
+      order = c.remove.ensures.order.1;
+      undecided =
+          c.remove-2.ensures.versions ∙ ap (λ (ws : List Version). without test ws) i.undecided ∙ without_undecided test vs
+          ∙ sym (ap (λ (ws : List Version). undecided_of ws) c.remove.ensures.versions);
+      room = omega (arith, c.remove.ensures.spare, i.room);
+      few_room = omega (arith, c.remove-2.ensures.spare, i.few_room);
+    }

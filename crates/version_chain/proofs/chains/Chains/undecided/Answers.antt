@@ -1,12 +1,12 @@
-use Rattle.std.proofs.Common.{None, ap, filter, nat_le, ◌&&◌, ◌∙◌}
-use Rattle.std.specs.List.{last_or}
-use Rattle.str_base.specs.Versions.{chain}
-use Rattle.version_chain.specs.ChainLists.{holds}
-use Rattle.version_chain.proofs.Ranges.{held_of_key}
+use Rattle.std.proofs.Common.{List, ap, ◌∙◌}
+use Rattle.str_base.specs.declared.names.Version.{Version}
+use Rattle.version_chain.specs.ChainLists.{last_held}
+use Rattle.version_chain.proofs.Deciding.{last_undecided_of}
 use Rattle.version_chain.proofs.chains.Chains.undecided.Goals as goal
 
-pub loop-version-init : goal.loop-version-init
-loop-version-init c =
-    let e = c.range_of-version-items.ensures ∙ ap (λ vs. chain c.args.key vs) (c.as_slice.ensures.value ∙ ap (λ v. v.versions) c.self.view_is) in
-    ap (λ vs. last_or None (filter (λ v. nat_le v.ts.0 c.args.rs.0 && holds c.args.with_local v.kind) vs)) e
-    ∙ held_of_key c.args.with_local c.args.self.now.versions c.args.key c.args.rs.0
+pub returns-clause-value : goal.returns-clause-value
+returns-clause-value c =
+    let b = c.args.with_local in
+    let k = c.args.key in
+    let r = c.args.rs.0 in
+    c.undecided.ensures.value ∙ ap (λ (vs : List Version). last_held b vs k r) c.self.invariant.undecided ∙ last_undecided_of b c.self.inside.all.versions k r ∙ ap (λ w. last_held b w.versions k r) c.self.view_is
