@@ -1,5 +1,6 @@
 -- The first dependency that decides, and the look of the model at the dependencies.
 use Rattle.std.proofs.Common.{Bool, List, None, Option, Some, [], ap, arith, cond, drop, false, filter, find, if◌then◌else◌, map, max, nat_lt, not, refl, slice_get, suc, sym, take, true, zero, ℕ, ◌++◌, ◌+◌, ◌∙◌, ◌∷◌, ◌≡◌}
+use Rattle.str_base.proofs.Lists.{found_passes}
 use Rattle.std.proofs.lemmas.List.Folds.{find_at}
 use Rattle.std.specs.List.{position_or_len}
 use Rattle.cascade_abort.specs.declared.fates.DepTurn.{DepTurn}
@@ -10,7 +11,7 @@ use Rattle.dependency_set.specs.declared.names.Dep.{Dep}
 use Rattle.dependency_set.specs.Snapshots.{Snap}
 use Rattle.str_base.specs.declared.names.Ts.{Ts}
 use Rattle.str_base.specs.Versions.{stamp}
-use Rattle.str_model.specs.Turns.{CommittedAt, Gone, Open, by_fate, dep_turn, greatest, keep_also, own_fate, resolve_all}
+use Rattle.str_model.specs.Turns.{CommittedAt, Gone, Open, by_fate, dep_turn, greatest, keep_also, resolve_all}
 use Rattle.str_model.specs.Turns
 use Rattle.str_model.specs.Views.{Own}
 
@@ -25,14 +26,6 @@ first_left (d ∷ ds) (suc n) = first_left ds n
 pub first_found : (p : Dep → Bool) (ds : List Dep) → slice_get (drop (position_or_len p ds) ds) 0 ≡ find p ds
 first_found p ds = first_left ds (position_or_len p ds) ∙ sym (find_at p ds)
 
-passes : (p : Dep → Bool) (ds : List Dep) (d : Dep) → find p ds ≡ Some d → p d ≡ true
-passes p [] d e = absurd (cc e)
-passes p (x ∷ xs) d e = by_test (p x) refl e (passes p xs d)
-  where
-    by_test : (b : Bool) → p x ≡ b → cond b (Some x) (find p xs) ≡ Some d → (find p xs ≡ Some d → p d ≡ true) → p d ≡ true
-    by_test true q f rec = let s : x ≡ d = cc f in ap p (sym s) ∙ q
-    by_test false q f rec = rec f
-
 -- ---- causes
 
 module _ (fates : List Fate) (rs : ℕ) (ds : List Dep) (r : DepTurn) where
@@ -46,7 +39,7 @@ module _ (fates : List Fate) (rs : ℕ) (ds : List Dep) (r : DepTurn) where
 
       by_found : (o : Option Dep) → find (decides_at fates rs) ds ≡ o → told fates o ≡ Keep → find (decides_at fates rs) ds ≡ None
       by_found None q k = q
-      by_found (Some d) q k = by_fate_of d (fate_of fates d.seq) refl (passes (decides_at fates rs) ds d q) k
+      by_found (Some d) q k = by_fate_of d (fate_of fates d.seq) refl (found_passes (decides_at fates rs) ds d q) k
 
   pub loses : r ≡ told fates (find (decides_at fates rs) ds) → (by : ℕ)
       → (r ≡ Lost by → (d : Dep) × (find (decides_at fates rs) ds ≡ Some d) × (d.seq ≡ by) × (fate_of fates d.seq ≡ Gone))

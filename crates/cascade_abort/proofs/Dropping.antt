@@ -1,6 +1,6 @@
 -- All versions of a transaction are out once those in each partition that it wrote in are.
-use Rattle.std.proofs.Common.{Bool, List, [], ap, arith, drop, eqb-true, false, if◌then◌else◌, length, not, refl, rules, subst, suc, sym, tests, true, zero, ℕ, ◌&&◌, ◌+◌, ◌<◌, ◌==◌, ◌||◌, ◌∙◌, ◌∷◌, ◌≡◌, ◌≤◌}
-use Rattle.std.proofs.lemmas.List.{drop_more}
+use Rattle.std.proofs.Common.{Bool, List, [], ap, drop, eqb-true, false, if◌then◌else◌, length, not, refl, rules, subst, sym, tests, true, ℕ, ◌&&◌, ◌+◌, ◌<◌, ◌==◌, ◌||◌, ◌∙◌, ◌∷◌, ◌≡◌, ◌≤◌}
+use Rattle.std.proofs.lemmas.List.{drop_more, drop_all}
 use Rattle.std.specs.Prelude.{slice_index_or}
 use Rattle.cache_partition.specs.CacheLists.{IsCached}
 use Rattle.cascade_abort.specs.Removal.{AllWritten}
@@ -89,13 +89,7 @@ narrowed_at map ws i d tx part vs us l p e h =
 pub shed_at : (tx : TxId) (part : PartId) (vs us start : List Version) → us ≡ without (of_pair tx part) vs → without (of_tx tx) vs ≡ without (of_tx tx) start → without (of_tx tx) us ≡ without (of_tx tx) start
 shed_at tx part vs us start e h = rw e (shed tx part vs ∙ h)
 
-past : (ws : List Write) (i : ℕ) → length ws ≤ i → drop i ws ≡ []
-past [] zero l = refl
-past [] (suc i) l = refl
-past (w ∷ ws) zero l = absurd (omega (arith, l))
-past (w ∷ ws) (suc i) l = past ws i (omega (arith, l))
-
 -- after the last write
 pub out_at : (map : PartitionMap) (ws : List Write) (i : ℕ) (tx : TxId) (vs start : List Version) → length ws ≤ i → AllWritten map (drop i ws) tx vs → without (of_tx tx) vs ≡ without (of_tx tx) start
     → vs ≡ without (of_tx tx) start
-out_at map ws i tx vs start l h e = sym (all_out map tx vs (subst (λ (xs : List Write). AllWritten map xs tx vs) (past ws i l) h)) ∙ e
+out_at map ws i tx vs start l h e = sym (all_out map tx vs (subst (λ (xs : List Write). AllWritten map xs tx vs) (drop_all i ws l) h)) ∙ e

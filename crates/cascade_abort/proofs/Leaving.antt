@@ -1,5 +1,6 @@
 -- Dependencies of which some of the first leave still rise by number, and are no more.
 use Rattle.std.proofs.Common.{Bool, List, [], arith, drop, filter, if◌then◌else◌, false, length, length-append, suc, take, true, zero, ℕ, ◌+◌, ◌++◌, ◌<◌, ◌∷◌, ◌≤◌}
+use Rattle.str_base.specs.declared.limits.TheConstants.{DEPENDENCIES}
 use Rattle.std.specs.List.{AllByRecursion}
 use Rattle.dependency_set.specs.declared.names.Dep.{Dep}
 use Rattle.dependency_set.specs.Snapshots.{IsRising, IsSet}
@@ -37,5 +38,5 @@ pub part_set : (p : Dep → Bool) (n : ℕ) (ds : List Dep) → IsSet ds → IsS
 part_set p n ds s = record { rising = rising_part p n ds s.rising; few = omega (arith, part_length p n ds, s.few) }
 
 -- both parts fit
-pub part_few : (p : Dep → Bool) (n : ℕ) (ds : List Dep) → IsSet ds → length (filter p (take n ds)) + length (drop n ds) ≤ 15
+pub part_few : (p : Dep → Bool) (n : ℕ) (ds : List Dep) → IsSet ds → length (filter p (take n ds)) + length (drop n ds) ≤ DEPENDENCIES
 part_few p n ds s = omega (arith, length-append (filter p (take n ds)) (drop n ds), part_length p n ds, s.few)

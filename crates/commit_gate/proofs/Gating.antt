@@ -1,5 +1,8 @@
 -- The gate of the model at each of its answers, and the dependencies told of in another order.
 use Rattle.std.proofs.Common.{Bool, List, None, Some, [], ap, cond, false, find, map, max, not, refl, slice_get, suc, sym, true, zero, ℕ, ◌&&◌, ◌||◌, ◌∙◌, ◌∷◌, ◌≡◌}
+use Rattle.std.specs.Prelude.{option_map}
+use Rattle.std.proofs.lemmas.Option.{slice_get-map}
+use Rattle.std.proofs.lemmas.Bool.{or_right}
 use Rattle.std.specs.List.{list_any}
 use Rattle.commit_gate.specs.Answers.{Tells, is_missing}
 use Rattle.dependency_set.specs.declared.names.Dep.{Dep}
@@ -44,24 +47,16 @@ commits snap lc parts wrote f e m = rw (f, no_first snap.deps e, m) refl
 
 -- ---- in another order
 
-map_at : {X Y : Type 0} (f : X → Y) (xs : List X) (i : ℕ) (x : X) → slice_get xs i ≡ Some x → slice_get (map f xs) i ≡ Some (f x)
-map_at f [] i x e = absurd cc
-map_at f (y ∷ xs) zero x e = let q : y ≡ x = cc e in rw q refl
-map_at f (y ∷ xs) (suc i) x e = map_at f xs i x e
-
-at_map : {X Y : Type 0} (f : X → Y) (xs : List X) (i : ℕ) (y : Y) → slice_get (map f xs) i ≡ Some y → (x : X) × (slice_get xs i ≡ Some x) × (f x ≡ y)
+-- what stands in a mapped list stands in the list
+pub at_map : {X Y : Type 0} (f : X → Y) (xs : List X) (i : ℕ) (y : Y) → slice_get (map f xs) i ≡ Some y → (x : X) × (slice_get xs i ≡ Some x) × (f x ≡ y)
 at_map f [] i y e = absurd cc
 at_map f (x ∷ xs) zero y e = (x, refl, cc e)
 at_map f (x ∷ xs) (suc i) y e = at_map f xs i y e
 
-or_true : (a b : Bool) → b ≡ true → (a || b) ≡ true
-or_true true b q = refl
-or_true false b q = q
-
 written_at : (p : PartId) (vs : List DepParts) (i : ℕ) (v : DepParts) → slice_get vs i ≡ Some v → list_any (same_part p) v.parts ≡ true → dependency_wrote vs p ≡ true
 written_at p [] i v g t = absurd cc
 written_at p (u ∷ us) zero v g t = let q : u ≡ v = cc g in rw (q, t) refl
-written_at p (u ∷ us) (suc i) v g t = or_true (list_any (same_part p) u.parts) (dependency_wrote us p) (written_at p us i v g t)
+written_at p (u ∷ us) (suc i) v g t = or_right (list_any (same_part p) u.parts) (dependency_wrote us p) (written_at p us i v g t)
 
 -- each of the first list has one in the second that wrote in the same partitions
 abbrev Meets : List DepParts → List DepParts → Type 0
@@ -90,7 +85,7 @@ found_same ws vs h [] = refl
 found_same ws vs h (a ∷ others) = rw (h a.part) (ap (λ r. cond (not a.asked && not (dependency_wrote vs a.part)) (Some a) r) (found_same ws vs h others))
 
 tells_meets : (here : Here) (own : List Own) (deps : List Dep) (wrote : List DepParts) → Tells here own deps wrote → Meets wrote (map (dep_parts here own) deps)
-tells_meets here own deps wrote t k w e = let r = t.each k w e in (r.0, dep_parts here own r.1, map_at (dep_parts here own) deps r.0 r.1 r.2, r.3.1)
+tells_meets here own deps wrote t k w e = let r = t.each k w e in (r.0, dep_parts here own r.1, slice_get-map (dep_parts here own) deps r.0 ∙ ap (option_map (dep_parts here own)) r.2, r.3.1)
 
 meets_tells : (here : Here) (own : List Own) (deps : List Dep) (wrote : List DepParts) → Tells here own deps wrote → Meets (map (dep_parts here own) deps) wrote
 meets_tells here own deps wrote t k v e =

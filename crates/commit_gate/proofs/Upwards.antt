@@ -1,5 +1,6 @@
 -- The participants of a transaction stand by rising partition, also where some are asked or have answered.
-use Rattle.std.proofs.Common.{Bool, List, Some, [], ap, arith, false, filter, flat_map, if◌then◌else◌, length, map, refl, slice_get, suc, sym, true, zero, ℕ, ◌+◌, ◌++◌, ◌∙◌, ◌∷◌, ◌≡◌, ◌≤◌}
+use Rattle.std.proofs.Common.{Bool, List, Some, [], ap, arith, false, filter, flat_map, if◌then◌else◌, length, map, slice_get, suc, sym, true, zero, ℕ, ◌+◌, ◌++◌, ◌∙◌, ◌∷◌, ◌≡◌, ◌≤◌}
+use Rattle.commit_gate.proofs.Gating.{at_map}
 use Rattle.std.specs.List.{range_with_len}
 use Rattle.commit_gate.specs.Answers.{IsUpwards}
 use Rattle.partition_map.specs.declared.rows.Asked.{Asked}
@@ -50,16 +51,11 @@ rises_rows row test (suc k) n = by_test (test (record { 0 = n })) (rises_lower n
 pub participants_upwards : (map_ : PartitionMap) (origin : NodeId) (ws : List Write) → IsUpwards (participants map_ origin ws)
 participants_upwards map_ origin ws = upwards 1 _ (rises_rows (λ p. others origin (row_at map_.rows p)) (is_written (part_of map_) ws) (length map_.rows) 1)
 
-at_mapped : (f : Asked → Asked) (xs : List Asked) (i : ℕ) (b : Asked) → slice_get (map f xs) i ≡ Some b → (a : Asked) × (slice_get xs i ≡ Some a) × (f a ≡ b)
-at_mapped f [] i b e = absurd (cc e)
-at_mapped f (x ∷ xs) zero b e = (x, refl, cc e)
-at_mapped f (x ∷ xs) (suc i) b e = at_mapped f xs i b e
-
 -- a change that keeps each partition keeps the order
 pub upwards_map : (f : Asked → Asked) → ((a : Asked) → (f a).part ≡ a.part) → (parts : List Asked) → IsUpwards parts → IsUpwards (map f parts)
 upwards_map f same parts up i j a b l e g =
-    let x = at_mapped f parts i a e in
-    let y = at_mapped f parts j b g in
+    let x = at_map f parts i a e in
+    let y = at_map f parts j b g in
     let k = up i j x.0 y.0 l x.1 y.1 in
     let p : a.part ≡ x.0.part = ap (λ (z : Asked). z.part) (sym x.2) ∙ same x.0 in
     let q : b.part ≡ y.0.part = ap (λ (z : Asked). z.part) (sym y.2) ∙ same y.0 in

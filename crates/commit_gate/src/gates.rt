@@ -5,7 +5,7 @@ ghost use Rattle.str_base.specs.declared.names.PartId.{PartId as Part};
 ghost use Rattle.str_base.specs.declared.names.Ts.{Ts as Time};
 ghost use Rattle.partition_map.specs.declared.rows.Asked.{Asked as Participant};
 ghost use Rattle.std.specs.List.{list_any};
-ghost use Rattle.std.specs.Prelude.{◌≡◌, ◌↔◌, ◌≤◌, [], IsTrue, ℕ, find, map, max, slice_get};
+ghost use Rattle.std.specs.Prelude.{◌≡◌, ◌↔◌, ◌≤◌, [], IfSome, IsTrue, ℕ, find, map, max, slice_get, true};
 ghost use Rattle.str_base.specs.Versions.{same_part};
 ghost use Rattle.str_model.specs.Gates.{ack_or_zero, gate_of, gate_turn, dependency_wrote, may_ask};
 ghost use Rattle.str_model.specs.Turns.{greatest};
@@ -115,12 +115,33 @@ pub fn gate(snap: &Snap, lc: Ts, parts: &Participants, wrote: &[DepParts]) -> Ga
 fn first_free(parts: &[Asked], wrote: &[DepParts]) -> Option<Asked>
     ensures { result ≡ find (may_ask wrote.now) parts.now }
 {
+    let mut written = None;
     for other in parts {
-        if !other.asked && !dependency_wrote(wrote, other.part) {
+        if may_ask(other, wrote, written) {
             return Some(*other);
+        }
+        if !other.asked {
+            written = Some(other.part);
         }
     }
     None
+}
+
+/// Whether the partition of a participant is not asked and was written by none of the dependencies. One of them wrote in the
+/// partition `written`, if it is given.
+fn may_ask(other: &Asked, wrote: &[DepParts], written: Option<PartId>) -> bool
+    requires { IfSome written (λ p. dependency_wrote wrote.now p ≡ true) }
+    ensures { result ≡ may_ask wrote.now other.now }
+{
+    if other.asked {
+        return false;
+    }
+    if let Some(part) = written {
+        if part == other.part {
+            return false;
+        }
+    }
+    !dependency_wrote(wrote, other.part)
 }
 
 /// Whether one of the dependencies wrote in the partition.

@@ -1,7 +1,6 @@
 -- Which messages were given, as events are added.
 use Rattle.std.proofs.Common.{Bool, List, [], false, refl, replicate, slice_set, suc, sym, true, zero, ℕ, ◌++◌, ◌+◌, ◌-◌, ◌<◌, ◌∙◌, ◌∷◌, ◌≡◌, ◌≤◌, ◌≢◌, ◌||◌, add-zero, ap, arith, eq-eqb, map, ne_eqb, subst, zero-add}
 use Rattle.std.specs.List.{list_any, range_with_len}
-use Rattle.std.proofs.lemmas.List.Folds.{list_any-append}
 use Rattle.lamport_log.specs.Merge.{given_by, gives}
 use Rattle.str_base.specs.declared.names.SessionId.{SessionId}
 use Rattle.str_scene.specs.declared.names.Event.{Event}

@@ -1,9 +1,8 @@
 -- Lists read at one place.
-use Rattle.std.proofs.Common.{List, None, Some, [], ap, length, refl, slice_get, slice_set, suc, zero, ℕ, ◌++◌, ◌+◌, ◌<◌, ◌∷◌, ◌≡◌, ◌≤◌, arith, suc-add, zero-add}
+use Rattle.std.proofs.Common.{List, Some, length, refl, slice_get, suc, zero, ℕ, ◌++◌, ◌+◌, ◌≡◌, ◌≤◌, arith}
 use Rattle.str_scene.specs.Scenes.{nth}
-use Rattle.std.proofs.lemmas.Option.{slice_get_past, slice_get_within}
-use Rattle.str_base.proofs.Lists.{get_append_left, get_append_right, same_by_places, slice_get_none, slice_get_there}
-use Rattle.std.proofs.lemmas.List.{length-set}
+use Rattle.std.proofs.lemmas.Option.{slice_get_within}
+use Rattle.str_base.proofs.Lists.{get_append_left, get_append_right}
 
 -- the same, counted from 1
 pub nth_within : {A : Type 0} (xs : List A) (k : ℕ) (x : A) → nth xs k ≡ Some x → (1 ≤ k) × (k ≤ length xs)

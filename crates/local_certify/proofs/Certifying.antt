@@ -1,5 +1,7 @@
 -- What a certification comes to, and why.
 use Rattle.std.proofs.Common.{Bool, Err, List, None, Ok, Option, Some, [], ap, arith, drop, false, find, if◌then◌else◌, length, max, refl, slice_get, suc, sym, true, zero, ℕ, ◌+◌, ◌-◌, ◌<◌, ◌∙◌, ◌∷◌, ◌≡◌, ◌≤◌, ◌↔◌}
+use Rattle.std.proofs.lemmas.Option.{slice_get-get_or}
+use Rattle.std.proofs.lemmas.List.{drop_more}
 use Rattle.std.specs.List.{last_or, slice_index_or}
 use Rattle.dependency_set.specs.declared.snaps.OwnSnap.{OwnSnap}
 use Rattle.dependency_set.specs.Snapshots.{Snap, holds, oldest}
@@ -42,24 +44,13 @@ last_below (v ∷ vs) acc a e = last_below vs (Some v) e.0 e.1
 pub newest_below : (k : KeyId) (vs : List Version) → Each (λ v. v.ts.0 < time_end) vs → newest vs k < time_end
 newest_below k vs e = last_below (chain k vs) None (omega arith) (each_kept (λ v. same_key v.key k) (λ v. v.ts.0 < time_end) vs e)
 
--- the rest from the place of a write
-drop_write : (ws : List Write) (i : ℕ) (d : Write) → i < length ws → drop i ws ≡ slice_index_or ws i d ∷ drop (i + 1) ws
-drop_write [] i d l = absurd (omega (arith, l))
-drop_write (w ∷ ws) zero d l = refl
-drop_write (w ∷ ws) (suc i) d l = let n : suc i + 1 ≡ suc (i + 1) = omega arith in rw n (drop_write ws i d (omega (arith, l)))
-
-get_write : (ws : List Write) (i : ℕ) (d : Write) → i < length ws → slice_get ws i ≡ Some (slice_index_or ws i d)
-get_write [] i d l = absurd (omega (arith, l))
-get_write (w ∷ ws) zero d l = refl
-get_write (w ∷ ws) (suc i) d l = get_write ws i d (omega (arith, l))
-
 -- the next that is passed is below what all are below
 pub next_below : (marks : List ℕ) (ws : List Write) (i : ℕ) (d : Write) (last mark new next : ℕ) → ((j : ℕ) (w : Write) → slice_get ws j ≡ Some w → w.key.0 < length marks)
     → ((k : KeyId) → k.0 < length marks → mark_of marks k < time_end) → i < length ws → mark ≡ mark_of marks (slice_index_or ws i d).key → last < time_end → new < time_end
     → next ≡ max last (max mark new) → next < time_end
 next_below marks ws i d last mark new next h k l m a b e =
     let w = slice_index_or ws i d in
-    let c : mark < time_end = rw m (k w.key (h i w (get_write ws i d l))) in
+    let c : mark < time_end = rw m (k w.key (h i w (slice_get-get_or ws i d l))) in
     rw e (omega (arith, a, b, c))
 
 passes_more : (last mark new rest : ℕ) → max (max last (max mark new)) rest ≡ max last (max (max mark new) rest)
@@ -78,7 +69,7 @@ pass_next marks map node store cache ws i d last mark new next total part b l h 
     ∙ passes_more last mark new (passed_by marks (held map node store cache) (drop (i + 1) ws))
     ∙ ap (λ x. max last (max (max x new) (passed_by marks (held map node store cache) (drop (i + 1) ws)))) m
     ∙ ap (λ x. max last (max (max (mark_of marks w.key) x) (passed_by marks (held map node store cache) (drop (i + 1) ws)))) new_at
-    ∙ sym (ap (λ us. max last (passed_by marks (held map node store cache) us)) (drop_write ws i d l))
+    ∙ sym (ap (λ us. max last (passed_by marks (held map node store cache) us)) (drop_more ws i d l))
     ∙ h
 
 -- what is passed is not below the mark and the newest of a written key

@@ -1,5 +1,5 @@
 -- The judgement of versions, one after the other.
-use Rattle.std.proofs.Common.{Bool, Err, List, None, Ok, Option, Result, Some, [], arith, drop, false, if◌then◌else◌, length, ltb-false, nat_lt, refl, slice_get, suc, sym, true, zero, ℕ, ◌+◌, ◌-◌, ◌<◌, ◌∙◌, ◌∷◌, ◌≡◌, ◌||◌}
+use Rattle.std.proofs.Common.{Bool, Err, List, None, Ok, Option, Result, Some, [], ap, arith, false, if◌then◌else◌, le-ltb, length, ltb-false, nat_lt, refl, subst, sym, true, ℕ, ◌++◌, ◌∙◌, ◌∷◌, ◌≡◌, ◌≤◌, ◌||◌}
 use Rattle.dependency_set.specs.declared.snaps.OwnSnap.{OwnSnap}
 use Rattle.dependency_set.specs.Snapshots.{Snap}
 use Rattle.local_certify.specs.Judging.{after, join_one, judged, judged_all}
@@ -14,65 +14,60 @@ use Rattle.str_base.specs.Versions.{chain, is_local, is_pre, same_key}
 use Rattle.str_model.specs.Turns.{conflicts}
 use Rattle.version_chain.proofs.Each.{each_kept}
 use Rattle.version_chain.specs.ChainLists.{Each}
-
--- ---- places
-
--- the rest from the place of an item
-drop_at : (xs : List Version) (i : ℕ) (v : Version) → slice_get xs i ≡ Some v → drop i xs ≡ v ∷ drop (i + 1) xs
-drop_at [] i v e = absurd (cc e)
-drop_at (x ∷ xs) zero v e = let same : x ≡ v = cc e in rw same refl
-drop_at (x ∷ xs) (suc i) v e = let n : suc i + 1 ≡ suc (i + 1) = omega arith in rw n (drop_at xs i v e)
-
--- nothing is left past the end
-drop_end : (xs : List Version) (i : ℕ) → slice_get xs i ≡ None → drop i xs ≡ []
-drop_end [] zero e = refl
-drop_end [] (suc i) e = refl
-drop_end (x ∷ xs) zero e = absurd (cc e)
-drop_end (x ∷ xs) (suc i) e = drop_end xs i e
-
--- an item is within
-pub within : (xs : List Version) (i : ℕ) (v : Version) → slice_get xs i ≡ Some v → i < length xs
-within [] i v e = absurd (cc e)
-within (x ∷ xs) zero v e = omega arith
-within (x ∷ xs) (suc i) v e = omega (arith, within xs i v e)
-
--- the measure falls
-pub falls : (n i : ℕ) → i < n → n - (i + 1) < n - i
-falls n i l = omega (arith, l)
-
--- what holds of each holds of an item
-pub each_get : (P : Version → Type 0) (xs : List Version) (i : ℕ) (v : Version) → Each P xs → slice_get xs i ≡ Some v → P v
-each_get P [] i v h e = absurd (cc e)
-each_get P (x ∷ xs) zero v h e = let same : x ≡ v = cc e in rw (← same) h.0
-each_get P (x ∷ xs) (suc i) v h e = each_get P xs i v h.1 e
+use Rattle.version_chain.specs.Walks.{IsSettled}
 
 -- ---- versions of a key
-
--- the next one is a conflict
-pub next_conflicts : (own : List OwnSnap) (rs : ℕ) (xs : List Version) (i : ℕ) (v : Version) (cur start : Snap) → judged own rs (drop i xs) cur ≡ judged own rs xs start
-    → Some v ≡ slice_get xs i → conflicts rs v ≡ true → Err v ≡ judged own rs xs start
-next_conflicts own rs xs i v cur start h e c = rw c at rw (drop_at xs i v (sym e)) at h
-
--- the next one is none
-pub next_joins : (own : List OwnSnap) (rs : ℕ) (xs : List Version) (i : ℕ) (v : Version) (cur start next : Snap) → judged own rs (drop i xs) cur ≡ judged own rs xs start
-    → Some v ≡ slice_get xs i → conflicts rs v ≡ false → next ≡ join_one own v v.kind cur → judged own rs (drop (i + 1) xs) next ≡ judged own rs xs start
-next_joins own rs xs i v cur start next h e c j = rw j (rw c at rw (drop_at xs i v (sym e)) at h)
-
--- there is no next one
-pub none_left : (own : List OwnSnap) (rs : ℕ) (xs : List Version) (i : ℕ) (cur start : Snap) → judged own rs (drop i xs) cur ≡ judged own rs xs start
-    → None ≡ slice_get xs i → Ok cur ≡ judged own rs xs start
-none_left own rs xs i cur start h e = rw (drop_end xs i (sym e)) at h
 
 second_false : (p q : Bool) → (p || q) ≡ false → q ≡ false
 second_false true q e = absurd (cc e)
 second_false false q e = e
 
--- of a Local version that is no conflict all is told
-pub told_of : (own : List OwnSnap) (rs : ℕ) (b : Bool) (store cache : List Version) (k : KeyId) (i : ℕ) (v : Version) → AreTold own rs store cache
-    → Some v ≡ slice_get (chain k (of_key b store cache)) i → conflicts rs v ≡ false → is_local v.kind ≡ true → OthersNamed own v.tx.seq
-told_of own rs b store cache k i v a e c l =
-    let t = each_get (IsTold own rs) (chain k (of_key b store cache)) i v (each_kept (λ w. same_key w.key k) (IsTold own rs) (of_key b store cache) (each_of (IsTold own rs) b store cache a.0 a.1)) (sym e) in
-    t.others l (ltb-false rs v.ts.0 (second_false (is_pre v.kind) (nat_lt rs v.ts.0) c))
+-- a settled version is no conflict, and brings nothing
+settled_one : (own : List OwnSnap) (rs : ℕ) (v : Version) (snap : Snap) → IsSettled rs v → (conflicts rs v ≡ false) × (join_one own v v.kind snap ≡ snap)
+settled_one own rs v snap s =
+    (ap (λ k. is_pre k || nat_lt rs v.ts.0) s.0 ∙ le-ltb rs v.ts.0 s.1, ap (λ k. join_one own v k snap) s.0)
+
+-- settled versions change nothing
+pub judged_unsettled : (own : List OwnSnap) (rs : ℕ) (us vs : List Version) (snap : Snap) → Each (IsSettled rs) us → judged own rs (us ++ vs) snap ≡ judged own rs vs snap
+judged_unsettled own rs [] vs snap e = refl
+judged_unsettled own rs (u ∷ us) vs snap e =
+    let one = settled_one own rs u snap e.0 in
+    ap (λ b. if b then Err u else judged own rs (us ++ vs) (join_one own u u.kind snap)) one.0 ∙ ap (λ (s : Snap). judged own rs (us ++ vs) s) one.1 ∙ judged_unsettled own rs us vs snap e.1
+
+-- what holds of each version of a key holds of those that are left
+pub each_left : (P : Version → Type 0) (us vs : List Version) → Each P (us ++ vs) → Each P vs
+each_left P [] vs e = e
+each_left P (u ∷ us) vs e = each_left P us vs e.1
+
+-- all is told of the versions of a key
+pub all_told : (own : List OwnSnap) (rs : ℕ) (b : Bool) (store cache : List Version) (k : KeyId) → AreTold own rs store cache → Each (IsTold own rs) (chain k (of_key b store cache))
+all_told own rs b store cache k a = each_kept (λ w. same_key w.key k) (IsTold own rs) (of_key b store cache) (each_of (IsTold own rs) b store cache a.0 a.1)
+
+-- the next one is a conflict
+pub next_conflicts : (own : List OwnSnap) (rs : ℕ) (v : Version) (xs ys : List Version) (cur : Snap) (r : Result Snap Version) → judged own rs xs cur ≡ r
+    → xs ≡ v ∷ ys → conflicts rs v ≡ true → Err v ≡ r
+next_conflicts own rs v xs ys cur r h e c = sym (ap (λ b. if b then Err v else judged own rs ys (join_one own v v.kind cur)) c) ∙ sym (ap (λ zs. judged own rs zs cur) e) ∙ h
+
+-- the next one is none
+pub next_joins : (own : List OwnSnap) (rs : ℕ) (v : Version) (xs ys : List Version) (cur next : Snap) (r : Result Snap Version) → judged own rs xs cur ≡ r
+    → xs ≡ v ∷ ys → conflicts rs v ≡ false → next ≡ join_one own v v.kind cur → judged own rs ys next ≡ r
+next_joins own rs v xs ys cur next r h e c j =
+    ap (λ (s : Snap). judged own rs ys s) j ∙ sym (ap (λ b. if b then Err v else judged own rs ys (join_one own v v.kind cur)) c) ∙ sym (ap (λ zs. judged own rs zs cur) e) ∙ h
+
+-- there is no next one
+pub none_left : (own : List OwnSnap) (rs : ℕ) (xs : List Version) (cur : Snap) (r : Result Snap Version) → judged own rs xs cur ≡ r → xs ≡ [] → Ok cur ≡ r
+none_left own rs xs cur r h e = sym (ap (λ zs. judged own rs zs cur) e) ∙ h
+
+-- of the next one, where it is Local and no conflict, all is told
+pub told_of : (own : List OwnSnap) (rs : ℕ) (v : Version) (xs ys : List Version) → Each (IsTold own rs) xs → xs ≡ v ∷ ys → conflicts rs v ≡ false → is_local v.kind ≡ true
+    → OthersNamed own v.tx.seq
+told_of own rs v xs ys a e c l =
+    let t = subst (λ zs. Each (IsTold own rs) zs) e a in
+    t.0.others l (ltb-false rs v.ts.0 (second_false (is_pre v.kind) (nat_lt rs v.ts.0) c))
+
+-- and of those after it
+pub told_later : (own : List OwnSnap) (rs : ℕ) (v : Version) (xs ys : List Version) → Each (IsTold own rs) xs → xs ≡ v ∷ ys → Each (IsTold own rs) ys
+told_later own rs v xs ys a e = let t = subst (λ zs. Each (IsTold own rs) zs) e a in t.1
 
 -- ---- the timestamp of the snapshot stays
 

@@ -1,5 +1,7 @@
 -- A view that shows the store judges what arrived as the store alone does.
 use Rattle.std.proofs.Common.{Bool, List, None, Option, Some, [], ap, false, find, if◌then◌else◌, map, max, not, refl, sym, true, ℕ, ◌&&◌, ◌++◌, ◌+◌, ◌∙◌, ◌∷◌, ◌≡◌, ◌||◌}
+use Rattle.str_base.proofs.Tests.{or_false_left, or_false_right}
+use Rattle.std.proofs.lemmas.Bool.{and_right}
 use Rattle.std.specs.List.{last_or, list_any}
 use Rattle.partition_map.specs.Maps.{PartitionMap, first_or, leads, replicas}
 use Rattle.prepare_master.specs.MasterTurns.{IsAt, IsBeside, ShowsReplica, by_reasons, is_fresh, judged, proposal, to_pass}
@@ -27,28 +29,16 @@ use Rattle.version_chain.specs.ChainLists.{Each, merged}
 abbrev pub IsUnwritten : List Write → Version → Type 0
 IsUnwritten ws v = list_any (λ w. same_key v.key w.key) ws ≡ false
 
-or_left : (a b : Bool) → (a || b) ≡ false → a ≡ false
-or_left true b e = absurd cc
-or_left false b e = refl
-
-or_right : (a b : Bool) → (a || b) ≡ false → b ≡ false
-or_right true b e = absurd cc
-or_right false b e = e
-
-and_second : (a b : Bool) → b ≡ false → (a && b) ≡ false
-and_second true b e = e
-and_second false b e = refl
-
 -- the versions of a key
 pub chain_alone : (k : KeyId) (cache vs : List Version) → Each (λ v. same_key v.key k ≡ false) cache → chain k (merged cache vs) ≡ chain k vs
 chain_alone k cache vs e = merged_unseen (λ v. same_key v.key k) cache vs e
 
 module _ (w : Write) (ws : List Write) (cache : List Version) (e : Each (IsUnwritten (w ∷ ws)) cache) where
   pub first_key : Each (λ v. same_key v.key w.key ≡ false) cache
-  first_key = each_so (IsUnwritten (w ∷ ws)) (λ v. same_key v.key w.key ≡ false) cache (λ v h. or_left (same_key v.key w.key) (list_any (λ u. same_key v.key u.key) ws) h) e
+  first_key = each_so (IsUnwritten (w ∷ ws)) (λ v. same_key v.key w.key ≡ false) cache (λ v h. or_false_left (same_key v.key w.key) (list_any (λ u. same_key v.key u.key) ws) h) e
 
   pub other_keys : Each (IsUnwritten ws) cache
-  other_keys = each_so (IsUnwritten (w ∷ ws)) (IsUnwritten ws) cache (λ v h. or_right (same_key v.key w.key) (list_any (λ u. same_key v.key u.key) ws) h) e
+  other_keys = each_so (IsUnwritten (w ∷ ws)) (IsUnwritten ws) cache (λ v h. or_false_right (same_key v.key w.key) (list_any (λ u. same_key v.key u.key) ws) h) e
 
 -- the versions of the written keys
 pub met_alone : (ws : List Write) (cache vs : List Version) → Each (IsUnwritten ws) cache → met ws (merged cache vs) ≡ met ws vs
@@ -115,7 +105,7 @@ module _ (view : View) (a : Arrived) (vs : List Version) (marks : List ℕ) (s :
   pub shown_pair : list_any (of_pair a.tx a.part) view.versions ≡ list_any (of_pair a.tx a.part) vs
   shown_pair =
       ap (λ us. list_any (of_pair a.tx a.part) us) s.versions
-      ∙ any_alone (of_pair a.tx a.part) s.cache vs (each_so (IsBeside a) (λ v. of_pair a.tx a.part v ≡ false) s.cache (λ v h. and_second (same_tx v.tx a.tx) (same_part v.part a.part) h.0) s.beside)
+      ∙ any_alone (of_pair a.tx a.part) s.cache vs (each_so (IsBeside a) (λ v. of_pair a.tx a.part v ≡ false) s.cache (λ v h. and_right (same_tx v.tx a.tx) (same_part v.part a.part) h.0) s.beside)
 
 -- the first of a row leads it
 pub leads_first : (row : List NodeId) (m node : NodeId) → ((n : NodeId) → m ≡ first_or n row) → leads node row ≡ same_node m node
@@ -132,15 +122,6 @@ pub led : (map : PartitionMap) (node : NodeId) (vs : List Version) (done : List 
     → ((n : NodeId) → m ≡ first_or n (replicas map a.part)) → same_node m node ≡ true → same_node a.tx.node node ≡ false
     → list_any (is_pair a.tx a.part) done ≡ false → list_any (of_pair a.tx a.part) vs ≡ false → p ≡ list_any (holds_pair a.tx a.part) ws → is_fresh map node vs done ws a ≡ not p
 led map node vs done ws a m p f e n d v w = rw (leads_first (replicas map a.part) m node f, e, n, d, v, w) refl
-
--- a test that is turned round
-pub not_true : (b : Bool) → not b ≡ true → b ≡ false
-not_true true e = absurd cc
-not_true false e = refl
-
-pub not_false : (b : Bool) → not b ≡ false → b ≡ true
-not_false true e = refl
-not_false false e = absurd cc
 
 module _ (here : Here) (node : NodeId) (map : PartitionMap) (view : View) (a : Arrived) (vs : List Version) (marks : List ℕ) (done : List (TxId × PartId)) (ws : List Waiter)
     (at : IsAt here node map) (s : ShowsReplica view a vs marks) (d : view.done ≡ done) (w : view.waiters ≡ ws) where

@@ -1,32 +1,16 @@
--- Lists that are walked from place to place, and tests that run over them.
-use Rattle.std.proofs.Common.{Bool, List, None, Option, Some, [], arith, drop, false, find, get_or, if◌then◌else◌, length, ap, refl, slice_get, suc, sym, true, zero, ℕ, ◌++◌, ◌+◌, ◌<◌, ◌∙◌, ◌∷◌, ◌≡◌}
+-- Walks over lists of versions, and tests that run over them.
+use Rattle.std.proofs.Common.{Bool, List, None, Option, Some, [], ap, drop, false, find, get_or, if◌then◌else◌, le-ltb, length, nat_lt, not, refl, sym, true, ℕ, ◌&&◌, ◌++◌, ◌+◌, ◌<◌, ◌||◌, ◌∙◌, ◌∷◌, ◌≡◌}
+use Rattle.prepare_master.specs.declared.masters.Reason.{Reason}
+use Rattle.prepare_master.specs.declared.masters.Reason.TheVariants.{ToPark, ToRefuse}
+use Rattle.prepare_master.specs.MasterTurns.{gives}
 use Rattle.str_base.specs.declared.names.Version.{Version}
 use Rattle.str_base.specs.declared.names.Write.{Write}
-use Rattle.str_base.specs.Versions.{chain}
+use Rattle.str_base.specs.Versions.{chain, is_undecided, same_node}
+use Rattle.str_model.specs.declared.messages.Arrived.{Arrived}
 use Rattle.str_model.specs.Turns.{met}
 use Rattle.version_chain.proofs.Lists.{at_place}
-
--- past the end nothing is left
-pub nothing_left : {A : Type 0} (xs : List A) (i : ℕ) → slice_get xs i ≡ None → drop i xs ≡ []
-nothing_left [] zero e = refl
-nothing_left [] (suc i) e = refl
-nothing_left (x ∷ xs) zero e = absurd cc
-nothing_left (x ∷ xs) (suc i) e = nothing_left xs i e
-
--- a place and what follows it
-pub one_left : {A : Type 0} (xs : List A) (i j : ℕ) (x : A) → slice_get xs i ≡ Some x → j ≡ i + 1 → drop i xs ≡ x ∷ drop j xs
-one_left [] i j x e q = absurd cc
-one_left (y ∷ xs) zero zero x e q = absurd (omega arith)
-one_left (y ∷ xs) zero (suc zero) x e q = let h : y ≡ x = cc e in rw h refl
-one_left (y ∷ xs) zero (suc (suc j)) x e q = absurd (omega arith)
-one_left (y ∷ xs) (suc i) zero x e q = absurd (omega arith)
-one_left (y ∷ xs) (suc i) (suc j) x e q = one_left xs i j x e (omega arith)
-
--- a place that is there is within
-pub place_within : {A : Type 0} (xs : List A) (i : ℕ) (x : A) → slice_get xs i ≡ Some x → i < length xs
-place_within [] i x e = absurd cc
-place_within (y ∷ xs) zero x e = omega arith
-place_within (y ∷ xs) (suc i) x e = let h = place_within xs i x e in omega arith
+use Rattle.version_chain.specs.ChainLists.{Each}
+use Rattle.version_chain.specs.Walks.{IsSettled}
 
 -- the first that passes stands in the first list
 pub found_first : {A : Type 0} (p : A → Bool) (xs ys : List A) (v : A) → find p xs ≡ Some v → find p (xs ++ ys) ≡ Some v
@@ -46,17 +30,35 @@ found_later p (x ∷ xs) ys e = by_test (p x) e (found_later p xs ys)
     by_test true q rec = absurd cc
     by_test false q rec = rec q
 
--- the member at this place is the first that passes
-pub found_here : {A : Type 0} (p : A → Bool) (xs : List A) (i : ℕ) (x : A) → slice_get xs i ≡ Some x → p x ≡ true → find p (drop i xs) ≡ find p xs → Some x ≡ find p xs
-found_here p xs i x e t q = let h : find p (x ∷ drop (i + 1) xs) ≡ Some x = rw t refl in sym h ∙ ap (λ ys. find p ys) (sym (one_left xs i (i + 1) x e refl)) ∙ q
+-- the next one is the first that passes
+pub found_next : {A : Type 0} (p : A → Bool) (x : A) (xs ys : List A) (r : Option A) → find p xs ≡ r → xs ≡ x ∷ ys → p x ≡ true → Some x ≡ r
+found_next p x xs ys r h e t = sym (ap (λ b. if b then Some x else find p ys) t) ∙ sym (ap (λ zs. find p zs) e) ∙ h
 
--- the member at this place does not pass
-pub passed_by : {A : Type 0} (p : A → Bool) (xs : List A) (i : ℕ) (x : A) → slice_get xs i ≡ Some x → p x ≡ false → find p (drop i xs) ≡ find p xs → find p (drop (i + 1) xs) ≡ find p xs
-passed_by p xs i x e t q = let h : find p (x ∷ drop (i + 1) xs) ≡ find p (drop (i + 1) xs) = rw t refl in sym h ∙ ap (λ ys. find p ys) (sym (one_left xs i (i + 1) x e refl)) ∙ q
+-- the next one does not pass
+pub found_after : {A : Type 0} (p : A → Bool) (x : A) (xs ys : List A) (r : Option A) → find p xs ≡ r → xs ≡ x ∷ ys → p x ≡ false → find p ys ≡ r
+found_after p x xs ys r h e t = sym (ap (λ b. if b then Some x else find p ys) t) ∙ sym (ap (λ zs. find p zs) e) ∙ h
 
--- none passes
-pub none_passes : {A : Type 0} (p : A → Bool) (xs : List A) (i : ℕ) → slice_get xs i ≡ None → find p (drop i xs) ≡ find p xs → None ≡ find p xs
-none_passes p xs i e q = ap (λ ys. find p ys) (sym (nothing_left xs i e)) ∙ q
+-- there is no next one
+pub found_none : {A : Type 0} (p : A → Bool) (xs : List A) (r : Option A) → find p xs ≡ r → xs ≡ [] → None ≡ r
+found_none p xs r h e = sym (ap (λ zs. find p zs) e) ∙ h
+
+-- ---- settled versions
+
+-- none of them passes
+pub none_settled : (p : Version → Bool) (rs : ℕ) (vs : List Version) → ((v : Version) → IsSettled rs v → p v ≡ false) → Each (IsSettled rs) vs → find p vs ≡ None
+none_settled p rs [] f e = refl
+none_settled p rs (v ∷ vs) f e = ap (λ b. if b then Some v else find p vs) (f v e.0) ∙ none_settled p rs vs f e.1
+
+-- a settled version is no reason
+no_reason : (r : Reason) (a : Arrived) (v : Version) → IsSettled a.rs.0 v → gives r a v ≡ false
+no_reason ToRefuse a v s =
+    ap (λ k. (is_undecided k && not (same_node v.tx.node a.tx.node)) || (not (is_undecided k) && nat_lt a.rs.0 v.ts.0)) s.0 ∙ le-ltb a.rs.0 v.ts.0 s.1
+no_reason ToPark a v s = ap (λ k. is_undecided k && same_node v.tx.node a.tx.node) s.0
+
+-- so the reasons are found among the others
+pub reasons_unsettled : (r : Reason) (a : Arrived) (vs us ws : List Version) → vs ≡ us ++ ws → Each (IsSettled a.rs.0) us → find (gives r a) ws ≡ find (gives r a) vs
+reasons_unsettled r a vs us ws e s =
+    sym (found_later (gives r a) us ws (none_settled (gives r a) a.rs.0 us (no_reason r a) s)) ∙ sym (ap (λ xs. find (gives r a) xs) e)
 
 -- ---- the versions of written keys
 

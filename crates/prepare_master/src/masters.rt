@@ -52,12 +52,11 @@ fn is_reason(reason: Reason, a: &Arrived, version: &Version) -> bool
 fn reason_at(reason: Reason, a: &Arrived, store: &ReplicaStore, key: KeyId) -> Option<Version>
     ensures { result ≡ find (gives reason a.now) (chain key store.now.versions) }
 {
-    let mut i = 0;
-    while let Some(version) = store.at(key, i) {
+    let mut walk = store.walk_from_unsettled(key, a.rs);
+    while let Some(version) = walk.newer() {
         if is_reason(reason, a, &version) {
             return Some(version);
         }
-        i += 1;
     }
     None
 }

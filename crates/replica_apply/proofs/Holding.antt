@@ -1,32 +1,31 @@
 -- Whether one of the versions passes a test, and which written key a transaction holds.
-use Rattle.std.proofs.Common.{Bool, List, None, Option, Some, [], ap, drop, false, get_or, if◌then◌else◌, is_some, length, refl, slice_get, sym, true, ℕ, ◌&&◌, ◌++◌, ◌+◌, ◌<◌, ◌∙◌, ◌∷◌, ◌≡◌, ◌||◌}
+use Rattle.std.proofs.Common.{Bool, List, None, Option, Some, [], ap, drop, false, get_or, if◌then◌else◌, is_some, length, refl, sym, true, ℕ, ◌&&◌, ◌++◌, ◌+◌, ◌<◌, ◌∙◌, ◌∷◌, ◌≡◌, ◌||◌}
 use Rattle.std.specs.List.{list_any}
-use Rattle.prepare_master.proofs.Walking.{nothing_left, one_left}
 use Rattle.replica_apply.specs.Slaves.{is_local_of}
 use Rattle.str_base.specs.declared.names.KeyId.{KeyId}
 use Rattle.str_base.specs.declared.names.TxId.{TxId}
 use Rattle.str_base.specs.declared.names.Version.{Version}
 use Rattle.str_base.specs.declared.names.Write.{Write}
-use Rattle.str_base.specs.Versions.{chain, same_key}
+use Rattle.str_base.specs.Versions.{chain, is_local, of_tx, same_key}
 use Rattle.str_model.specs.Arrivals.{held_key}
 use Rattle.str_model.specs.Turns.{met}
 use Rattle.version_chain.proofs.Lists.{at_place}
+use Rattle.version_chain.specs.ChainLists.{Each}
+use Rattle.version_chain.specs.Walks.{IsSettled}
 
 -- ---- one of a list
 
--- the one at this place passes
-pub any_here : {A : Type 0} (p : A → Bool) (xs : List A) (i : ℕ) (x : A) → slice_get xs i ≡ Some x → p x ≡ true → list_any p (drop i xs) ≡ list_any p xs → true ≡ list_any p xs
-any_here p xs i x e t q = let h : list_any p (x ∷ drop (i + 1) xs) ≡ true = rw t refl in sym h ∙ ap (λ ys. list_any p ys) (sym (one_left xs i (i + 1) x e refl)) ∙ q
+-- the next one passes
+pub any_next : {A : Type 0} (p : A → Bool) (x : A) (xs ys : List A) (r : Bool) → list_any p xs ≡ r → xs ≡ x ∷ ys → p x ≡ true → true ≡ r
+any_next p x xs ys r h e t = sym (ap (λ b. b || list_any p ys) t) ∙ sym (ap (λ zs. list_any p zs) e) ∙ h
 
--- the one at this place does not pass
-pub any_passed : {A : Type 0} (p : A → Bool) (xs : List A) (i : ℕ) (x : A) → slice_get xs i ≡ Some x → p x ≡ false → list_any p (drop i xs) ≡ list_any p xs
-    → list_any p (drop (i + 1) xs) ≡ list_any p xs
-any_passed p xs i x e t q =
-    let h : list_any p (x ∷ drop (i + 1) xs) ≡ list_any p (drop (i + 1) xs) = rw t refl in sym h ∙ ap (λ ys. list_any p ys) (sym (one_left xs i (i + 1) x e refl)) ∙ q
+-- the next one does not pass
+pub any_after : {A : Type 0} (p : A → Bool) (x : A) (xs ys : List A) (r : Bool) → list_any p xs ≡ r → xs ≡ x ∷ ys → p x ≡ false → list_any p ys ≡ r
+any_after p x xs ys r h e t = sym (ap (λ b. b || list_any p ys) t) ∙ sym (ap (λ zs. list_any p zs) e) ∙ h
 
--- none passes
-pub any_none : {A : Type 0} (p : A → Bool) (xs : List A) (i : ℕ) → slice_get xs i ≡ None → list_any p (drop i xs) ≡ list_any p xs → false ≡ list_any p xs
-any_none p xs i e q = ap (λ ys. list_any p ys) (sym (nothing_left xs i e)) ∙ q
+-- there is no next one
+pub any_end : {A : Type 0} (p : A → Bool) (xs : List A) (r : Bool) → list_any p xs ≡ r → xs ≡ [] → false ≡ r
+any_end p xs r h e = sym (ap (λ zs. list_any p zs) e) ∙ h
 
 -- one of two lists
 pub any_append : {A : Type 0} (p : A → Bool) (xs ys : List A) → list_any p (xs ++ ys) ≡ (list_any p xs || list_any p ys)
@@ -58,6 +57,23 @@ none_of_key p k (v ∷ vs) e = by_test (same_key v.key k) (p v) e (none_of_key p
     by_test true false q rec = rec q
     by_test false true q rec = absurd cc
     by_test false false q rec = rec q
+
+-- a settled version is not Local
+not_local : (tx : TxId) (rs : ℕ) (v : Version) → IsSettled rs v → is_local_of tx v ≡ false
+not_local tx rs v s = ap (λ k. of_tx tx v && is_local k) s.0 ∙ by_test (of_tx tx v)
+  where
+    by_test : (b : Bool) → (b && false) ≡ false
+    by_test true = refl
+    by_test false = refl
+
+none_local : (tx : TxId) (rs : ℕ) (vs : List Version) → Each (IsSettled rs) vs → list_any (is_local_of tx) vs ≡ false
+none_local tx rs [] e = refl
+none_local tx rs (v ∷ vs) e = ap (λ b. b || list_any (is_local_of tx) vs) (not_local tx rs v e.0) ∙ none_local tx rs vs e.1
+
+-- so the Local ones are among the others
+pub locals_unsettled : (tx : TxId) (rs : ℕ) (vs us ws : List Version) → vs ≡ us ++ ws → Each (IsSettled rs) us → list_any (is_local_of tx) ws ≡ list_any (is_local_of tx) vs
+locals_unsettled tx rs vs us ws e s =
+    sym (ap (λ xs. list_any (is_local_of tx) xs) e ∙ any_append (is_local_of tx) us ws ∙ ap (λ b. b || list_any (is_local_of tx) ws) (none_local tx rs us s))
 
 -- ---- the key that is held
 

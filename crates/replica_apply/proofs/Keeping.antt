@@ -1,9 +1,8 @@
 -- The last version that is not evicted, and which Replicate is taken.
-use Rattle.std.proofs.Common.{Bool, List, None, Option, Some, ap, drop, false, filter, if◌then◌else◌, not, refl, slice_get, sym, true, ℕ, ◌&&◌, ◌+◌, ◌∙◌, ◌∷◌, ◌≡◌}
+use Rattle.std.proofs.Common.{Bool, List, None, Option, Some, [], ap, arith, false, filter, length, length-append, not, refl, sym, true, ◌&&◌, ◌++◌, ◌<◌, ◌∙◌, ◌∷◌, ◌≡◌}
 use Rattle.std.specs.List.{last_or, list_any}
 use Rattle.partition_map.specs.Maps.{PartitionMap, first_or, hosts, replicas}
 use Rattle.prepare_master.proofs.Showing.{leads_first}
-use Rattle.prepare_master.proofs.Walking.{nothing_left, one_left}
 use Rattle.replica_apply.specs.Slaves.{is_taken}
 use Rattle.str_base.specs.declared.names.KeyId.{KeyId}
 use Rattle.str_base.specs.declared.names.NodeId.{NodeId}
@@ -13,7 +12,7 @@ use Rattle.str_base.specs.declared.names.Version.{Version}
 use Rattle.str_base.specs.Versions.{chain, of_pair, same_key, same_node, without}
 use Rattle.str_model.specs.declared.messages.Arrived.{Arrived}
 use Rattle.str_model.specs.Proposals.{is_pair}
-use Rattle.version_chain.proofs.Lists.{filter_alike, filter_twice}
+use Rattle.version_chain.proofs.Lists.{filter_alike, filter_twice, last_fails, last_passes}
 
 both_ways : (a b : Bool) → (a && b) ≡ (b && a)
 both_ways true true = refl
@@ -27,20 +26,22 @@ kept_chain test k vs =
     filter_twice (λ v. same_key v.key k) (λ v. not (test v)) vs ∙ filter_alike (λ v. same_key v.key k && not (test v)) (λ v. not (test v) && same_key v.key k) vs (λ v. both_ways (same_key v.key k) (not (test v)))
     ∙ sym (filter_twice (λ v. not (test v)) (λ v. same_key v.key k) vs)
 
--- the one at this place is looked at
-pub last_next : (test : Version → Bool) (xs : List Version) (i : ℕ) (x : Version) (o p r : Option Version) → slice_get xs i ≡ Some x → p ≡ (if test x then o else Some x)
-    → last_or o (filter (λ v. not (test v)) (drop i xs)) ≡ r → last_or p (filter (λ v. not (test v)) (drop (i + 1) xs)) ≡ r
-last_next test xs i x o p r e q f =
-    ap (λ s. last_or s (filter (λ v. not (test v)) (drop (i + 1) xs))) q ∙ by_test (test x) ∙ ap (λ ys. last_or o (filter (λ v. not (test v)) ys)) (sym (one_left xs i (i + 1) x e refl)) ∙ f
-  where
-    by_test : (b : Bool) → last_or (if b then o else Some x) (filter (λ v. not (test v)) (drop (i + 1) xs))
-        ≡ last_or o (if not b then x ∷ filter (λ v. not (test v)) (drop (i + 1) xs) else filter (λ v. not (test v)) (drop (i + 1) xs))
-    by_test true = refl
-    by_test false = refl
+-- the next older one is kept
+pub last_found : (test : Version → Bool) (xs ys : List Version) (x : Version) (r : Option Version) → last_or None (filter (λ v. not (test v)) xs) ≡ r → xs ≡ ys ++ x ∷ [] → not (test x) ≡ true → Some x ≡ r
+last_found test xs ys x r h e t = sym (last_passes (λ v. not (test v)) None ys x t) ∙ sym (ap (λ zs. last_or None (filter (λ v. not (test v)) zs)) e) ∙ h
+
+-- the next older one is not
+pub last_before : (test : Version → Bool) (xs ys : List Version) (x : Version) (r : Option Version) → last_or None (filter (λ v. not (test v)) xs) ≡ r → xs ≡ ys ++ x ∷ [] → not (test x) ≡ false
+    → last_or None (filter (λ v. not (test v)) ys) ≡ r
+last_before test xs ys x r h e t = sym (last_fails (λ v. not (test v)) None ys x t) ∙ sym (ap (λ zs. last_or None (filter (λ v. not (test v)) zs)) e) ∙ h
 
 -- all were looked at
-pub last_end : (test : Version → Bool) (xs : List Version) (i : ℕ) (o r : Option Version) → slice_get xs i ≡ None → last_or o (filter (λ v. not (test v)) (drop i xs)) ≡ r → o ≡ r
-last_end test xs i o r e f = ap (λ ys. last_or o (filter (λ v. not (test v)) ys)) (sym (nothing_left xs i e)) ∙ f
+pub last_none : (test : Version → Bool) (xs : List Version) (r : Option Version) → last_or None (filter (λ v. not (test v)) xs) ≡ r → xs ≡ [] → None ≡ r
+last_none test xs r h e = sym (ap (λ zs. last_or None (filter (λ v. not (test v)) zs)) e) ∙ h
+
+-- fewer are left
+pub fewer_left : (xs ys : List Version) (x : Version) → xs ≡ ys ++ x ∷ [] → length ys < length xs
+fewer_left xs ys x e = omega (arith, ap (λ zs. length zs) e, length-append ys (x ∷ []))
 
 module _ (map : PartitionMap) (node : NodeId) (vs : List Version) (done : List (TxId × PartId)) (a : Arrived) (m : NodeId) (f : (n : NodeId) → m ≡ first_or n (replicas map a.part)) where
   -- the master takes no Replicate

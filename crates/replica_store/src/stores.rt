@@ -1,14 +1,15 @@
 //! The versions of the partitions that a node hosts.
-ghost use Rattle.std.specs.Prelude.{◌≡◌, ◌<◌, ◌≤◌, ◌+◌, ◌^◌, [], OnErr, OnOk, length, slice_get, IfSome};
+ghost use Rattle.std.specs.Prelude.{◌≡◌, ◌<◌, ◌≤◌, ◌+◌, ◌++◌, ◌^◌, [], OnErr, OnOk, length, slice_get, IfSome};
 ghost use Rattle.std.specs.List.{list_any};
 ghost use Rattle.str_base.specs.Versions.{chain, finalise, insert_version, newest, of_pair, visible, without};
 ghost use Rattle.version_chain.specs.ChainLists.{Apart, Each, is_among, last_held};
+ghost use Rattle.version_chain.specs.Walks.{IsSettled};
 ghost use Rattle.replica_store.specs.StoreLists.{IsStore, LiesIn, StaysHere};
 
 use std::alloc::{AllocError, Global};
 use std::marker::{Model, Send, Sync};
 use str_base::{KeyId, NodeId, PartId, ShortList, Ts, TxId, Version};
-use version_chain::Chains;
+use version_chain::{Chains, Walk};
 
 /// The versions of the partitions that a node hosts. They are seen as the node, its partitions, the versions in order and
 /// the number `spare` of those that still have room.
@@ -143,7 +144,7 @@ impl ReplicaStore {
         self.chains.undecided(key, rs, with_local)
     }
 
-    /// The `i`-th version of a key from 0.
+    /// The `i`-th version of a key from 0. It takes `i` steps: a walk is for going through a key.
     pub fn at(&self, key: KeyId, i: usize) -> Option<Version>
         ensures value { result ≡ slice_get (chain key self.now.versions) i }
         ensures limit { length (chain key self.now.versions) < 2 ^ 63 }
@@ -151,6 +152,24 @@ impl ReplicaStore {
         ensures kept { IsStore self.now }
     {
         self.chains.at(key, i)
+    }
+
+    /// A walk over the versions of a key, from its newest end.
+    pub fn walk_from_newest(&self, key: KeyId) -> Walk<'_>
+        ensures older { result.older ≡ chain key self.now.versions }
+        ensures newer { result.newer ≡ [] }
+        ensures kept { IsStore self.now }
+    {
+        self.chains.walk_from_newest(key)
+    }
+
+    /// A walk over the versions of a key, from a place before which all are Final and not above `rs`.
+    pub fn walk_from_unsettled(&self, key: KeyId, rs: Ts) -> Walk<'_>
+        ensures all { chain key self.now.versions ≡ result.older ++ result.newer }
+        ensures settled { Each (IsSettled rs.0) result.older }
+        ensures kept { IsStore self.now }
+    {
+        self.chains.walk_from_unsettled(key, rs)
     }
 }
 

@@ -1,5 +1,6 @@
 -- The first bad line of a text that is no scene's, and why it is bad.
 use Rattle.std.specs.List.{list_all}
+use Rattle.str_base.specs.declared.limits.TheConstants.{NODES}
 use Rattle.std.specs.Prelude.{List, Some, [], length, map, not, slice_get, suc, take, true, ℕ, ◌++◌, ◌+◌, ◌==◌, ◌≡◌, ◌≤◌, ◌≢◌, flat_map, ◌⊎◌}
 use Rattle.scene_text.specs.declared.lines.Line.{Line}
 use Rattle.scene_text.specs.LineOrder.{Place, place_after}
@@ -50,7 +51,7 @@ pub record IsRangedSession (scene : Scene) (s : Session) : Type 0 where
 -- a scene but for the limits on how many of each there may be
 pub record IsRanged (scene : Scene) : Type 0 where
   pub version : (scene.version ≡ 1) ⊎ (scene.version ≡ 2)
-  pub nodes : Exists scene.nodes 8
+  pub nodes : Exists scene.nodes NODES
   pub parts : 1 ≤ length scene.parts
   pub rows : (p : ℕ) (row : List NodeId) → slice_get scene.parts p ≡ Some row → IsRow scene.nodes row
   pub table : IsTable scene

@@ -1,5 +1,6 @@
 -- What is read of the parts of a line: what they spell, and what of it fits its type.
 use Rattle.std.specs.List.{list_all}
+use Rattle.str_base.specs.declared.limits.TheConstants.{REPLICAS, TEXT_BYTES}
 use Rattle.std.specs.Prelude.{Bool, List, None, Option, Some, codes, false, flat_map, length, nat_lt, not, true, ℕ, ℤ, ◌++◌, ◌<◌, ◌==◌, ◌∷◌, ◌≡◌, ◌≤◌}
 use Rattle.std.specs.Option.{SomeIff}
 use Rattle.scene_text.specs.LineTexts.{AreBytes, Fits, IsForm, bytes_text, key_text, line_text}
@@ -67,7 +68,7 @@ pub record SpellsBytes (text : List ℕ) (kept : Option (List ℕ)) : Type 0 whe
   pub bytes : List ℕ
   pub are_bytes : AreBytes bytes
   pub text_is : text ≡ bytes_text bytes
-  pub kept_is : SomeIff kept (length bytes ≤ 64) bytes
+  pub kept_is : SomeIff kept (length bytes ≤ TEXT_BYTES) bytes
 
 -- the text spells no byte string
 abbrev pub SpellsNoBytes : List ℕ → Type 0
@@ -79,7 +80,7 @@ row_text row = flat_map (λ r. codes " " ++ numeral r.0) row
 
 -- at most 8 replicas, each below 256
 abbrev pub RowFits : List NodeId → Type 0
-RowFits row = (length row ≤ 8) × (list_all (λ r. nat_lt r.0 256) row ≡ true)
+RowFits row = (length row ≤ REPLICAS) × (list_all (λ r. nat_lt r.0 256) row ≡ true)
 
 -- the text spells replicas, and what is kept of them are the replicas themselves where they fit
 pub record SpellsRow (text : List ℕ) (kept : Option (List NodeId)) : Type 0 where

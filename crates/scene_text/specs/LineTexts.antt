@@ -1,5 +1,6 @@
 -- How a line of a scene's text is spelled. A line stands here with any numbers, however great: its type in the code bounds them.
 use Rattle.std.specs.List.{list_all}
+use Rattle.str_base.specs.declared.limits.TheConstants.{REPLICAS, TEXT_BYTES}
 use Rattle.std.specs.Prelude.{List, codes, flat_map, length, nat_lt, true, ℕ, ⊤, ◌++◌, ◌^◌, ◌<◌, ◌≡◌, ◌≤◌, ◌⊎◌}
 use Rattle.scene_text.specs.declared.lines.Line.{Line}
 use Rattle.scene_text.specs.declared.lines.Line.TheVariants.{Abort, Add, Client, Del, Deliver, Drain, End, Get, Need, Nodes, Part, Put, Puts, Schedule, Session, Tx, Version}
@@ -55,11 +56,11 @@ IsForm _ = ⊤
 -- the numbers of the line fit the types in which they are kept
 abbrev pub Fits : Line → Type 0
 Fits (Nodes n) = n < 256
-Fits (Part p row) = (p.0 < 256) × (length row ≤ 8) × (list_all (λ r. nat_lt r.0 256) row ≡ true)
+Fits (Part p row) = (p.0 < 256) × (length row ≤ REPLICAS) × (list_all (λ r. nat_lt r.0 256) row ≡ true)
 Fits (Session n) = n.0 < 256
 Fits (Get name p) = p.0 < 256
 Fits (Put name p n) = (p.0 < 256) × IsNumber n
-Fits (Puts name p bytes) = (p.0 < 256) × (length bytes ≤ 64)
+Fits (Puts name p bytes) = (p.0 < 256) × (length bytes ≤ TEXT_BYTES)
 Fits (Add name p n) = (p.0 < 256) × IsNumber n
 Fits (Del name p) = p.0 < 256
 Fits (Need name p n) = (p.0 < 256) × IsNumber n

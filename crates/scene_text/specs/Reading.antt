@@ -1,5 +1,6 @@
 -- What a reader makes of a line, and of a text.
 use Rattle.std.specs.Prelude.{List, false, length, true, ℕ, ⊤, ◌≡◌, ◌≤◌, ◌⊎◌, None, Option, Some}
+use Rattle.str_base.specs.declared.limits.TheConstants.{OPERATIONS}
 use Rattle.scene_text.specs.FirstBad.{FirstBad}
 use Rattle.scene_text.specs.LineTexts.{IsForm, line_text}
 use Rattle.scene_text.specs.Reaching.{Reached}
@@ -65,7 +66,7 @@ fault_at line Memory = NoMemory
 abbrev pub IsKeyRefused : State → PartId → SceneFault → Type 0
 IsKeyRefused s part Form = ⊥
 IsKeyRefused s part Range = is_up_to (length s.draft.parts) part.0 ≡ false
-IsKeyRefused s part Count = (is_up_to (length s.draft.parts) part.0 ≡ true) × (16 ≤ length s.ops)
+IsKeyRefused s part Count = (is_up_to (length s.draft.parts) part.0 ≡ true) × (OPERATIONS ≤ length s.ops)
 IsKeyRefused s part Memory = ⊤
 
 -- the version of the line, where it is the version's

@@ -1,5 +1,6 @@
 -- How the lines of a text build a scene, one by one.
 use Rattle.std.specs.List.{count_by, list_all, list_any, sum_by}
+use Rattle.str_base.specs.declared.limits.TheConstants.{NODES, NODE_SESSIONS, OPERATIONS, PARTITIONS, REPLICAS, SCHEDULE_ENTRIES, SESSIONS, TEXT_BYTES, TRANSACTIONS}
 use Rattle.std.specs.Prelude.{Bool, List, None, Option, Some, [], false, length, nat_le, nat_lt, negsuc, not, pos, true, ℕ, ℤ, ◌&&◌, ◌++◌, ◌+◌, ◌==◌, ◌^◌, ◌∷◌}
 use Rattle.scene_text.specs.declared.lines.Line.{Line}
 use Rattle.scene_text.specs.declared.lines.Line.TheVariants.{Abort as LAbort, Add as LAdd, Client as LClient, Del as LDel, Deliver as LDeliver, Drain as LDrain, End as LEnd, Get as LGet, Need as LNeed, Nodes as LNodes, Part as LPart, Put as LPut, Puts as LPuts, Schedule as LSchedule, Session as LSession, Tx as LTx, Version as LVersion}
@@ -29,7 +30,7 @@ pub record Limits : Type 0 where
 
 -- how many of each a scene may have
 abbrev pub scene_limits : Limits
-scene_limits = record { parts = 32; sessions = 64; at_node = 16; txs = 1024; ops = 16; entries = 65536 }
+scene_limits = record { parts = PARTITIONS; sessions = SESSIONS; at_node = NODE_SESSIONS; txs = TRANSACTIONS; ops = OPERATIONS; entries = SCHEDULE_ENTRIES }
 
 -- what the lines so far have given: where they end, the scene without the open transaction, and the operations of that one
 pub record State : Type 0 where
@@ -66,7 +67,7 @@ are_distinct (n ∷ ns) = not (list_any (same_node n) ns) && are_distinct ns
 
 -- nodes of the scene, none twice, of which there can't be more than 8
 abbrev pub is_row : ℕ → List NodeId → Bool
-is_row nodes row = nat_le (length row) 8 && (list_all (λ n. is_up_to nodes n.0) row && are_distinct row)
+is_row nodes row = nat_le (length row) REPLICAS && (list_all (λ n. is_up_to nodes n.0) row && are_distinct row)
 
 -- a number of 64 bits with a sign
 abbrev pub is_number : ℤ → Bool
@@ -75,12 +76,12 @@ is_number (negsuc n) = nat_lt n (2 ^ 63)
 
 -- the numbers of the line are in range
 abbrev pub in_range : Scene → Line → Bool
-in_range d (LNodes n) = is_up_to 8 n
+in_range d (LNodes n) = is_up_to NODES n
 in_range d (LPart p row) = (p.0 == length d.parts + 1) && is_row d.nodes row
 in_range d (LSession n) = is_up_to d.nodes n.0
 in_range d (LGet name p) = is_up_to (length d.parts) p.0
 in_range d (LPut name p n) = is_up_to (length d.parts) p.0 && is_number n
-in_range d (LPuts name p bytes) = is_up_to (length d.parts) p.0 && nat_le (length bytes) 64
+in_range d (LPuts name p bytes) = is_up_to (length d.parts) p.0 && nat_le (length bytes) TEXT_BYTES
 in_range d (LAdd name p n) = is_up_to (length d.parts) p.0 && is_number n
 in_range d (LDel name p) = is_up_to (length d.parts) p.0
 in_range d (LNeed name p n) = is_up_to (length d.parts) p.0 && is_number n

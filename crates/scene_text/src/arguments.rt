@@ -9,6 +9,7 @@ use crate::lines::{Line, Word};
 use crate::numbers::{read_number, read_signed, read_small};
 use crate::parting::{is_same, split_at_byte};
 use partition_map::PartRow;
+use str_base::limits::REPLICAS;
 use str_base::{NodeId, PartId, SessionId};
 use str_scene::Name;
 
@@ -165,7 +166,7 @@ fn with_replica(kept: Option<PartRow>, node: Option<u8>) -> Option<PartRow>
 {
     let mut row = kept?;
     let node = node?;
-    if row.len() >= 8 {
+    if row.len() >= REPLICAS {
         return None;
     }
     row.push(NodeId(node));

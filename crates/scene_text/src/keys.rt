@@ -1,50 +1,16 @@
 //! Keys and byte strings as text.
 ghost use Rattle.std.specs.List.{list_all};
+ghost use Rattle.str_base.specs.declared.limits.TheConstants.{TEXT_BYTES};
 ghost use Rattle.std.specs.Prelude.{◌≡◌, ◌<◌, ◌≤◌, ◌+◌, ◌*◌, ◌++◌, ◌==◌, ℕ, false, true, IfSome, IsNone, length, nat_lt};
 ghost use Rattle.scene_text.specs.HexDigits.{digit_number, is_hex, paired};
 ghost use Rattle.scene_text.specs.LineReading.{SpellsBytes, SpellsKey, SpellsNoBytes, SpellsNoKey};
-ghost use Rattle.str_scene.specs.SceneLimits.{in_name, is_name};
+ghost use Rattle.str_scene.specs.SceneLimits.{is_name};
 
 use crate::numbers::read_small;
 use crate::parting::{rest_after, split_at_byte};
 use str_base::PartId;
-use str_scene::{ByteText, Name};
-
-/// The byte may stand in a name after its first letter.
-fn may_follow(byte: u8) -> bool
-    ensures { result ≡ in_name byte }
-{
-    byte.is_ascii_lowercase() || byte.is_ascii_digit() || byte == b'_'
-}
-
-/// All of the bytes may stand in a name after its first letter.
-fn all_may_follow(bytes: &[u8]) -> bool
-    ensures { result ≡ list_all in_name bytes.now }
-{
-    bytes.iter().all(|byte| may_follow(*byte))
-}
-
-/// The bytes are a name: a letter, then at most 15 letters, digits or underscores.
-fn spells_name(bytes: &[u8]) -> bool
-    ensures { result ≡ is_name bytes.now }
-{
-    let Some((first, rest)) = bytes.split_first() else {
-        return false;
-    };
-    first.is_ascii_lowercase() && all_may_follow(rest) && rest.len() <= 15
-}
-
-/// A list of these bytes.
-fn listed(bytes: &[u8]) -> Name
-    requires { length bytes.now ≤ 16 }
-    ensures { result ≡ bytes.now }
-{
-    let mut name = Name::new();
-    for byte in bytes {
-        name.push(*byte);
-    }
-    name
-}
+use str_base::limits::TEXT_BYTES;
+use str_scene::{ByteText, Name, short_name, spells_name};
 
 /// The name that the bytes are, and `None` where they are no name.
 fn read_name(bytes: &[u8]) -> Option<Name>
@@ -53,7 +19,7 @@ fn read_name(bytes: &[u8]) -> Option<Name>
     ensures none { IsNone result → is_name bytes.now ≡ false }
 {
     if spells_name(bytes) {
-        Some(listed(bytes))
+        Some(short_name(bytes))
     } else {
         None
     }
@@ -103,7 +69,7 @@ fn all_hex(bytes: &[u8]) -> bool
 
 /// The bytes that the digits write, two for each byte.
 fn bytes_of_digits(digits: &[u8]) -> ByteText
-    requires few { length digits.now ≤ 128 }
+    requires few { length digits.now ≤ 2 * TEXT_BYTES }
     requires hex { list_all is_hex digits.now ≡ true }
     ensures { result ≡ paired digits.now }
 {
@@ -129,7 +95,7 @@ pub fn read_bytes(text: &[u8]) -> Option<Option<ByteText>>
     if !all_hex(digits) {
         return None;
     }
-    if digits.len() > 128 {
+    if digits.len() > 2 * TEXT_BYTES {
         return Some(None);
     }
     Some(Some(bytes_of_digits(digits)))

@@ -1,5 +1,6 @@
 //! A scene, read from its text.
 ghost use Rattle.std.specs.Prelude.{◌≡◌, ◌⊎◌, ◌<◌, ◌≤◌, ◌+◌, ◌++◌, ◌∷◌, [], IfOk, IfErr, None, IsTrue, ◌↔◌, OnOk, length, take, true, false};
+ghost use Rattle.str_base.specs.declared.limits.TheConstants.{OPERATIONS};
 ghost use Rattle.scene_text.specs.LineOrder.{follows as follows_line, op_follows, section_follows};
 ghost use Rattle.scene_text.specs.LineTexts.{IsForm};
 ghost use Rattle.scene_text.specs.Reaching.{Reached};
@@ -18,6 +19,7 @@ use crate::read_line::read_line;
 use partition_map::PartRow;
 use std::alloc::Global;
 use std::marker::Model;
+use str_base::limits::{OPERATIONS, TRANSACTIONS};
 use str_base::{KeyId, NodeId, PartId, SessionId};
 use str_scene::{ByteText, Event, Name, Op, OpList, Scene, SceneBuild, SceneFault, Why};
 
@@ -130,7 +132,7 @@ impl Reader {
         ensures refused { IfErr result (λ f. IsRefusedFor self.old Line.Tx f) }
     {
         self.close()?;
-        if self.build.transactions() >= 1024 {
+        if self.build.transactions() >= TRANSACTIONS {
             return Err(SceneFault::Count);
         }
         self.place = next;
@@ -164,11 +166,11 @@ impl Reader {
 
     /// The next operation of the open transaction, which has at most 16.
     fn push_op(&mut self, next: Place, op: Op) -> Result<(), SceneFault>
-        ensures room { OnOk result (length self.old.ops < 16) }
+        ensures room { OnOk result (length self.old.ops < OPERATIONS) }
         ensures pushed { OnOk result (self.new ≡ record { place = next; draft = self.old.draft; ops = self.old.ops ++ op ∷ [] }) }
-        ensures full { IfErr result (λ f. (f ≡ SceneFault.Count) × (16 ≤ length self.old.ops)) }
+        ensures full { IfErr result (λ f. (f ≡ SceneFault.Count) × (OPERATIONS ≤ length self.old.ops)) }
     {
-        if self.ops.len() >= 16 {
+        if self.ops.len() >= OPERATIONS {
             return Err(SceneFault::Count);
         }
         self.ops.push(op);

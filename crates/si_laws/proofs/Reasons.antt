@@ -6,6 +6,7 @@ pub mod AbortChanges
 pub mod AbortLinks
 pub mod AbortsAll
 pub mod CausesTrue
+pub mod OthersNamed
 pub mod ConflictReasons
 pub mod CausesNamed
 pub mod AnswersReleased
@@ -14,7 +15,9 @@ pub mod RefuseSent
 pub mod MessagesSent
 pub mod RefuseReasons
 pub mod AnswersGiven
+mod EvictedScene
 pub mod CommitsAfter
 pub mod DependenciesFirst
+pub mod ReadsKept
 pub mod WritersFirst
 pub mod KeysWritten

@@ -24,10 +24,11 @@ DependenciesFirst tr =
     (j m j' m' : ℕ) (t u : TxId) (x z : Own) → StandsAt tr j m t x → HasCommitted x → StandsAt tr j' m' t z → DependsOn t.node z u
     → CommittedBefore tr j m u x.snap.rs
 
--- each writer that was read from committed first, maybe at another node
+-- each writer that was read from at some moment committed first, maybe at another node
 abbrev pub WritersFirst : List Happening → Type 0
 WritersFirst tr =
-    (j m : ℕ) (t u : TxId) (x : Own) → StandsAt tr j m t x → HasCommitted x → ReadFrom x u → CommittedBefore tr j m u x.snap.rs
+    (j m j' m' : ℕ) (t u : TxId) (x z : Own) → StandsAt tr j m t x → HasCommitted x → StandsAt tr j' m' t z → ReadFrom z u
+    → CommittedBefore tr j m u x.snap.rs
 
 -- the last moment of an event
 abbrev pub IsLast : List Happening → ℕ → ℕ → Type 0

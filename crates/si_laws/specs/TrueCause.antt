@@ -107,10 +107,10 @@ pub record RefusedBy (scene : Scene) (tr : List Happening) (j : ℕ) (t : TxId) 
 abbrev pub BothWrote : World → Own → TxId → KeyId → Type 0
 BothWrote w x u k = Wrote x k × (y : Own) × Begun w u y × Wrote y k
 
--- a conflict: both wrote the key, and it was found at home, evicted or refused by the master
+-- a conflict with another transaction: both wrote the key, and it was found at home, evicted or refused by the master
 abbrev pub TrueConflict : Scene → World → List Happening → ℕ → TxId → Doing → Own → TxId → KeyId → NodeId → Type 0
 TrueConflict scene w tr j t d x u k n =
-    BothWrote w x u k
+    (u ≢ t) × BothWrote w x u k
     × ((((n ≡ t.node) × FoundAtHome scene tr j t d x u k) ⊎ ((n ≡ t.node) × Evicted tr j d t u k)) ⊎ RefusedBy scene tr j t x u k n)
 
 -- at this moment the transaction depended on u, which stood like y

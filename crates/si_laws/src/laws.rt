@@ -96,8 +96,8 @@ pub fn presence_holds()
     ensures { PresenceHolds }
 {}
 
-/// The gate law, and each abort has the cause that it names: a conflict that was found at home, evicted or refused by the master of the key's
-/// partition, a dependency that aborted or came too late, or a wish of the script.
+/// The gate law, and each abort has the cause that it names: a conflict with another transaction that was found when it asked to commit, evicted it
+/// or was refused by the master of the key's partition, a dependency that aborted or came too late, or a wish of the script.
 pub fn reasons_hold()
     ensures { ReasonsHold }
 {}

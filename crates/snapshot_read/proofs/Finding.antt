@@ -1,5 +1,6 @@
 -- What a read comes to by what the stores give, and that a node's view says the same.
 use Rattle.std.proofs.Common.{Bool, List, None, Option, Some, [], ap, false, filter, if◌then◌else◌, leb-true, nat_le, refl, subst, sym, true, ℕ, ◌&&◌, ◌∙◌, ◌∷◌, ◌≡◌, ◌≤◌}
+use Rattle.str_base.proofs.Tests.{and_true_right}
 use Rattle.std.specs.List.{last_or}
 use Rattle.cache_partition.specs.CacheLists.{CacheList, IsCache}
 use Rattle.dependency_set.specs.declared.snaps.OwnSnap.{OwnSnap}
@@ -34,16 +35,12 @@ last_of : (P : Version → Type 0) (xs : List Version) (acc : Option Version) (v
 last_of P [] acc v a e q = a v q
 last_of P (x ∷ xs) acc v a e q = last_of P xs (Some x) v (λ u f. let same : x ≡ u = cc f in subst P same e.0) e.1 q
 
-second_of_two : (p q : Bool) → (p && q) ≡ true → q ≡ true
-second_of_two true q e = e
-second_of_two false q e = absurd cc
-
 -- a visible version is one of the list, at or below the timestamp
 visible_one : (P : Version → Type 0) (k : KeyId) (r : ℕ) (vs : List Version) (v : Version) → Each P vs → visible vs k r ≡ Some v → P v × (v.ts.0 ≤ r)
 visible_one P k r vs v e q =
     let test = λ (u : Version). same_key u.key k && nat_le u.ts.0 r in
     let one = last_of (λ u. P u × (test u ≡ true)) (filter test vs) None v (λ u f. absurd (cc f)) (each_filter test P vs e) q in
-    (one.0, leb-true v.ts.0 r (second_of_two (same_key v.key k) (nat_le v.ts.0 r) one.1))
+    (one.0, leb-true v.ts.0 r (and_true_right (same_key v.key k) (nat_le v.ts.0 r) one.1))
 
 -- what holds of each in both stores
 pub each_of : (P : Version → Type 0) (b : Bool) (store cache : List Version) → Each P store → Each P cache → Each P (of_key b store cache)

@@ -11,3 +11,6 @@ pub mod RequestsKept
 pub mod ReadsWaiting
 pub mod GivenAt
 pub mod Acknowledged
+pub mod Judged
+pub mod SeatsOnce
+pub mod UnderWayHolds

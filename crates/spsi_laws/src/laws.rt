@@ -6,8 +6,9 @@ ghost use Rattle.spsi_laws.specs.Laws.Dependencies.{DependenciesLive, Dependenci
 ghost use Rattle.spsi_laws.specs.Laws.Drain.{DrainFollows, DrainLowers, DrainRests, DrainStops};
 ghost use Rattle.spsi_laws.specs.Laws.Newest.{NewestHolds};
 ghost use Rattle.spsi_laws.specs.Laws.Pairs.{PairsHold, PairsHoldFurther};
-ghost use Rattle.spsi_laws.specs.Laws.Rest.{RestByUnderWay};
+ghost use Rattle.spsi_laws.specs.Laws.Rest.{RestHolds};
 ghost use Rattle.spsi_laws.specs.Laws.Speculation.{SpeculationHolds};
+ghost use Rattle.spsi_laws.specs.Laws.UnderWay.{UnderWayHolds};
 ghost use Rattle.spsi_laws.specs.Laws.Valid.{MessagesValid};
 ghost use Rattle.spsi_laws.specs.Laws.Work.{DeliveryLowers, LeftAtOpening, RepeatsRaise, StepLowers, WorkBounded};
 
@@ -106,12 +107,18 @@ pub fn repeats_raise()
     ensures { RepeatsRaise }
 {}
 
-/// Every message of a run is valid at its receiver: no node takes it for a strange one.
+/// Every message of a run goes to a node of the scene and is valid there: no node takes it for a strange one.
 pub fn messages_valid()
     ensures { MessagesValid }
 {}
 
-/// Where every message was given and every client step is idle, every transaction is answered, if what an undecided one waits for from other nodes is under way.
-pub fn rest_by_under_way()
-    ensures { RestByUnderWay }
+/// Where an undecided transaction waits for a participant that it has asked, or for the value of a key, a message of that was never given, or it waits at the
+/// master: its Prepare is parked there, or its read waits there.
+pub fn under_way_holds()
+    ensures { UnderWayHolds }
+{}
+
+/// Where every message was given and every client step is idle, every transaction is answered.
+pub fn rest_holds()
+    ensures { RestHolds }
 {}

@@ -1,4 +1,5 @@
 pub mod Worked
+pub mod KindTests
 pub mod ListCounts
 pub mod Changes
 pub mod Principle

@@ -1,5 +1,5 @@
 -- What holds of each view of a node, whatever messages came to it: after each single change, and between steps.
-use Rattle.std.specs.Prelude.{Bool, List, None, Option, Some, [], false, is_some, length, map, slice_get, true, ℕ, ℤ, ◌+◌, ◌-◌, ◌<◌, ◌∷◌, ◌≡◌, ◌≤◌, ◌⊎◌}
+use Rattle.std.specs.Prelude.{Bool, List, None, Option, Some, [], false, is_some, length, map, slice_get, true, ℕ, ℤ, ◌+◌, ◌-◌, ◌<◌, ◌∷◌, ◌≡◌, ◌≤◌}
 use Rattle.str_base.specs.declared.names.TxId.{TxId}
 use Rattle.str_model.specs.declared.names.Got.{Got}
 use Rattle.str_model.specs.declared.names.ReadDone.{ReadDone}

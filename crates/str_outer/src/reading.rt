@@ -1,13 +1,15 @@
 //! The reading of a whole source, up to a limit.
-ghost use Rattle.std.specs.Prelude.{◌≡◌, ◌≤◌, ◌⊎◌, length, IfOk, IsErrOf};
+ghost use Rattle.std.specs.Prelude.{◌≡◌, ◌+◌, ◌≤◌, ◌⊎◌, length, IfOk, IsErrOf};
+ghost use Rattle.str_base.specs.declared.limits.TheConstants.{INPUT_BYTES};
 ghost use Rattle.std.specs.Io.KnownBytes.{Consumes, IsAtEnd};
 ghost use Rattle.str_outer.specs.Causes.{Rose};
 
 use crate::outside::Source;
 use std::alloc::Global;
+use str_base::limits::INPUT_BYTES;
 
 /// The most bytes that are read of a source: one more than an input may have.
-pub const LIMIT: usize = 1_048_577;
+pub const LIMIT: usize = INPUT_BYTES + 1;
 
 /// Why a source was not read.
 #[derive(Clone, Copy, Debug, PartialEq, Eq)]
@@ -29,8 +31,8 @@ pub fn read_all<S: Source>(alloc: Global, source: &mut S) -> Result<Vec<u8>, Rea
     ensures taken { IfOk result (λ bytes.
         Consumes (S.left source.old) (S.left source.new) bytes.items) }
     ensures whole { IfOk result (λ bytes.
-        (length bytes.items ≡ 1048577) ⊎ IsAtEnd (S.left source.new)) }
-    ensures limit { IfOk result (λ bytes. length bytes.items ≤ 1048577) }
+        (length bytes.items ≡ INPUT_BYTES + 1) ⊎ IsAtEnd (S.left source.new)) }
+    ensures limit { IfOk result (λ bytes. length bytes.items ≤ INPUT_BYTES + 1) }
 
     ensures later { S.faults source.old ≤ S.faults source.new }
     ensures failed { IsErrOf result ReadError.Failed

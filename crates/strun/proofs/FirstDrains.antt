@@ -1,5 +1,7 @@
 -- The drain of a first scene: it makes client steps alone, and each lowers what is left.
-use Rattle.std.proofs.Common.{Bool, List, None, Option, Some, [], ap, arith, cond, false, find, is_some, length, option_map, refl, subst, suc, sym, true, zero, ℕ, ◌++◌, ◌<◌, ◌∙◌, ◌∷◌, ◌≡◌, ◌≤◌}
+use Rattle.std.proofs.Common.{List, None, Option, Some, [], ap, arith, false, is_some, length, option_map, refl, subst, suc, sym, true, zero, ℕ, ◌++◌, ◌<◌, ◌∙◌, ◌∷◌, ◌≡◌, ◌≤◌}
+use Rattle.str_base.proofs.Tests.{value_there}
+use Rattle.str_base.proofs.Lists.{found_passes}
 use Rattle.std.specs.List.{range_with_len}
 use Rattle.str_base.specs.declared.names.NodeId.{NodeId}
 use Rattle.str_base.specs.declared.names.SessionId.{SessionId}
@@ -64,20 +66,6 @@ stops scene w (suc n) e = rw e refl
 goes : (scene : Scene) (w : World) (n : ℕ) (e : Event) → next_event scene w ≡ Some e → drain_events scene (suc n) w ≡ e ∷ drain_events scene n (happens scene w e)
 goes scene w n e k = rw k refl
 
--- what passes the test of a search
-found : {A : Type 0} (p : A → Bool) (xs : List A) (y : A) → find p xs ≡ Some y → p y ≡ true
-found p [] y e = absurd (cc e)
-found p (x ∷ xs) y e = at_test (p x) refl e (found p xs y)
-  where
-    at_test : (b : Bool) → p x ≡ b → cond b (Some x) (find p xs) ≡ Some y → (find p xs ≡ Some y → p y ≡ true) → p y ≡ true
-    at_test true k h more = let same : x ≡ y = cc h in subst (λ z. p z ≡ true) same k
-    at_test false k h more = more h
-
--- what is there, as its value
-given_by : {A : Type 0} (o : Option A) → is_some o ≡ true → (x : A) × (o ≡ Some x)
-given_by None e = absurd (cc e)
-given_by (Some x) e = (x, refl)
-
 -- what comes next in a drain: nothing, or a client step that does something
 pub data Next (scene : Scene) (v : View) (w : World) : Type 0 where
   over : next_event scene w ≡ None → Next scene v w
@@ -94,8 +82,8 @@ next_of scene is first v j a = by_session (next_session scene w) refl
     by_session : (o : Option ℕ) → next_session scene w ≡ o → Next scene v w
     by_session None e = over (rw (next_event-client scene v j a, e) refl)
     by_session (Some s) e =
-        let m : moves scene w s ≡ true = found (moves scene w) (range_with_len 1 (length scene.sessions)) s e in
-        let k = given_by (step (only_node scene) (Client (record { 0 = s }) 0) v) (sym (moves-step scene is first v j a s) ∙ m) in
+        let m : moves scene w s ≡ true = found_passes (moves scene w) (range_with_len 1 (length scene.sessions)) s e in
+        let k = value_there (step (only_node scene) (Client (record { 0 = s }) 0) v) (sym (moves-step scene is first v j a s) ∙ m) in
         client s k.0 (rw (next_event-client scene v j a, e) refl) k.1
 
 -- what holds of a view between steps, is kept, and gives that a step that isn't idle lowers what is left and sends nothing

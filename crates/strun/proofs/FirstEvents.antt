@@ -1,5 +1,6 @@
 -- An event of a first scene as the code does it: a step of the node, and the taking of its answers.
 use Rattle.std.proofs.Common.{Bool, IfSome, IsNone, List, MatchOption, None, Option, Some, [], add-one, add_comm, ap, append-nil, arith, cond, false, find, get_or, is_some, length, not, option_map, refl, subst, suc, sym, take, true, ℕ, ◌++◌, ◌+◌, ◌-◌, ◌<◌, ◌∙◌, ◌∷◌, ◌≡◌, ◌≤◌}
+use Rattle.str_model.proofs.Principle.Everywhere.{run-append}
 use Rattle.std.proofs.Math.Seq.{take-suc}
 use Rattle.std.specs.List.{range_with_len}
 use Rattle.str_base.specs.declared.names.NodeId.{NodeId}
@@ -24,7 +25,7 @@ use Rattle.node_core.proofs.FirstNeeds.{first_small}
 use Rattle.node_core.proofs.FirstRules.{step_first}
 use Rattle.strun.proofs.FirstDrained.{first_goes_on, first_over}
 use Rattle.strun.proofs.FirstDrains.{moves-step}
-use Rattle.strun.proofs.FirstRuns.{happens-client, run_from-append}
+use Rattle.strun.proofs.FirstRuns.{happens-client}
 
 -- a place
 abbrev here_at : Scene → NodeId → Here
@@ -172,7 +173,7 @@ session_goes node out j a (Some s) is e = first_goes_on node.scene is.node_.scen
 -- one more event of the schedule
 pub one_more : (scene : Scene) (w v : World) (es : List Event) (i : ℕ) (d : Event) → i < length es
     → v ≡ run_from scene w (take i es) → happens scene v (get_or es i d) ≡ run_from scene w (take (i + 1) es)
-one_more scene w v es i d h k = rw (taken, run_from-append, k) refl
+one_more scene w v es i d h k = rw (taken, run-append, k) refl
   where
     taken : take (i + 1) es ≡ take i es ++ get_or es i d ∷ []
     taken = rw add-one (take-suc es i d h)

@@ -1,5 +1,6 @@
 -- Runs of first scenes: one node, which sends nothing.
-use Rattle.std.proofs.Common.{Bool, List, None, Option, Some, [], ap, append-nil, arith, cond, false, option_map, refl, subst, suc, sym, true, zero, ℕ, ◌++◌, ◌∙◌, ◌∷◌, ◌≡◌}
+use Rattle.std.proofs.Common.{Bool, List, None, Option, Some, [], ap, append-nil, arith, cond, false, option_map, refl, subst, suc, sym, true, zero, ℕ, ◌++◌, ◌∙◌, ◌≡◌}
+use Rattle.str_model.proofs.Principle.Everywhere.{run-append}
 use Rattle.str_base.specs.declared.names.NodeId.{NodeId}
 use Rattle.str_base.specs.declared.names.SessionId.{SessionId}
 use Rattle.str_model.specs.declared.messages.Answer.{Answer}
@@ -17,11 +18,6 @@ use Rattle.str_scene.specs.FirstScenes.{IsFirst}
 use Rattle.str_scene.specs.SceneLimits.{Exists, IsScene}
 use Rattle.str_scene.specs.Scenes.{Here, Scene, Session, nth}
 use Rattle.strun.specs.ClusterStates.{drained_from, only_node, world_of}
-
--- a later event is done after the earlier ones
-pub run_from-append : (scene : Scene) (w : World) (es fs : List Event) → run_from scene w (es ++ fs) ≡ run_from scene (run_from scene w es) fs
-run_from-append scene w [] fs = refl
-run_from-append scene w (e ∷ es) fs = run_from-append scene (happens scene w e) es fs
 
 -- no message was sent, so a delivery is idle
 pub happens-deliver : (scene : Scene) (v : View) (journal : List Done) (answers : List Answer) (i : ℕ)
@@ -76,7 +72,7 @@ unfolding cluster_run cluster_events
 run-drained scene w v e k d =
     let r : World = run_from scene (opening scene) scene.schedule in
     let events : drained scene r ≡ drain_events scene (left scene r) r = ap (λ (b : Bool). cond b (drain_events scene (left scene r) r) []) k in
-    d ∙ (ap (drained_from scene) e ∙ sym (run_from-append scene (opening scene) scene.schedule (drained scene r) ∙ ap (λ (es : List Event). run_from scene r es) events))
+    d ∙ (ap (drained_from scene) e ∙ sym (run-append scene (opening scene) scene.schedule (drained scene r) ∙ ap (λ (es : List Event). run_from scene r es) events))
 
 -- the same for a scene and a state that are told to be these
 pub ran-schedule : (scene s : Scene) (w w' : World) → s ≡ scene → w ≡ opening scene → w' ≡ run_from s w s.schedule → scene.drain ≡ false → w' ≡ cluster_run scene

@@ -1,15 +1,10 @@
 -- What was written before a refusal is a prefix of what would have been written.
-use Rattle.std.proofs.Common.{List, None, Option, Some, [], ap, append-nil, append_assoc, drop, length, refl, sym, take, ℕ, ◌++◌, ◌∙◌, ◌∷◌, ◌≡◌}
+use Rattle.std.proofs.Common.{List, None, Option, Some, [], ap, append-nil, append_assoc, drop, length, refl, sym, ℕ, ◌++◌, ◌∙◌, ◌≡◌}
 use Rattle.std.proofs.KnownBytes.{Appends-trans}
-use Rattle.std.proofs.lemmas.List.{take-append-drop}
+use Rattle.std.proofs.lemmas.List.{take-append-drop, take_at}
 use Rattle.std.specs.Io.{StartsWith}
 use Rattle.std.specs.Io.KnownBytes.{Appends}
 use Rattle.str_outer.specs.Pieces.{AppendsPrefix}
-
--- a list with more behind it begins with the list
-front : (p r : List ℕ) → take (length p) (p ++ r) ≡ p
-front [] r = refl
-front (x ∷ p) r = ap (λ (xs : List ℕ). x ∷ xs) (front p r)
 
 -- what begins a list has the rest behind it
 behind : (t p : List ℕ) → StartsWith t p → t ≡ p ++ drop (length p) t
@@ -17,7 +12,7 @@ behind t p s = sym (take-append-drop (length p) t) ∙ ap (λ (xs : List ℕ). x
 
 -- it begins all that has it in front
 begins : (t p r : List ℕ) → t ≡ p ++ r → StartsWith t p
-begins t p r e = rw e (front p r)
+begins t p r e = rw e (take_at p r (length p) refl)
 
 -- nothing more is held
 pub appends_none : (a : Option (List ℕ)) → Appends a a []
@@ -34,7 +29,7 @@ whole a b t w = record { piece = t; is_prefix = begins t t [] (sym (append-nil t
 
 -- a first part was written whole
 pub so_far : (a b : Option (List ℕ)) (t u : List ℕ) → Appends a b t → AppendsPrefix a b (t ++ u)
-so_far a b t u w = record { piece = t; is_prefix = front t u; appends = w }
+so_far a b t u w = record { piece = t; is_prefix = take_at t u (length t) refl; appends = w }
 
 -- a prefix of a first part was written
 pub further : (a b : Option (List ℕ)) (t u : List ℕ) → AppendsPrefix a b t → AppendsPrefix a b (t ++ u)

@@ -1,6 +1,7 @@
 //! The reading of a program's input.
 ghost use Rattle.std.specs.Io.KnownBytes.{Consumes, IsAtEnd};
-ghost use Rattle.std.specs.Prelude.{◌≡◌, ◌≤◌, ◌⊎◌, length, IfErr, IfOk};
+ghost use Rattle.str_base.specs.declared.limits.TheConstants.{INPUT_BYTES};
+ghost use Rattle.std.specs.Prelude.{◌≡◌, ◌+◌, ◌≤◌, ◌⊎◌, length, IfErr, IfOk};
 ghost use Rattle.top_status.specs.Failures.{HasReadCause};
 
 use crate::failure::Failure;
@@ -14,8 +15,8 @@ use str_outer::{ReadError, Source, read_all};
 /// `Read` where a read failed, and `Memory` where memory was wanting. The bytes read until then are lost.
 pub fn read_input<S: Source>(alloc: Global, src: &mut S) -> Result<Vec<u8>, Failure>
     ensures taken { IfOk result (λ bytes. Consumes (S.left src.old) (S.left src.new) bytes.items) }
-    ensures whole { IfOk result (λ bytes. (length bytes.items ≡ 1048577) ⊎ IsAtEnd (S.left src.new)) }
-    ensures limit { IfOk result (λ bytes. length bytes.items ≤ 1048577) }
+    ensures whole { IfOk result (λ bytes. (length bytes.items ≡ INPUT_BYTES + 1) ⊎ IsAtEnd (S.left src.new)) }
+    ensures limit { IfOk result (λ bytes. length bytes.items ≤ INPUT_BYTES + 1) }
     ensures later { S.faults src.old ≤ S.faults src.new }
     ensures failed { IfErr result (λ failure. HasReadCause (S.faults src.old) (S.faults src.new) failure) }
 {

@@ -2,6 +2,7 @@
 ghost use Rattle.std.specs.Prelude.{◌≡◌, ◌+◌, ◌<◌, ◌≤◌, find, length};
 ghost use Rattle.str_base.specs.Values.{is_below, number_or_zero, set_write, sum_with};
 ghost use Rattle.str_base.specs.Versions.{same_key};
+ghost use Rattle.str_model.specs.NodeFacts.{AreDistinct};
 ghost use Rattle.str_model.specs.Scripts.{found_read, found_write};
 ghost use Rattle.tx_script.specs.declared.turns.Turn.TheVariants.{Moved};
 ghost use Rattle.tx_script.specs.Turns.{add_turn, fresh, get_turn, given, known, moved, need_turn, op_turn, turn_of, wrote};
@@ -16,7 +17,8 @@ use str_scene::{Op, OpList};
 pub type Reads = ShortList<ReadDone, 16>;
 
 /// How far the script of a transaction has come: the number of operations that are done, its writes in order of first
-/// write, and its reads in order. It keeps that there are no more writes than operations that are done.
+/// write, and its reads in order. It keeps that each key is written once, and that there are no more writes than operations
+/// that are done.
 #[derive(Drop)]
 pub struct ScriptRun {
     next: u8,
@@ -26,13 +28,14 @@ pub struct ScriptRun {
 
 impl Model for ScriptRun {
     ghost use Rattle.std.specs.Prelude.{◌≤◌, length};
+    ghost use Rattle.str_model.specs.NodeFacts.{AreDistinct};
     ghost use Rattle.tx_script.specs.Turns.{ScriptRun as Run};
 
     ghost Value = { Run };
 
     ghost view = { λ s. record { next = s.next; writes = s.writes; reads = s.reads } };
 
-    ghost invariant = { λ s. length s.writes ≤ s.next };
+    ghost invariant = { λ s. (length s.writes ≤ s.next) × AreDistinct s.writes };
 }
 
 impl ScriptRun {
@@ -69,6 +72,7 @@ impl ScriptRun {
     pub fn writes(&self) -> &Writes
         ensures value { result.now ≡ self.now.writes }
         ensures few { length self.now.writes ≤ self.now.next }
+        ensures once { AreDistinct self.now.writes }
     {
         &self.writes
     }

@@ -191,7 +191,6 @@ module _ (a b : ArenaView) (s : ℕ) (w : Version) (fc : ℕ) (e : at a s ≡ So
   pub keeps : (u : ℕ) → (u == s) ≡ false → at b u ≡ at a u
   keeps u q = ats u ∙ ap (λ (t : Bool). if t then option_map (settled fc) (at a u) else at a u) q
 
-
 module _ (a b : ArenaView) (s : ℕ) (w : Version) (fc : ℕ) (p : Option ℕ) (c : IsChains a) (l : AreLists b) (e : at a s ≡ Some w)
     (ats : (u : ℕ) → at b u ≡ (if u == s then option_map (settled fc) (at a u) else at a u))
     (rows : (k : KeyId) → key_list b k ≡ (if key_names k w then put_before p s (taken s (key_list a k)) else key_list a k))

@@ -1,5 +1,6 @@
 -- The first line that is refused is the first bad line, and bad for that reason.
 use Rattle.std.proofs.Common.{Bool, List, None, Option, Some, [], ap, append_assoc, arith, false, length, length-append, map, nat_lt, refl, subst, sym, take, true, ℕ, ◌++◌, ◌+◌, ◌<◌, ◌∙◌, ◌∷◌, ◌≡◌}
+use Rattle.std.proofs.lemmas.Bool.{and_from}
 use Rattle.std.proofs.Math.Seq.{take-append_seam}
 use Rattle.std.proofs.lemmas.Bool.Decides.{nat_tests}
 use Rattle.std.proofs.lemmas.List.{length-map, map-append}
@@ -10,7 +11,6 @@ use Rattle.scene_text.proofs.Taking.LinesInOrder.{place_next}
 use Rattle.scene_text.proofs.Taking.SessionLines.{taken-append, taken_on}
 use Rattle.scene_text.proofs.FirstBad.FirstLines.{TextsTaken, in_range_taken, one_state, parted, start_taken, taken_in_range, taken_start, texts_same}
 use Rattle.scene_text.proofs.Taking.LinesTaken.{goes_on_from, is_taken, taken}
-use Rattle.scene_text.proofs.Spelling.NumberTests.{both}
 use Rattle.scene_text.proofs.Taking.WiderLimits.{lines_more, past, wider, within_first}
 use Rattle.scene_text.specs.FirstBad.{IsBadFor, IsFirstBadLine, IsFormed, IsInRange, IsStart}
 use Rattle.scene_text.specs.LineOrder.{Place, follows, place_after}
@@ -107,7 +107,7 @@ less_past n a b l = grind (arith, nat_tests)
 room_past : (a : Limits) (s : State) (l : Line) → has_room (wider a (past s)) s l ≡ true
 room_past a s (LPart p row) = less_past _ _ _ (omega arith)
 room_past a s (LSession n) =
-    both _ _ (less_past (length s.draft.sessions) a.sessions (length s.draft.sessions + 1) (omega arith))
+    and_from _ _ (less_past (length s.draft.sessions) a.sessions (length s.draft.sessions + 1) (omega arith))
     (less_past (count_at n s.draft.sessions) a.at_node (length s.draft.sessions + 1) (omega (arith, count_by-le-length (λ x. same_node x.node n) s.draft.sessions)))
 room_past a s LTx = less_past (tx_count (settled s).sessions) a.txs (tx_count (settled s).sessions + 1) (omega arith)
 room_past a s (LGet name p) = less_past _ _ _ (omega arith)

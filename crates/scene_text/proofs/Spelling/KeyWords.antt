@@ -1,9 +1,10 @@
 -- Keys and byte strings as text: each has one spelling.
 use Rattle.std.proofs.Common.{Bool, List, None, Option, Some, [], ap, append_assoc, arith, false, length, nat_lt, refl, subst, sym, true, ℕ, ◌%◌, ◌*◌, ◌++◌, ◌+◌, ◌-◌, ◌/◌, ◌<◌, ◌∙◌, ◌∷◌, ◌≡◌, ◌≤◌}
+use Rattle.std.proofs.lemmas.Bool.{and_from, and_parts}
 use Rattle.std.proofs.lemmas.Bool.Decides.{nat_tests}
 use Rattle.std.specs.List.{list_all}
 use Rattle.std.specs.Prelude.{flat_map}
-use Rattle.scene_text.proofs.Spelling.PartedBytes.{both, one_answer, parts}
+use Rattle.scene_text.proofs.Spelling.PartedBytes.{one_answer}
 use Rattle.scene_text.specs.HexDigits.{digit_number, is_hex, paired}
 use Rattle.scene_text.specs.LineReading.{Spells, SpellsBytes, SpellsKey, SpellsNoBytes, SpellsNoKey, SpellsNone, is_without}
 use Rattle.scene_text.specs.LineTexts.{AreBytes, key_text}
@@ -86,13 +87,13 @@ pub pairs_again : (ds : List ℕ) → list_all is_hex ds ≡ true → length ds 
 pairs_again [] e even = record { again = refl; are_bytes = refl; half = refl }
 pairs_again (a ∷ []) e even = absurd (omega arith)
 pairs_again (a ∷ b ∷ cs) e even =
-    let p = parts (is_hex a) (list_all is_hex (b ∷ cs)) e in
-    let q = parts (is_hex b) (list_all is_hex cs) p.1 in
+    let p = and_parts (is_hex a) (list_all is_hex (b ∷ cs)) e in
+    let q = and_parts (is_hex b) (list_all is_hex cs) p.1 in
     let k = pair_again a b p.0 q.0 in
     let r = pairs_again cs q.1 (omega arith) in
     record {
       again = λ i. k.0 i ++ r.again i;
-      are_bytes = both _ _ (grind (arith, nat_tests, k.1)) r.are_bytes;
+      are_bytes = and_from _ _ (grind (arith, nat_tests, k.1)) r.are_bytes;
       half = omega (arith, r.half);
     }
 
@@ -100,10 +101,10 @@ pairs_again (a ∷ b ∷ cs) e even =
 pub bytes_digits : (bytes : List ℕ) → AreBytes bytes → (list_all is_hex (flat_map hex_byte bytes) ≡ true) × (length (flat_map hex_byte bytes) ≡ 2 * length bytes)
 bytes_digits [] e = (refl, refl)
 bytes_digits (b ∷ bs) e =
-    let p = parts (nat_lt b 256) (list_all (λ c. nat_lt c 256) bs) e in
+    let p = and_parts (nat_lt b 256) (list_all (λ c. nat_lt c 256) bs) e in
     let small : b < 256 = grind (arith, nat_tests) in
     let r = bytes_digits bs p.1 in
-    (both _ _ (digit_of (b / 16) (omega arith)).0 (both _ _ (digit_of (b % 16) (omega arith)).0 r.0), omega (arith, r.1))
+    (and_from _ _ (digit_of (b / 16) (omega arith)).0 (and_from _ _ (digit_of (b % 16) (omega arith)).0 r.0), omega (arith, r.1))
 
 -- no byte string has digits of an odd number
 pub odd_none : (text ds : List ℕ) → text ≡ 120 ∷ ds → ¬ (length ds % 2 ≡ 0) → SpellsNoBytes text

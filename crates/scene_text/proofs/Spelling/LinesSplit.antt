@@ -1,9 +1,9 @@
 -- Bytes have one split into lines and a tail.
 use Rattle.std.proofs.Common.{Bool, List, Some, [], ap, append_assoc, arith, false, not, refl, slice_get, subst, suc, sym, true, zero, ℕ, ◌++◌, ◌==◌, ◌∙◌, ◌∷◌, ◌≡◌}
+use Rattle.std.proofs.lemmas.Bool.{and_from}
 use Rattle.std.proofs.lemmas.Bool.Decides.{nat_tests}
 use Rattle.std.specs.List.{list_all}
 use Rattle.std.specs.Prelude.{flat_map}
-use Rattle.scene_text.proofs.Spelling.NumberTests.{both}
 use Rattle.scene_text.specs.FirstBad.{IsSplit}
 use Rattle.str_scene.proofs.Without.{is_without-here, split_unique}
 use Rattle.str_scene.specs.Spelling.{ended}
@@ -36,7 +36,7 @@ byte_more : (b : ℕ) (bytes : List ℕ) (lines : List (List ℕ)) (tail : List 
 byte_more b bytes [] tail e s = record {
   lines = [];
   tail = b ∷ tail;
-  is = record { parts = ap (λ xs. b ∷ xs) s.parts; without_feed = λ i x p. absurd (cc); tail_without = both _ _ e s.tail_without };
+  is = record { parts = ap (λ xs. b ∷ xs) s.parts; without_feed = λ i x p. absurd (cc); tail_without = and_from _ _ e s.tail_without };
 }
 byte_more b bytes (line ∷ lines) tail e s = record {
   lines = (b ∷ line) ∷ lines;
@@ -45,7 +45,7 @@ byte_more b bytes (line ∷ lines) tail e s = record {
 }
   where
     without : (i : ℕ) (x : List ℕ) → slice_get ((b ∷ line) ∷ lines) i ≡ Some x → list_all (λ c. not (c == 10)) x ≡ true
-    without zero x p = let same : b ∷ line ≡ x = cc in subst (λ y. is_without 10 y ≡ true) same (both _ _ e (s.without_feed 0 line refl))
+    without zero x p = let same : b ∷ line ≡ x = cc in subst (λ y. is_without 10 y ≡ true) same (and_from _ _ e (s.without_feed 0 line refl))
     without (suc i) x p = s.without_feed (suc i) x p
 
 -- any byte

@@ -60,11 +60,6 @@ pub plain_none : (text : List ℕ) → SpellsNone text → ((rest : List ℕ) �
 plain_none text none no_minus (pos n) e = none n e
 plain_none text none no_minus (negsuc n) e = no_minus (numeral (suc n)) e
 
--- a test that does not pass
-pub not_is_false : (b : Bool) → not b ≡ false → b ≡ true
-not_is_false true e = refl
-not_is_false false e = absurd (cc)
-
 -- a test and its opposite
 pub true_not : (b : Bool) → IsTrue (not b) → IsTrue b → ⊥
 true_not true t u = absurd (cc)

@@ -1,5 +1,7 @@
 -- Decimals of any size: each number has one, of digits alone, and digits without a leading zero are one.
-use Rattle.std.proofs.Common.{Bool, List, [], ap, append_assoc, arith, decimal, false, get_or, map, refl, suc, sym, true, zero, ℕ, ℤ, pos, negsuc, inl, inr, ◌&&◌, ◌*◌, ◌++◌, ◌+◌, ◌-◌, ◌/◌, ◌%◌, ◌<◌, ◌==◌, ◌^◌, ◌∙◌, ◌∷◌, ◌≡◌, ◌≤◌, ◌⊎◌, not}
+use Rattle.std.proofs.Common.{List, [], ap, append_assoc, arith, decimal, false, get_or, map, refl, suc, sym, true, zero, ℕ, ℤ, pos, negsuc, inl, inr, ◌*◌, ◌++◌, ◌+◌, ◌-◌, ◌/◌, ◌%◌, ◌<◌, ◌==◌, ◌^◌, ◌∙◌, ◌∷◌, ◌≡◌, ◌≤◌, ◌⊎◌, not}
+use Rattle.std.proofs.lemmas.Bool.{and_from, and_parts}
+use Rattle.str_base.proofs.DecimalLemmas.{list_all-other}
 use Rattle.std.proofs.lemmas.Bool.Decides.{nat_tests}
 use Rattle.std.proofs.lemmas.Fmt.{decimal-digits_of, decimal_digit}
 use Rattle.std.proofs.lemmas.Int.Digits.{all_below_base_digits_of, digits_of_step, first_digits_of, number_after_ge, same_from_digits_of}
@@ -10,15 +12,6 @@ use Rattle.std.specs.Int.Digits.{AllBelowBase, digits_of, number_from_digits, nu
 use Rattle.std.specs.List.{list_all}
 use Rattle.scene_text.specs.Numerals.{numeral, signed_numeral}
 use Rattle.str_scene.specs.SceneLimits.{IsNumber}
-
--- each of two tests that both pass
-parts : (a b : Bool) → (a && b) ≡ true → (a ≡ true) × (b ≡ true)
-parts true b e = (refl, e)
-parts false b e = absurd (cc)
-
--- both tests pass
-both : (a b : Bool) → a ≡ true → b ≡ true → (a && b) ≡ true
-both a b e f = rw (e, f)
 
 -- the decimal of zero
 pub numeral-zero : numeral 0 ≡ 48 ∷ []
@@ -47,7 +40,7 @@ digit_passes d h = grind (arith, nat_tests)
 
 all_digits : (ds : List ℕ) → AllBelowBase 10 ds → list_all is_ascii_digit (map (λ d. 48 + d) ds) ≡ true
 all_digits [] h = refl
-all_digits (d ∷ ds) h = both _ _ (digit_passes d h.0) (all_digits ds h.1)
+all_digits (d ∷ ds) h = and_from _ _ (digit_passes d h.0) (all_digits ds h.1)
 
 -- each byte of a decimal is a digit
 pub numeral-digits : (n : ℕ) → list_all is_ascii_digit (numeral n) ≡ true
@@ -80,7 +73,7 @@ digit_is c e = (grind (arith, nat_tests), grind (arith, nat_tests))
 digits_again : (bs : List ℕ) → list_all is_ascii_digit bs ≡ true → map (λ d. 48 + d) (values bs) ≡ bs
 digits_again [] e = refl
 digits_again (c ∷ cs) e =
-    let p = parts (is_ascii_digit c) (list_all is_ascii_digit cs) e in
+    let p = and_parts (is_ascii_digit c) (list_all is_ascii_digit cs) e in
     let d = digit_is c p.0 in
     let same : 48 + (c - 48) ≡ c = omega arith in
     rw (same, digits_again cs p.1) refl
@@ -88,7 +81,7 @@ digits_again (c ∷ cs) e =
 values_below : (bs : List ℕ) → list_all is_ascii_digit bs ≡ true → AllBelowBase 10 (values bs)
 values_below [] e = tt
 values_below (c ∷ cs) e =
-    let p = parts (is_ascii_digit c) (list_all is_ascii_digit cs) e in
+    let p = and_parts (is_ascii_digit c) (list_all is_ascii_digit cs) e in
     let d = digit_is c p.0 in
     (omega arith, values_below cs p.1)
 
@@ -159,7 +152,7 @@ numeral_first n = begins (numeral n) (numeral_starts n) (numeral-digits n)
     begins : (ds : List ℕ) → (ds ≡ 48 ∷ []) ⊎ (48 < get_or ds 0 0) → list_all is_ascii_digit ds ≡ true → (48 ≤ get_or ds 0 0) × (get_or ds 0 0 ≤ 57)
     begins [] (inl s) e = absurd (cc)
     begins [] (inr s) e = absurd (omega arith)
-    begins (c ∷ cs) s e = digit_is c (parts (is_ascii_digit c) (list_all is_ascii_digit cs) e).0
+    begins (c ∷ cs) s e = digit_is c (and_parts (is_ascii_digit c) (list_all is_ascii_digit cs) e).0
 
 -- the same of signed numbers: two of one decimal are one
 pub signed_numeral-injective : (y z : ℤ) → signed_numeral y ≡ signed_numeral z → y ≡ z
@@ -171,22 +164,11 @@ signed_numeral-injective (negsuc m) (negsuc n) e =
     let same : suc m ≡ suc n = numeral-injective (suc m) (suc n) rest in
     ap negsuc (omega arith)
 
--- where a test holds of each byte and not of c, no byte is c
-all_other : (p : ℕ → Bool) (c : ℕ) → p c ≡ false → (bs : List ℕ) → list_all p bs ≡ true → list_all (λ b. not (b == c)) bs ≡ true
-all_other p c no_c [] e = refl
-all_other p c no_c (b ∷ bs) e =
-    let k = parts (p b) (list_all p bs) e in
-    both _ _ (by_answer (b == c) refl k.0) (all_other p c no_c bs k.1)
-  where
-    by_answer : (a : Bool) → (b == c) ≡ a → p b ≡ true → not a ≡ true
-    by_answer true e passes = let same : b ≡ c = grind (arith, nat_tests) in absurd (cc (ap p same))
-    by_answer false e passes = refl
-
 -- no byte that is not a digit stands in a decimal
 pub numeral-without : (c n : ℕ) → is_ascii_digit c ≡ false → list_all (λ b. not (b == c)) (numeral n) ≡ true
-numeral-without c n no_digit = all_other is_ascii_digit c no_digit (numeral n) (numeral-digits n)
+numeral-without c n no_digit = list_all-other is_ascii_digit c no_digit (numeral n) (numeral-digits n)
 
 -- and but for the minus in a signed one
 pub signed_numeral-without : (c : ℕ) (z : ℤ) → is_ascii_digit c ≡ false → not (45 == c) ≡ true → list_all (λ b. not (b == c)) (signed_numeral z) ≡ true
 signed_numeral-without c (pos n) no_digit no_minus = numeral-without c n no_digit
-signed_numeral-without c (negsuc n) no_digit no_minus = both _ _ no_minus (numeral-without c (suc n) no_digit)
+signed_numeral-without c (negsuc n) no_digit no_minus = and_from _ _ no_minus (numeral-without c (suc n) no_digit)

@@ -1,5 +1,6 @@
 -- The replicas of a partition as text.
 use Rattle.std.proofs.Common.{List, None, Option, Some, [], ap, append_assoc, arith, length, length-append, nat_lt, refl, subst, sym, true, ℕ, ◌&&◌, ◌++◌, ◌<◌, ◌∙◌, ◌∷◌, ◌≡◌, ◌≤◌}
+use Rattle.std.proofs.lemmas.Bool.{and_from, and_parts}
 use Rattle.std.proofs.lemmas.Bool.Decides.{nat_tests}
 use Rattle.std.proofs.lemmas.Grind.{flat_map-append}
 use Rattle.std.proofs.lemmas.List.Folds.{list_all-append}
@@ -9,7 +10,6 @@ use Rattle.std.specs.List.{list_all}
 use Rattle.std.specs.Option.{SomeIff, option_zip}
 use Rattle.scene_text.proofs.Spelling.Arguments.{zip_none}
 use Rattle.scene_text.proofs.Spelling.Numerals.{numeral-injective, numeral-without}
-use Rattle.scene_text.proofs.Spelling.PartedBytes.{both, parts}
 use Rattle.scene_text.specs.LineReading.{ReadsArguments, ReadsNoArguments, RowFits, Spells, SpellsNoRow, SpellsNone, SpellsRow, is_without, row_text}
 use Rattle.scene_text.specs.Numerals.{numeral}
 use Rattle.scene_text.specs.declared.lines.Line.TheVariants.{Part}
@@ -140,7 +140,7 @@ row_no_last text left kept so_far h none row some f =
 -- replicas that fit without the last one, and the last one
 pub fits_front : (row : List NodeId) (n : ℕ) → RowFits (row ++ record { 0 = n } ∷ []) → RowFits row × (n < 256)
 fits_front row n h =
-    let all = parts (list_all (λ r. nat_lt r.0 256) row) (nat_lt n 256 && true) (sym (list_all-append (λ r. nat_lt r.0 256) row (record { 0 = n } ∷ [])) ∙ h.1) in
+    let all = and_parts (list_all (λ r. nat_lt r.0 256) row) (nat_lt n 256 && true) (sym (list_all-append (λ r. nat_lt r.0 256) row (record { 0 = n } ∷ [])) ∙ h.1) in
     ((omega (arith, h.0, length-append row (record { 0 = n } ∷ [])), all.0), below n all.1)
   where
     below : (m : ℕ) → (nat_lt m 256 && true) ≡ true → m < 256
@@ -150,7 +150,7 @@ fits_front row n h =
 pub fits_more : (row : List NodeId) (n : ℕ) → RowFits row → length row < 8 → n < 256 → RowFits (row ++ record { 0 = n } ∷ [])
 fits_more row n h few small =
     let last : nat_lt n 256 ≡ true = grind (arith, nat_tests) in
-    (omega (arith, length-append row (record { 0 = n } ∷ [])), list_all-append (λ r. nat_lt r.0 256) row (record { 0 = n } ∷ []) ∙ both _ _ h.1 (both _ _ last refl))
+    (omega (arith, length-append row (record { 0 = n } ∷ [])), list_all-append (λ r. nat_lt r.0 256) row (record { 0 = n } ∷ []) ∙ and_from _ _ h.1 (and_from _ _ last refl))
 
 -- one part before the first space of a line of a partition, and replicas after it
 part_parts : (text a b : List ℕ) (p : PartId) (row : List NodeId) → text ≡ a ++ 32 ∷ b → is_without 32 a ≡ true → 1 ≤ length row → numeral p.0 ++ row_text row ≡ text → (a ≡ numeral p.0) × (32 ∷ b ≡ row_text row)

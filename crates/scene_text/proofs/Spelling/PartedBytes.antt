@@ -1,5 +1,6 @@
 -- Bytes parted at a byte, and at a prefix.
-use Rattle.std.proofs.Common.{Bool, Bor, IfSome, IsNone, List, MatchOption, None, Option, Some, [], add-one, ap, append_assoc, arith, drop, drop-cons, eqb, false, get_or, length, not, refl, sym, take, true, ℕ, ◌&&◌, ◌++◌, ◌+◌, ◌<◌, ◌==◌, ◌∙◌, ◌∷◌, ◌≡◌, ◌≤◌}
+use Rattle.std.proofs.Common.{Bool, Bor, IfSome, IsNone, List, MatchOption, None, Option, Some, [], add-one, ap, append_assoc, arith, drop, drop-cons, eqb, false, get_or, length, refl, sym, take, true, ℕ, ◌++◌, ◌+◌, ◌<◌, ◌==◌, ◌∙◌, ◌∷◌, ◌≡◌, ◌≤◌}
+use Rattle.std.proofs.lemmas.Bool.{and_from}
 use Rattle.std.proofs.lemmas.Bool.Decides.{Decides-eqb, nat_tests}
 use Rattle.std.proofs.lemmas.List.Edits.{between_more}
 use Rattle.std.proofs.lemmas.List.Folds.{drop_split}
@@ -12,31 +13,10 @@ use Rattle.str_scene.specs.SceneLimits.{is_name}
 use Rattle.scene_text.specs.LineReading.{is_without}
 use Rattle.str_scene.proofs.Without.{is_without-append}
 
--- both tests pass
-pub both : (a b : Bool) → a ≡ true → b ≡ true → (a && b) ≡ true
-both a b e f = rw (e, f)
-
--- each of two tests that both pass
-pub parts : (a b : Bool) → (a && b) ≡ true → (a ≡ true) × (b ≡ true)
-parts true b e = (refl, e)
-parts false b e = absurd (cc)
-
--- a byte that a test passes is not one that it does not pass
-pub differs : (p : ℕ → Bool) (b c : ℕ) → p b ≡ true → p c ≡ false → not (b == c) ≡ true
-differs p b c yes_b no_c = by_answer (b == c) refl
-  where
-    by_answer : (a : Bool) → (b == c) ≡ a → not a ≡ true
-    by_answer true e = let same : b ≡ c = grind (arith, nat_tests) in absurd (cc (ap p same))
-    by_answer false e = refl
-
--- a byte is itself
-not_itself : (c : ℕ) → not (c == c) ≡ true → ⊥
-not_itself c e = grind (arith, nat_tests)
-
 -- one more byte of a range
 pub is_without_more : (c : ℕ) (xs : List ℕ) (from i : ℕ) → from ≤ i → i < length xs → ¬ (get_or xs i 0 ≡ c) → is_without c (slice_range xs from i) ≡ true → is_without c (slice_range xs from (i + 1)) ≡ true
 is_without_more c xs from i low high other before =
-    rw (between_more xs from i 0 low high) (is_without-append c _ _ before (both _ _ (grind (arith, nat_tests)) refl))
+    rw (between_more xs from i 0 low high) (is_without-append c _ _ before (and_from _ _ (grind (arith, nat_tests)) refl))
 
 -- the bytes from a place on, parted at a later place
 pub drop_parted : (xs : List ℕ) (from i b : ℕ) → from ≤ i → slice_get xs i ≡ Some b → drop from xs ≡ slice_range xs from i ++ b ∷ drop (i + 1) xs

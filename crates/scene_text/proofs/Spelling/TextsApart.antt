@@ -1,5 +1,6 @@
 -- Each line of the form has a text of its own, in which no line feed stands.
 use Rattle.std.proofs.Common.{List, [], ap, append_assoc, arith, codes, get_or, length, length-append, nat_lt, not, refl, sym, true, ℕ, ◌%◌, ◌++◌, ◌+◌, ◌*◌, ◌/◌, ◌<◌, ◌==◌, ◌∙◌, ◌∷◌, ◌≡◌}
+use Rattle.std.proofs.lemmas.Bool.{and_from, and_parts}
 use Rattle.std.proofs.lemmas.Bool.Decides.{nat_tests}
 use Rattle.std.proofs.lemmas.List.{append_cancel_left}
 use Rattle.std.specs.List.{list_all}
@@ -9,7 +10,6 @@ use Rattle.scene_text.specs.LineTexts.{AreBytes, IsForm, bytes_text, key_text, l
 use Rattle.scene_text.specs.Numerals.{numeral, signed_numeral}
 use Rattle.scene_text.specs.declared.lines.Line.{Line}
 use Rattle.scene_text.specs.declared.lines.Line.TheVariants.{Abort as LAbort, Add as LAdd, Client as LClient, Del as LDel, Deliver as LDeliver, Drain as LDrain, End as LEnd, Get as LGet, Need as LNeed, Nodes as LNodes, Part as LPart, Put as LPut, Puts as LPuts, Schedule as LSchedule, Session as LSession, Tx as LTx, Version as LVersion}
-use Rattle.scene_text.proofs.Spelling.NumberTests.{both, parts}
 use Rattle.str_base.specs.declared.names.NodeId.{NodeId}
 use Rattle.str_base.specs.declared.names.PartId.{PartId}
 use Rattle.str_scene.proofs.Without.{is_without-append, is_without-name, split_unique}
@@ -85,8 +85,8 @@ hex-injective [] [] a b e = refl
 hex-injective [] (y ∷ ys) a b e = absurd (cc)
 hex-injective (x ∷ xs) [] a b e = absurd (cc)
 hex-injective (x ∷ xs) (y ∷ ys) a b e =
-    let p = parts (nat_lt x 256) (list_all (λ z. nat_lt z 256) xs) a in
-    let q = parts (nat_lt y 256) (list_all (λ z. nat_lt z 256) ys) b in
+    let p = and_parts (nat_lt x 256) (list_all (λ z. nat_lt z 256) xs) a in
+    let q = and_parts (nat_lt y 256) (list_all (λ z. nat_lt z 256) ys) b in
     let small : nat_lt x 256 ≡ true = p.0 in
     let less : nat_lt y 256 ≡ true = q.0 in
     let x_fits : x < 256 = grind (arith, nat_tests) in
@@ -173,7 +173,7 @@ hex_digit-no_feed n = grind (arith, nat_tests)
 
 hex-no_feed : (xs : List ℕ) → is_without 10 (flat_map hex_byte xs) ≡ true
 hex-no_feed [] = refl
-hex-no_feed (x ∷ xs) = both _ _ (hex_digit-no_feed (x / 16)) (both _ _ (hex_digit-no_feed (x % 16)) (hex-no_feed xs))
+hex-no_feed (x ∷ xs) = and_from _ _ (hex_digit-no_feed (x / 16)) (and_from _ _ (hex_digit-no_feed (x % 16)) (hex-no_feed xs))
 
 -- nor in a key
 key-no_feed : (name : List ℕ) (p : PartId) → is_name name ≡ true → is_without 10 (key_text name p) ≡ true

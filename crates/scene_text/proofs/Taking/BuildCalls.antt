@@ -1,5 +1,9 @@
 -- What the calls by which a scene is built say of the lines that are taken.
 use Rattle.std.proofs.Common.{Bool, Err, IfErr, List, None, Ok, Result, Option, Some, [], ap, arith, false, inl, inr, length, nat_le, nat_lt, not, refl, subst, sym, true, ℕ, ◌&&◌, ◌+◌, ◌<◌, ◌==◌, ◌||◌, ◌^◌, ◌∙◌, ◌∷◌, ◌≡◌, ◌≤◌}
+use Rattle.str_base.proofs.Tests.{not_zero}
+use Rattle.str_scene.proofs.Checked.{no_fault}
+use Rattle.str_base.specs.declared.limits.TheConstants.{NODES, NODE_SESSIONS, PARTITIONS, REPLICAS, SCHEDULE_ENTRIES, SESSIONS, TRANSACTIONS}
+use Rattle.std.proofs.lemmas.Bool.{and_from, lt-ltb}
 use Rattle.std.proofs.lemmas.Bool.Decides.{Decides-eqb, nat_tests}
 use Rattle.std.proofs.lemmas.Option.{none-some, same_Some}
 use Rattle.std.specs.List.{list_all, list_any}
@@ -14,7 +18,6 @@ use Rattle.std.specs.Option.{SomeIff}
 use Rattle.scene_text.proofs.FirstBad.ReaderKnows.{out_of_place}
 use Rattle.str_scene.specs.declared.faults.Why.{Why}
 use Rattle.str_scene.specs.declared.faults.Why.TheVariants.{Count as Many, Form as No, Range as Out}
-use Rattle.scene_text.proofs.Spelling.NumberTests.{both}
 use Rattle.scene_text.specs.LineOrder.{Place, entry_follows, follows, nodes_follow, op_follows, part_follows, section_follows, version_follows}
 use Rattle.scene_text.specs.LineOrder.Place.{AfterDrain, AfterNodes, AfterOp, AfterPart, AfterSession, AfterTx, AfterVersion, AtStart, InSchedule}
 use Rattle.scene_text.specs.Reading.{IsBadText, IsReached, IsRefusedFor, RefusesText}
@@ -36,13 +39,6 @@ use Rattle.str_scene.specs.declared.faults.SceneFault.TheVariants.{Count, Form, 
 use Rattle.str_scene.specs.declared.names.Op.{Op}
 use Rattle.str_scene.specs.declared.names.Op.TheVariants.{Abort, Add, Del, Get, Need, Put, Puts}
 
--- nothing fails
-pub fault_none : (a b c : Bool) → first_fault a b c ≡ None → (a ≡ true) × (b ≡ true) × (c ≡ true)
-fault_none true true true e = (refl, refl, refl)
-fault_none true true false e = absurd (none-some _ (sym e))
-fault_none true false c e = absurd (none-some _ (sym e))
-fault_none false b c e = absurd (none-some _ (sym e))
-
 -- what a state that was reached keeps
 pub stands : (s : State) → IsReached s → Stands scene_limits s
 stands s r = reached_stands r.text r.count s r.reached
@@ -51,7 +47,7 @@ stands s r = reached_stands r.text r.count s r.reached
 pub judged_ok : (s : State) (l : Line) (next : Place) (a b c : Bool) → follows s.draft.version s.place l ≡ Some next → first_fault a b c ≡ None →
     in_range s.draft l ≡ b → has_room scene_limits s l ≡ c → take_line scene_limits s l ≡ Now (after next s l)
 judged_ok s l next a b c order none range room =
-    let k = fault_none a b c none in
+    let k = no_fault a b c none in
     taken scene_limits s l next order (range ∙ k.1) (room ∙ k.2)
 
 -- a line whose numbers are out of range
@@ -82,16 +78,13 @@ judged_refused s l next a b c f order may (inl some) range room = judged_err s l
 judged_refused s l next a b c f order may (inr none) range room = subst (IsRefusedFor s l) (sym none.1) tt
 
 -- lists with and without members
-some_yet : {X : Type 0} (xs : List X) → 1 ≤ length xs → not (is_none_yet xs) ≡ true
+pub some_yet : {X : Type 0} (xs : List X) → 1 ≤ length xs → not (is_none_yet xs) ≡ true
 some_yet [] some = absurd (omega arith)
 some_yet (x ∷ xs) some = refl
 
 none_yet : {X : Type 0} (xs : List X) → xs ≡ [] → is_none_yet xs ≡ true
 none_yet [] e = refl
 none_yet (x ∷ xs) e = absurd (cc)
-
-not_zero : (n : ℕ) → 1 ≤ n → not (n == 0) ≡ true
-not_zero n h = grind (arith, nat_tests)
 
 -- where the line of the nodes may stand, the nodes may be given
 pub nodes_may : (place : Place) (d : Scene) (ops : List Op) (next : Place) → At scene_limits place d ops → nodes_follow place ≡ Some next → may_have_nodes d ≡ true
@@ -101,20 +94,20 @@ nodes_may _ d ops next a e = absurd (none-some _ e)
 -- and so on
 pub part_may : (place : Place) (d : Scene) (ops : List Op) (next : Place) → At scene_limits place d ops → part_follows place ≡ Some next → may_have_part d ≡ true
 part_may AfterNodes d ops next a e =
-    both _ _ (not_zero d.nodes a.1.0)
-    (both _ _ (none_yet d.sessions (ap (λ x. x.sessions) a.2)) (both _ _ (none_yet d.schedule (ap (λ x. x.schedule) a.2)) (ap (λ x. not x.drain) a.2)))
+    and_from _ _ (not_zero d.nodes a.1.0)
+    (and_from _ _ (none_yet d.sessions (ap (λ x. x.sessions) a.2)) (and_from _ _ (none_yet d.schedule (ap (λ x. x.schedule) a.2)) (ap (λ x. not x.drain) a.2)))
 part_may AfterPart d ops next a e =
-    both _ _ (not_zero d.nodes a.0.head.nodes.0) (both _ _ (none_yet d.sessions a.1) (both _ _ (none_yet d.schedule a.0.no_entry) (ap not a.0.no_drain)))
+    and_from _ _ (not_zero d.nodes a.0.head.nodes.0) (and_from _ _ (none_yet d.sessions a.1) (and_from _ _ (none_yet d.schedule a.0.no_entry) (ap not a.0.no_drain)))
 part_may _ d ops next a e = absurd (none-some _ e)
 
 pub session_may : (d : Scene) → Bodied d → may_have_session d ≡ true
-session_may d b = both _ _ (some_yet d.parts b.head.parts) (both _ _ (none_yet d.schedule b.no_entry) (ap not b.no_drain))
+session_may d b = and_from _ _ (some_yet d.parts b.head.parts) (and_from _ _ (none_yet d.schedule b.no_entry) (ap not b.no_drain))
 
 tx_may : (d : Scene) → InBody d → may_have_tx d ≡ true
-tx_may d b = both _ _ (some_yet d.sessions b.some) (both _ _ (none_yet d.schedule b.body.no_entry) (ap not b.body.no_drain))
+tx_may d b = and_from _ _ (some_yet d.sessions b.some) (and_from _ _ (none_yet d.schedule b.body.no_entry) (ap not b.body.no_drain))
 
 -- where an operation may stand
-pub op_body : (place : Place) (d : Scene) (ops : List Op) (next : Place) → At scene_limits place d ops → op_follows place ≡ Some next → InBody d × (tx_count d.sessions < 1024) × (next ≡ AfterOp)
+pub op_body : (place : Place) (d : Scene) (ops : List Op) (next : Place) → At scene_limits place d ops → op_follows place ≡ Some next → InBody d × (tx_count d.sessions < TRANSACTIONS) × (next ≡ AfterOp)
 op_body AfterTx d ops next a e = (a.0, a.1, sym (same_Some _ _ e))
 op_body AfterOp d ops next a e = (a.0, a.1, sym (same_Some _ _ e))
 op_body _ d ops next a e = absurd (none-some _ e)
@@ -123,26 +116,22 @@ pub op_may : (place : Place) (d : Scene) (ops : List Op) (next : Place) → At s
 op_may place d ops next a e = tx_may d (op_body place d ops next a e).0
 
 pub entry_may : (place : Place) (d : Scene) (ops : List Op) (m next : Place) → At scene_limits place d ops → entry_follows m place ≡ Some next → may_have_entry d ≡ true
-entry_may InSchedule d ops m next a e = both _ _ (some_yet d.parts a.0.parts) (ap not a.1)
+entry_may InSchedule d ops m next a e = and_from _ _ (some_yet d.parts a.0.parts) (ap not a.1)
 entry_may _ d ops m next a e = absurd (none-some _ e)
-
--- less, as a test
-less_is : (a b : ℕ) → a < b → nat_lt a b ≡ true
-less_is a b l = grind (arith, nat_tests)
 
 -- operations of the table are known to it
 op_known : (v : ℕ) (table : KeyTable) (op : Op) → IsOp v table op → is_known table op ≡ true
-op_known v table (Get k) h = less_is k.0 (length table.names) h
-op_known v table (Put k n) h = less_is k.0 (length table.names) h.0
-op_known v table (Puts k t) h = both (nat_lt k.0 (length table.names)) (nat_lt t.0 (length table.texts)) (less_is k.0 (length table.names) h.0) (less_is t.0 (length table.texts) h.1)
-op_known v table (Add k n) h = less_is k.0 (length table.names) h.0
-op_known v table (Del k) h = less_is k.0 (length table.names) h
-op_known v table (Need k n) h = less_is k.0 (length table.names) h.0
+op_known v table (Get k) h = lt-ltb k.0 (length table.names) h
+op_known v table (Put k n) h = lt-ltb k.0 (length table.names) h.0
+op_known v table (Puts k t) h = and_from (nat_lt k.0 (length table.names)) (nat_lt t.0 (length table.texts)) (lt-ltb k.0 (length table.names) h.0) (lt-ltb t.0 (length table.texts) h.1)
+op_known v table (Add k n) h = lt-ltb k.0 (length table.names) h.0
+op_known v table (Del k) h = lt-ltb k.0 (length table.names) h
+op_known v table (Need k n) h = lt-ltb k.0 (length table.names) h.0
 op_known v table Abort h = refl
 
 ops_known : (v : ℕ) (table : KeyTable) (ops : List Op) → Each (IsOp v table) ops → list_all (is_known table) ops ≡ true
 ops_known v table [] h = refl
-ops_known v table (op ∷ ops) h = both _ _ (op_known v table op h.0) (ops_known v table ops h.1)
+ops_known v table (op ∷ ops) h = and_from _ _ (op_known v table op h.0) (ops_known v table ops h.1)
 
 -- byte strings are written in version 2 alone
 or_false : (v : ℕ) (a : Bool) → ((v ≡ 2 → ⊥) → a ≡ false) → ((v == 2) || not a) ≡ true
@@ -161,19 +150,19 @@ no_puts v table [] other h = refl
 no_puts v table (op ∷ ops) other h = rw (not_puts v table op other h.0) (no_puts v table ops other h.1)
 
 -- nothing is said against the open transaction where it has an operation
-pub tx_none : (d : Scene) (ops : List Op) → InBody d → tx_count d.sessions < 1024 → 1 ≤ length ops → Kept scene_limits d ops → tx_fault ops d ≡ None
+pub tx_none : (d : Scene) (ops : List Op) → InBody d → tx_count d.sessions < TRANSACTIONS → 1 ≤ length ops → Kept scene_limits d ops → tx_fault ops d ≡ None
 tx_none d ops b few some k =
-    let script : is_script d.version ops ≡ true = both _ _ (some_yet ops some) (or_false d.version (list_any is_puts ops) (λ other. no_puts d.version d.keys ops other k.open_ops)) in
-    no_fault (both _ _ (tx_may d b) script) (ops_known d.version d.keys ops k.open_ops) (less_is (tx_count d.sessions) 1024 few)
+    let script : is_script d.version ops ≡ true = and_from _ _ (some_yet ops some) (or_false d.version (list_any is_puts ops) (λ other. no_puts d.version d.keys ops other k.open_ops)) in
+    none_said (and_from _ _ (tx_may d b) script) (ops_known d.version d.keys ops k.open_ops) (lt-ltb (tx_count d.sessions) TRANSACTIONS few)
   where
-    no_fault : {x y z : Bool} → x ≡ true → y ≡ true → z ≡ true → first_fault x y z ≡ None
-    no_fault p q r = rw (p, q, r) refl
+    none_said : {x y z : Bool} → x ≡ true → y ≡ true → z ≡ true → first_fault x y z ≡ None
+    none_said p q r = rw (p, q, r) refl
 
 -- what is said of items, at the draft of a state
 pub nodes_refused : (s : State) (d : Scene) (n : ℕ) (next : Place) (f : SceneFault) → d ≡ s.draft → IsReached s → follows s.draft.version s.place (LNodes n) ≡ Some next →
     nodes_fault n d ≡ Some f → IsRefusedFor s (LNodes n) f
 nodes_refused s d n next f same r order e =
-    judged_err s (LNodes n) next (may_have_nodes s.draft) (is_up_to 8 n) true f order (nodes_may s.place s.draft s.ops next (stands s r).at_place order)
+    judged_err s (LNodes n) next (may_have_nodes s.draft) (is_up_to NODES n) true f order (nodes_may s.place s.draft s.ops next (stands s r).at_place order)
     (subst (λ x. nodes_fault n x ≡ Some f) same e) refl refl
 
 pub drain_refused : (s : State) (d : Scene) (next : Place) (f : SceneFault) → d ≡ s.draft → IsReached s → follows s.draft.version s.place LDrain ≡ Some next →
@@ -189,39 +178,39 @@ and_true false b e = refl
 pub client_refused : (s : State) (d : Scene) (c : SessionId) (t : ℕ) (next : Place) (f : SceneFault) → t < 2 ^ 64 → d ≡ s.draft → IsReached s →
     follows s.draft.version s.place (LClient c t) ≡ Some next → IsRefused (entry_fault (Client c t) d) f → IsRefusedFor s (LClient c t) f
 client_refused s d c t next f small same r order e =
-    judged_refused s (LClient c t) next (may_have_entry s.draft) (is_up_to (length s.draft.sessions) c.0) (nat_lt (length s.draft.schedule) 65536) f order
+    judged_refused s (LClient c t) next (may_have_entry s.draft) (is_up_to (length s.draft.sessions) c.0) (nat_lt (length s.draft.schedule) SCHEDULE_ENTRIES) f order
     (entry_may s.place s.draft s.ops InSchedule next (stands s r).at_place order)
-    (subst (λ x. IsRefused (entry_fault (Client c t) x) f) same e) (and_true (is_up_to (length s.draft.sessions) c.0) (nat_lt t (2 ^ 64)) (less_is t (2 ^ 64) small)) refl
+    (subst (λ x. IsRefused (entry_fault (Client c t) x) f) same e) (and_true (is_up_to (length s.draft.sessions) c.0) (nat_lt t (2 ^ 64)) (lt-ltb t (2 ^ 64) small)) refl
 
 pub deliver_refused : (s : State) (d : Scene) (i : ℕ) (next : Place) (f : SceneFault) → i < 2 ^ 64 → d ≡ s.draft → IsReached s →
     follows s.draft.version s.place (LDeliver i) ≡ Some next → IsRefused (entry_fault (Deliver i) d) f → IsRefusedFor s (LDeliver i) f
 deliver_refused s d i next f small same r order e =
-    judged_refused s (LDeliver i) next (may_have_entry s.draft) (nat_le 1 i) (nat_lt (length s.draft.schedule) 65536) f order
+    judged_refused s (LDeliver i) next (may_have_entry s.draft) (nat_le 1 i) (nat_lt (length s.draft.schedule) SCHEDULE_ENTRIES) f order
     (entry_may s.place s.draft s.ops InSchedule next (stands s r).at_place order)
-    (subst (λ x. IsRefused (entry_fault (Deliver i) x) f) same e) (and_true (nat_le 1 i) (nat_lt i (2 ^ 64)) (less_is i (2 ^ 64) small)) refl
+    (subst (λ x. IsRefused (entry_fault (Deliver i) x) f) same e) (and_true (nat_le 1 i) (nat_lt i (2 ^ 64)) (lt-ltb i (2 ^ 64) small)) refl
 
 -- a row of the next number is in range where its nodes are
-row_range : (d : Scene) (p : PartId) (row : List NodeId) → p.0 ≡ length d.parts + 1 → length row ≤ 8 → in_range d (LPart p row) ≡ row_is d.nodes row
+row_range : (d : Scene) (p : PartId) (row : List NodeId) → p.0 ≡ length d.parts + 1 → length row ≤ REPLICAS → in_range d (LPart p row) ≡ row_is d.nodes row
 row_range d p row e few =
     let number : (p.0 == length d.parts + 1) ≡ true = (Decides-eqb p.0 (length d.parts + 1)).1 e in
-    let short : nat_le (length row) 8 ≡ true = grind (arith, nat_tests) in
-    ap (λ a. a && (nat_le (length row) 8 && row_is d.nodes row)) number ∙ ap (λ a. a && row_is d.nodes row) short
+    let short : nat_le (length row) REPLICAS ≡ true = grind (arith, nat_tests) in
+    ap (λ a. a && (nat_le (length row) REPLICAS && row_is d.nodes row)) number ∙ ap (λ a. a && row_is d.nodes row) short
 
 part_stands : (s : State) (p : PartId) (row : List NodeId) (next : Place) → IsReached s → follows s.draft.version s.place (LPart p row) ≡ Some next → 1 ≤ length row →
     (may_have_part s.draft && not (is_none_yet row)) ≡ true
-part_stands s p row next r order some = both _ _ (part_may s.place s.draft s.ops next (stands s r).at_place order) (some_yet row some)
+part_stands s p row next r order some = and_from _ _ (part_may s.place s.draft s.ops next (stands s r).at_place order) (some_yet row some)
 
-pub part_refused : (s : State) (d : Scene) (p : PartId) (row : List NodeId) (next : Place) (f : SceneFault) → p.0 ≡ length d.parts + 1 → length row ≤ 8 → 1 ≤ length row → d ≡ s.draft → IsReached s →
+pub part_refused : (s : State) (d : Scene) (p : PartId) (row : List NodeId) (next : Place) (f : SceneFault) → p.0 ≡ length d.parts + 1 → length row ≤ REPLICAS → 1 ≤ length row → d ≡ s.draft → IsReached s →
     follows s.draft.version s.place (LPart p row) ≡ Some next → IsRefused (part_fault row d) f → IsRefusedFor s (LPart p row) f
 part_refused s d p row next f number few some same r order e =
-    judged_refused s (LPart p row) next (may_have_part s.draft && not (is_none_yet row)) (row_is s.draft.nodes row) (nat_lt (length s.draft.parts) 32) f order
+    judged_refused s (LPart p row) next (may_have_part s.draft && not (is_none_yet row)) (row_is s.draft.nodes row) (nat_lt (length s.draft.parts) PARTITIONS) f order
     (part_stands s p row next r order some) (subst (λ x. IsRefused (part_fault row x) f) same e)
     (row_range s.draft p row (number ∙ ap (λ x. length x.parts + 1) same) few) refl
 
-pub part_taken : (s : State) (d e : Scene) (ops : List Op) (p : PartId) (row : List NodeId) (next : Place) → p.0 ≡ length d.parts + 1 → length row ≤ 8 → d ≡ s.draft → ops ≡ s.ops → e ≡ with_row row d →
+pub part_taken : (s : State) (d e : Scene) (ops : List Op) (p : PartId) (row : List NodeId) (next : Place) → p.0 ≡ length d.parts + 1 → length row ≤ REPLICAS → d ≡ s.draft → ops ≡ s.ops → e ≡ with_row row d →
     follows s.draft.version s.place (LPart p row) ≡ Some next → part_fault row d ≡ None → take_line scene_limits s (LPart p row) ≡ Now (record { place = next; draft = e; ops = ops })
 part_taken s d e ops p row next number few same same_ops added order none =
-    judged_ok s (LPart p row) next (may_have_part s.draft && not (is_none_yet row)) (row_is s.draft.nodes row) (nat_lt (length s.draft.parts) 32) order
+    judged_ok s (LPart p row) next (may_have_part s.draft && not (is_none_yet row)) (row_is s.draft.nodes row) (nat_lt (length s.draft.parts) PARTITIONS) order
     (subst (λ x. part_fault row x ≡ None) same none) (row_range s.draft p row (number ∙ ap (λ x. length x.parts + 1) same) few) refl
     ∙ (λ i. Now (record { place = next; draft = sym (added ∙ ap (with_row row) same) i; ops = sym same_ops i }))
 
@@ -252,14 +241,14 @@ session_range : (s : State) (n : NodeId) (next : Place) → IsReached s → sect
 session_range s n next r order = settled_section scene_limits s.place s.draft s.ops AfterSession next order (stands s r).kept (stands s r).at_place
 
 session_room : (s : State) (n : NodeId) → Settled scene_limits s.place s.draft s.ops →
-    has_room scene_limits s (LSession n) ≡ (nat_lt (length (settled s).sessions) 64 && nat_lt (sessions_at n (settled s).sessions) 16)
-session_room s n k = λ i. nat_lt (sym k.sessions i) 64 && nat_lt (sym (k.at_node n) i) 16
+    has_room scene_limits s (LSession n) ≡ (nat_lt (length (settled s).sessions) SESSIONS && nat_lt (sessions_at n (settled s).sessions) NODE_SESSIONS)
+session_room s n k = λ i. nat_lt (sym k.sessions i) SESSIONS && nat_lt (sym (k.at_node n) i) NODE_SESSIONS
 
 pub session_taken : (s : State) (d e : Scene) (ops : List Op) (n : NodeId) (next : Place) → d ≡ settled s → ops ≡ [] → e ≡ with_session n d → IsReached s →
     follows s.draft.version s.place (LSession n) ≡ Some next → session_fault n d ≡ None → take_line scene_limits s (LSession n) ≡ Now (record { place = next; draft = e; ops = ops })
 session_taken s d e ops n next same none_left added r order none =
     let k = session_range s n next r order in
-    judged_ok s (LSession n) next (may_have_session (settled s)) (is_up_to (settled s).nodes n.0) (nat_lt (length (settled s).sessions) 64 && nat_lt (sessions_at n (settled s).sessions) 16) order
+    judged_ok s (LSession n) next (may_have_session (settled s)) (is_up_to (settled s).nodes n.0) (nat_lt (length (settled s).sessions) SESSIONS && nat_lt (sessions_at n (settled s).sessions) NODE_SESSIONS) order
     (subst (λ x. session_fault n x ≡ None) same none) (ap (λ m. is_up_to m n.0) (sym k.nodes)) (session_room s n k)
     ∙ (λ i. Now (record { place = next; draft = sym (added ∙ ap (with_session n) same) i; ops = sym none_left i }))
 
@@ -267,7 +256,7 @@ pub session_refused : (s : State) (d : Scene) (n : NodeId) (next : Place) (f : S
     follows s.draft.version s.place (LSession n) ≡ Some next → IsRefused (session_fault n d) f → IsRefusedFor s (LSession n) f
 session_refused s d n next f same r order e =
     let k = session_range s n next r order in
-    judged_refused s (LSession n) next (may_have_session (settled s)) (is_up_to (settled s).nodes n.0) (nat_lt (length (settled s).sessions) 64 && nat_lt (sessions_at n (settled s).sessions) 16) f order
+    judged_refused s (LSession n) next (may_have_session (settled s)) (is_up_to (settled s).nodes n.0) (nat_lt (length (settled s).sessions) SESSIONS && nat_lt (sessions_at n (settled s).sessions) NODE_SESSIONS) f order
     (session_may (settled s) k.body) (subst (λ x. IsRefused (session_fault n x) f) same e) (ap (λ m. is_up_to m n.0) (sym k.nodes)) (session_room s n k)
 
 -- the line of the version may not stand after another

@@ -1,11 +1,12 @@
 -- Each state can be led to the end, and at the end its lines are those of a scene.
 use Rattle.std.proofs.Common.{List, Some, [], ap, append_assoc, arith, length, map, nat_lt, refl, subst, sym, true, ℕ, ◌++◌, ◌+◌, ◌==◌, ◌∙◌, ◌∷◌, ◌≡◌, ◌≤◌, inl}
+use Rattle.std.proofs.lemmas.Bool.{and_from}
 use Rattle.std.proofs.lemmas.Bool.Decides.{Decides-eqb, nat_tests}
 use Rattle.scene_text.proofs.Taking.HeadLines.{extends_self, mk}
 use Rattle.scene_text.proofs.Taking.StatesKept.{At, Kept, Stands, lines_at}
 use Rattle.scene_text.proofs.Taking.SessionLines.{taken-append}
 use Rattle.scene_text.proofs.Taking.LinesTaken.{goes_on_from, start_stands, steps, taken}
-use Rattle.scene_text.proofs.Spelling.NumberTests.{both, up_to_holds}
+use Rattle.scene_text.proofs.Spelling.NumberTests.{up_to_holds}
 use Rattle.scene_text.proofs.Taking.WholeDrafts.{Whole}
 use Rattle.scene_text.proofs.Taking.LinesComplete.{complete}
 use Rattle.scene_text.specs.LineOrder.{Place, section_follows}
@@ -79,7 +80,7 @@ finish_section limits s e =
 
 -- a row of the first node
 first_row : (nodes : ℕ) → 1 ≤ nodes → is_row nodes (record { 0 = 1 } ∷ []) ≡ true
-first_row nodes some = both _ _ refl (both _ _ (both _ _ (up_to_holds nodes 1 (omega arith, some)) refl) refl)
+first_row nodes some = and_from _ _ refl (and_from _ _ (and_from _ _ (up_to_holds nodes 1 (omega arith, some)) refl) refl)
 
 -- after the nodes
 finish_nodes : (limits : Limits) (d : Scene) (ops : List Op) → 1 ≤ limits.parts → 1 ≤ d.nodes → d.parts ≡ [] → Finish limits (mk AfterNodes d ops)
@@ -90,7 +91,7 @@ finish_nodes limits d ops few some none =
     let first : (1 == length d.parts + 1) ≡ true = (Decides-eqb 1 (length d.parts + 1)).1 (omega (arith, zero_parts)) in
     let room : nat_lt (length d.parts) limits.parts ≡ true = grind (arith, nat_tests) in
     let t : State = after AfterPart s l in
-    finish_more limits s t l (omega arith) (taken limits s l AfterPart refl (both _ _ first (first_row d.nodes some)) room) (finish_section limits t refl)
+    finish_more limits s t l (omega arith) (taken limits s l AfterPart refl (and_from _ _ first (first_row d.nodes some)) room) (finish_section limits t refl)
 
 -- after the version
 finish_version : (limits : Limits) (d : Scene) (ops : List Op) → 1 ≤ limits.parts → d.parts ≡ [] → Finish limits (mk AfterVersion d ops)

@@ -1,6 +1,7 @@
 -- The lines of a scene within limits are taken to the end, and give that scene.
-use Rattle.std.proofs.Common.{Bool, List, Some, [], ap, append-nil, append_assoc, arith, false, length, length-append, map, nat_le, nat_lt, refl, sym, take, take_all, true, ℕ, ◌&&◌, ◌++◌, ◌+◌, ◌<◌, ◌==◌, ◌^◌, ◌∙◌, ◌∷◌, ◌≡◌, ◌≤◌}
-use Rattle.std.proofs.lemmas.Bool.Decides.{Decides-eqb, nat_tests}
+use Rattle.std.proofs.Common.{Bool, List, Some, [], ap, append-nil, append_assoc, arith, false, length, length-append, map, refl, sym, take, take_all, true, ℕ, ◌&&◌, ◌++◌, ◌+◌, ◌<◌, ◌==◌, ◌^◌, ◌∙◌, ◌∷◌, ◌≡◌, ◌≤◌}
+use Rattle.std.proofs.lemmas.Bool.{and_from, lt-ltb, le-leb}
+use Rattle.std.proofs.lemmas.Bool.Decides.{Decides-eqb}
 use Rattle.std.specs.Prelude.{flat_map}
 use Rattle.scene_text.proofs.Taking.HeadLines.{mk}
 use Rattle.scene_text.proofs.Taking.StatesKept.{GoodEvent}
@@ -8,7 +9,7 @@ use Rattle.scene_text.proofs.Taking.TransactionLines.{TableGood, body, upto}
 use Rattle.scene_text.proofs.Taking.SessionLines.{sessions_taken, taken_on}
 use Rattle.scene_text.proofs.Taking.TransactionEnds.{session_ops}
 use Rattle.scene_text.proofs.Taking.LinesTaken.{taken}
-use Rattle.scene_text.proofs.Spelling.NumberTests.{both, row_holds, up_to_holds}
+use Rattle.scene_text.proofs.Spelling.NumberTests.{row_holds, up_to_holds}
 use Rattle.scene_text.proofs.Taking.WholeDrafts.{Whole}
 use Rattle.scene_text.specs.LineOrder.Place.{AfterEnd, AfterNodes, AfterPart, AfterVersion, InSchedule}
 use Rattle.scene_text.specs.SceneLines.{drain_line, entry_line, lines_of, one_session_lines, row_lines}
@@ -24,20 +25,13 @@ use Rattle.str_scene.specs.Scenes.{KeyTable, Scene}
 use Rattle.str_scene.specs.declared.names.Event.{Event}
 use Rattle.str_scene.specs.declared.names.Event.TheVariants.{Client, Deliver}
 
--- less, as a test
-room_is : (n m : ℕ) → n < m → nat_lt n m ≡ true
-room_is n m l = grind (arith, nat_tests)
-
-most_is : (n m : ℕ) → n ≤ m → nat_le n m ≡ true
-most_is n m l = grind (arith, nat_tests)
-
 -- the head up to some partitions
 abbrev rowed : ℕ → ℕ → List (List NodeId) → Scene
 rowed v n rows = record (with_nodes n (empty_draft v)) { parts = rows }
 
 -- the next partition is in range
 row_range : (n p : ℕ) (done : List (List NodeId)) (row : List NodeId) → p ≡ length done + 1 → IsRow n row → ((p == length done + 1) && is_row n row) ≡ true
-row_range n p done row e r = both _ _ ((Decides-eqb p (length done + 1)).1 e) (row_holds n row r)
+row_range n p done row e r = and_from _ _ ((Decides-eqb p (length done + 1)).1 e) (row_holds n row r)
 
 -- the lines of partitions are taken
 rows_taken : (limits : Limits) (v n p : ℕ) (rows done : List (List NodeId)) → p ≡ length done + 1 → Each (IsRow n) rows → length done + length rows ≤ limits.parts →
@@ -45,7 +39,7 @@ rows_taken : (limits : Limits) (v n p : ℕ) (rows done : List (List NodeId)) �
 rows_taken limits v n p [] done e h few = ap (λ xs. Now (mk AfterPart (rowed v n xs) [])) (sym (append-nil done))
 rows_taken limits v n p (row ∷ rows) done e h few =
     let first : take_line limits (mk AfterPart (rowed v n done) []) (LPart (record { 0 = p }) row) ≡ Now (mk AfterPart (rowed v n (done ++ row ∷ [])) []) =
-    taken limits (mk AfterPart (rowed v n done) []) (LPart (record { 0 = p }) row) AfterPart refl (row_range n p done row e h.0) (room_is (length done) limits.parts (omega arith)) in
+    taken limits (mk AfterPart (rowed v n done) []) (LPart (record { 0 = p }) row) AfterPart refl (row_range n p done row e h.0) (lt-ltb (length done) limits.parts (omega arith)) in
     ap (goes_on (λ s. take_lines limits s (row_lines (p + 1) rows))) first
     ∙ (rows_taken limits v n (p + 1) rows (done ++ row ∷ []) (omega (arith, e, length-append done (row ∷ []))) h.1 (omega (arith, few, length-append done (row ∷ [])))
     ∙ ap (λ xs. Now (mk AfterPart (rowed v n xs) [])) (append_assoc done (row ∷ []) rows))
@@ -56,7 +50,7 @@ all_rows_taken : (limits : Limits) (v n : ℕ) (rows : List (List NodeId)) → 1
 all_rows_taken limits v n [] some h few = absurd (omega arith)
 all_rows_taken limits v n (row ∷ rows) some h few =
     let first : take_line limits (mk AfterNodes (with_nodes n (empty_draft v)) []) (LPart (record { 0 = 1 }) row) ≡ Now (mk AfterPart (rowed v n (row ∷ [])) []) =
-    taken limits (mk AfterNodes (with_nodes n (empty_draft v)) []) (LPart (record { 0 = 1 }) row) AfterPart refl (row_range n 1 [] row refl h.0) (room_is 0 limits.parts (omega arith)) in
+    taken limits (mk AfterNodes (with_nodes n (empty_draft v)) []) (LPart (record { 0 = 1 }) row) AfterPart refl (row_range n 1 [] row refl h.0) (lt-ltb 0 limits.parts (omega arith)) in
     ap (goes_on (λ s. take_lines limits s (row_lines (1 + 1) rows))) first
     ∙ rows_taken limits v n (1 + 1) rows (row ∷ []) refl h.1 (omega arith)
 
@@ -64,9 +58,9 @@ all_rows_taken limits v n (row ∷ rows) some h few =
 entry_taken : (limits : Limits) (d : Scene) (e : Event) → GoodEvent (length d.sessions) e → length d.schedule < limits.entries →
     take_line limits (mk InSchedule d []) (entry_line e) ≡ Now (mk InSchedule (with_entry e d) [])
 entry_taken limits d (Client s t) h room =
-    taken limits (mk InSchedule d []) (entry_line (Client s t)) InSchedule refl (both _ _ (up_to_holds (length d.sessions) s.0 h.0) (room_is t (2 ^ 64) h.1)) (room_is _ _ room)
+    taken limits (mk InSchedule d []) (entry_line (Client s t)) InSchedule refl (and_from _ _ (up_to_holds (length d.sessions) s.0 h.0) (lt-ltb t (2 ^ 64) h.1)) (lt-ltb _ _ room)
 entry_taken limits d (Deliver i) h room =
-    taken limits (mk InSchedule d []) (entry_line (Deliver i)) InSchedule refl (both _ _ (most_is 1 i h.0) (room_is i (2 ^ 64) h.1)) (room_is _ _ room)
+    taken limits (mk InSchedule d []) (entry_line (Deliver i)) InSchedule refl (and_from _ _ (le-leb 1 i h.0) (lt-ltb i (2 ^ 64) h.1)) (lt-ltb _ _ room)
 
 -- a scene with these entries
 abbrev scheduled : Scene → List Event → Scene

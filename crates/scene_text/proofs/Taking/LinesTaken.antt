@@ -1,12 +1,15 @@
 -- Each line that is taken keeps the limits, and adds itself to the lines that the state stands for.
-use Rattle.std.proofs.Common.{Bool, List, None, Option, Some, [], ap, append-nil, append_assoc, arith, false, length, nat_le, nat_lt, refl, subst, sym, true, ℕ, ◌++◌, ◌+◌, ◌<◌, ◌==◌, ◌^◌, ◌∙◌, ◌∷◌, ◌≡◌, ◌≤◌}
-use Rattle.std.proofs.lemmas.Bool.Decides.{Decides-eqb, nat_tests}
+use Rattle.std.proofs.Common.{Bool, List, None, Option, Some, [], ap, append-nil, append_assoc, false, length, nat_le, nat_lt, refl, subst, sym, true, ℕ, ◌++◌, ◌+◌, ◌==◌, ◌^◌, ◌∙◌, ◌∷◌, ◌≡◌}
+use Rattle.str_base.specs.declared.limits.TheConstants.{NODES, TEXT_BYTES}
+use Rattle.str_scene.proofs.Checked.{up_to}
+use Rattle.std.proofs.lemmas.Bool.{and_parts, ltb-true, leb-true}
+use Rattle.std.proofs.lemmas.Bool.Decides.{Decides-eqb}
 use Rattle.scene_text.proofs.Taking.EntryLines.{step_drain, step_end, step_entry}
 use Rattle.scene_text.proofs.Taking.HeadLines.{extends_self, kept_empty, mk, step_nodes, step_part, step_version}
 use Rattle.scene_text.proofs.Taking.StatesKept.{At, Extends, Kept, Stands, Step, count_at, lines_at, tx_count}
 use Rattle.scene_text.proofs.Taking.OperationLines.{add_is, del_is, get_is, need_is, put_is, step_abort, step_key_op, step_puts}
 use Rattle.scene_text.proofs.Taking.SectionLines.{step_schedule, step_session, step_tx}
-use Rattle.scene_text.proofs.Spelling.NumberTests.{number_tells, parts, row_tells, up_to_tells}
+use Rattle.scene_text.proofs.Spelling.NumberTests.{number_tells, row_tells}
 use Rattle.scene_text.specs.LineOrder.{Place, follows}
 use Rattle.scene_text.specs.LineTexts.{IsForm}
 use Rattle.scene_text.specs.Taking.{Limits, State, Taken, after, at_start, goes_on, has_room, in_range, is_number, is_row, is_up_to, judged, placed, settle, take_line, take_lines}
@@ -54,51 +57,44 @@ taken limits s l next order range room =
 
 -- a key of a line
 line_key : (parts_ : ℕ) (name : List ℕ) (p : PartId) → is_name name ≡ true → is_up_to parts_ p.0 ≡ true → IsKey parts_ (name, p)
-line_key parts_ name p named range = record { name = named; part = up_to_tells parts_ p.0 range }
-
--- less by a test
-less : (n m : ℕ) → nat_lt n m ≡ true → n < m
-less n m e = grind (arith, nat_tests)
-
-at_most : (n m : ℕ) → nat_le n m ≡ true → n ≤ m
-at_most n m e = grind (arith, nat_tests)
+line_key parts_ name p named range = record { name = named; part = up_to parts_ p.0 range }
 
 -- each line
 step_line : (limits : Limits) (place : Place) (d : Scene) (ops : List _) (l : Line) (next : Place) → IsForm l → follows d.version place l ≡ Some next → in_range d l ≡ true →
     has_room limits (mk place d ops) l ≡ true → Kept limits d ops → At limits place d ops → Step limits (mk place d ops) l (after next (mk place d ops) l)
 step_line limits place d ops (LVersion v) next form order range room k a = step_version limits place d ops v next form order k a
-step_line limits place d ops (LNodes n) next form order range room k a = step_nodes limits place d ops n next (up_to_tells 8 n range) order k a
+step_line limits place d ops (LNodes n) next form order range room k a = step_nodes limits place d ops n next (up_to NODES n range) order k a
 step_line limits place d ops (LPart p row) next form order range room k a =
-    let both = parts (p.0 == length d.parts + 1) (is_row d.nodes row) range in
-    step_part limits place d ops p row next ((Decides-eqb p.0 (length d.parts + 1)).0 both.0) (row_tells d.nodes row form both.1) (less _ _ room) order k a
+    let tests = and_parts (p.0 == length d.parts + 1) (is_row d.nodes row) range in
+    step_part limits place d ops p row next ((Decides-eqb p.0 (length d.parts + 1)).0 tests.0) (row_tells d.nodes row form tests.1) (ltb-true _ _ room) order k a
 step_line limits place d ops (LSession n) next form order range room k a =
-    let both = parts (nat_lt (length d.sessions) limits.sessions) (nat_lt (count_at n d.sessions) limits.at_node) room in
-    step_session limits place d ops n next (up_to_tells d.nodes n.0 range) (less _ _ both.0) (less _ _ both.1) order k a
-step_line limits place d ops LTx next form order range room k a = step_tx limits place d ops next (less (tx_count (settle ops d).sessions) limits.txs room) order k a
+    let tests = and_parts (nat_lt (length d.sessions) limits.sessions) (nat_lt (count_at n d.sessions) limits.at_node) room in
+    step_session limits place d ops n next (up_to d.nodes n.0 range) (ltb-true _ _ tests.0) (ltb-true _ _ tests.1) order k a
+step_line limits place d ops LTx next form order range room k a = step_tx limits place d ops next (ltb-true (tx_count (settle ops d).sessions) limits.txs room) order k a
 step_line limits place d ops (LGet name p) next form order range room k a =
-    step_key_op limits place d ops Get (name, p) (LGet name p) next (get_is name p) (line_key _ name p form range) (less _ _ room) order k a
+    step_key_op limits place d ops Get (name, p) (LGet name p) next (get_is name p) (line_key _ name p form range) (ltb-true _ _ room) order k a
 step_line limits place d ops (LPut name p n) next form order range room k a =
-    let both = parts (is_up_to (length d.parts) p.0) (is_number n) range in
-    step_key_op limits place d ops (λ x. Put x n) (name, p) (LPut name p n) next (put_is name p n (number_tells n both.1)) (line_key _ name p form both.0) (less _ _ room) order k a
+    let tests = and_parts (is_up_to (length d.parts) p.0) (is_number n) range in
+    step_key_op limits place d ops (λ x. Put x n) (name, p) (LPut name p n) next (put_is name p n (number_tells n tests.1)) (line_key _ name p form tests.0) (ltb-true _ _ room) order k a
 step_line limits place d ops (LPuts name p bytes) next form order range room k a =
-    let both = parts (is_up_to (length d.parts) p.0) (nat_le (length bytes) 64) range in
-    step_puts limits place d ops (name, p) bytes next (line_key _ name p form.0 both.0) (record { short = at_most _ _ both.1; bytes = form.1 }) (less _ _ room) order k a
+    let tests = and_parts (is_up_to (length d.parts) p.0) (nat_le (length bytes) TEXT_BYTES) range in
+    step_puts limits place d ops (name, p) bytes next (line_key _ name p form.0 tests.0) (record { short = leb-true _ _ tests.1; bytes = form.1 }) (ltb-true _ _ room) order k a
 step_line limits place d ops (LAdd name p n) next form order range room k a =
-    let both = parts (is_up_to (length d.parts) p.0) (is_number n) range in
-    step_key_op limits place d ops (λ x. Add x n) (name, p) (LAdd name p n) next (add_is name p n (number_tells n both.1)) (line_key _ name p form both.0) (less _ _ room) order k a
+    let tests = and_parts (is_up_to (length d.parts) p.0) (is_number n) range in
+    step_key_op limits place d ops (λ x. Add x n) (name, p) (LAdd name p n) next (add_is name p n (number_tells n tests.1)) (line_key _ name p form tests.0) (ltb-true _ _ room) order k a
 step_line limits place d ops (LDel name p) next form order range room k a =
-    step_key_op limits place d ops Del (name, p) (LDel name p) next (del_is name p) (line_key _ name p form range) (less _ _ room) order k a
+    step_key_op limits place d ops Del (name, p) (LDel name p) next (del_is name p) (line_key _ name p form range) (ltb-true _ _ room) order k a
 step_line limits place d ops (LNeed name p n) next form order range room k a =
-    let both = parts (is_up_to (length d.parts) p.0) (is_number n) range in
-    step_key_op limits place d ops (λ x. Need x n) (name, p) (LNeed name p n) next (need_is name p n (number_tells n both.1)) (line_key _ name p form both.0) (less _ _ room) order k a
-step_line limits place d ops LAbort next form order range room k a = step_abort limits place d ops next (less _ _ room) order k a
+    let tests = and_parts (is_up_to (length d.parts) p.0) (is_number n) range in
+    step_key_op limits place d ops (λ x. Need x n) (name, p) (LNeed name p n) next (need_is name p n (number_tells n tests.1)) (line_key _ name p form tests.0) (ltb-true _ _ room) order k a
+step_line limits place d ops LAbort next form order range room k a = step_abort limits place d ops next (ltb-true _ _ room) order k a
 step_line limits place d ops LSchedule next form order range room k a = step_schedule limits place d ops next order k a
 step_line limits place d ops (LClient s t) next form order range room k a =
-    let both = parts (is_up_to (length d.sessions) s.0) (nat_lt t (2 ^ 64)) range in
-    step_entry limits place d ops (Client s t) next (up_to_tells (length d.sessions) s.0 both.0, less t (2 ^ 64) both.1) (less _ _ room) order k a
+    let tests = and_parts (is_up_to (length d.sessions) s.0) (nat_lt t (2 ^ 64)) range in
+    step_entry limits place d ops (Client s t) next (up_to (length d.sessions) s.0 tests.0, ltb-true t (2 ^ 64) tests.1) (ltb-true _ _ room) order k a
 step_line limits place d ops (LDeliver i) next form order range room k a =
-    let both = parts (nat_le 1 i) (nat_lt i (2 ^ 64)) range in
-    step_entry limits place d ops (Deliver i) next (at_most 1 i both.0, less i (2 ^ 64) both.1) (less _ _ room) order k a
+    let tests = and_parts (nat_le 1 i) (nat_lt i (2 ^ 64)) range in
+    step_entry limits place d ops (Deliver i) next (leb-true 1 i tests.0, ltb-true i (2 ^ 64) tests.1) (ltb-true _ _ room) order k a
 step_line limits place d ops LDrain next form order range room k a = step_drain limits place d ops next order k a
 step_line limits place d ops LEnd next form order range room k a = step_end limits place d ops next order k a
 

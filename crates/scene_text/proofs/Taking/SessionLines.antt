@@ -1,6 +1,8 @@
 -- The lines of a scene's sessions are taken.
 use Rattle.std.proofs.Common.{List, Some, [], ap, append-nil, append_assoc, arith, cond, length, length-append, nat_lt, refl, subst, sym, true, ℕ, ◌++◌, ◌+◌, ◌<◌, ◌∙◌, ◌∷◌, ◌≡◌, ◌≤◌}
-use Rattle.std.proofs.lemmas.Bool.Decides.{Decides-eqb, nat_tests}
+use Rattle.str_scene.proofs.Filling.{add_tx_length}
+use Rattle.std.proofs.lemmas.Bool.{and_from, lt-ltb}
+use Rattle.std.proofs.lemmas.Bool.Decides.{Decides-eqb}
 use Rattle.std.proofs.lemmas.Grind.{flat_map-append}
 use Rattle.std.proofs.lemmas.List.Sums.{sum_by-append}
 use Rattle.std.proofs.lemmas.Option.{same_Some}
@@ -9,9 +11,9 @@ use Rattle.scene_text.proofs.Taking.TableNumbers.{parts}
 use Rattle.scene_text.proofs.Taking.HeadLines.{mk}
 use Rattle.scene_text.proofs.Taking.StatesKept.{GoodScript, GoodSession, count_at, tx_count}
 use Rattle.scene_text.proofs.Taking.TransactionLines.{TableGood, body, ops_taken}
-use Rattle.scene_text.proofs.Taking.TransactionEnds.{count_at-add_tx, length-add_tx, script_ops, session_ops}
+use Rattle.scene_text.proofs.Taking.TransactionEnds.{count_at-add_tx, script_ops, session_ops}
 use Rattle.scene_text.proofs.Taking.LinesTaken.{taken}
-use Rattle.scene_text.proofs.Spelling.NumberTests.{both, up_to_holds}
+use Rattle.scene_text.proofs.Spelling.NumberTests.{up_to_holds}
 use Rattle.scene_text.specs.LineOrder.{Place, section_follows, tx_follows}
 use Rattle.scene_text.specs.LineOrder.Place.{AfterOp, AfterSession, AfterTx}
 use Rattle.scene_text.specs.SceneLines.{one_session_lines, script_lines}
@@ -60,7 +62,7 @@ settle_nodes (o ∷ ops) d = refl
 -- as many sessions
 settle_sessions : (ops : List Op) (d : Scene) → length (settle ops d).sessions ≡ length d.sessions
 settle_sessions [] d = refl
-settle_sessions (o ∷ ops) d = length-add_tx (o ∷ ops) d.sessions
+settle_sessions (o ∷ ops) d = add_tx_length (o ∷ ops) d.sessions
 
 -- as many at each node
 settle_at : (n : NodeId) (ops : List Op) (d : Scene) → count_at n (settle ops d).sessions ≡ count_at n d.sessions
@@ -79,10 +81,6 @@ pub record LeadsTx (limits : Limits) (s : State) (ls : List Line) (d : Scene) : 
   pub taken : take_lines limits s ls ≡ Now end
   pub open_ : OpenTx end d
 
--- less, as a test
-room_is : (n m : ℕ) → n < m → nat_lt n m ≡ true
-room_is n m l = grind (arith, nat_tests)
-
 -- a transaction with an operation becomes one of the scene
 settle_some : (ops : List Op) (d : Scene) → 1 ≤ length ops → settle ops d ≡ with_tx ops d
 settle_some [] d l = absurd (omega arith)
@@ -94,7 +92,7 @@ tx_taken : (limits : Limits) (scene : Scene) (ops : List Op) (m k m' k' : ℕ) (
     OpenTx s (body scene m k ss) → LeadsTx limits s (script_lines scene.keys ops) (body scene m' k' (add_tx ops ss))
 tx_taken limits scene ops m k m' k' ss s t good room c x o =
     let first : take_line limits s LTx ≡ Now (mk AfterTx (body scene m k ss) []) =
-    taken limits s LTx AfterTx o.order refl (subst (λ d. nat_lt (tx_count d.sessions) limits.txs ≡ true) (sym o.open_.settled_) (room_is _ _ room))
+    taken limits s LTx AfterTx o.order refl (subst (λ d. nat_lt (tx_count d.sessions) limits.txs ≡ true) (sym o.open_.settled_) (lt-ltb _ _ room))
     ∙ ap (λ d. Now (closed AfterTx d)) o.open_.settled_ in
     let rest = ops_taken limits scene AfterTx ops m k ss [] m' k' t good.2 refl (omega (arith, good.1)) c x in
     record {
@@ -176,7 +174,7 @@ sessions_taken limits scene (y ∷ ss) m k m' k' done s t good few at_node most 
     let b : State = mk AfterSession (body scene m k (done ++ session_of y.node [] ∷ [])) [] in
     let begun : take_line limits s (LSession y.node) ≡ Now b =
     taken limits s (LSession y.node) AfterSession (o.order AfterSession) (up_to_holds s.draft.nodes y.node.0 (good.0.0.0, omega (arith, good.0.0.1, nodes)))
-    (both _ _ (room_is (length s.draft.sessions) limits.sessions (omega (arith, few, count))) (room_is (count_at y.node s.draft.sessions) limits.at_node (omega (arith, free, here))))
+    (and_from _ _ (lt-ltb (length s.draft.sessions) limits.sessions (omega (arith, few, count))) (lt-ltb (count_at y.node s.draft.sessions) limits.at_node (omega (arith, free, here))))
     ∙ ap (λ d. Now (closed AfterSession (with_session y.node d))) o.settled_ in
     let txs = txs_taken limits scene y.node y.txs [] m k p.middle q.middle done b t good.0.1 (omega (arith, most, more)) p.first q.first
     (record { open_ = record { order = λ next. refl; settled_ = refl }; order = refl }) in

@@ -1,10 +1,11 @@
 -- How a table grows by an element that it has, or that comes at its end.
 use Rattle.std.proofs.Common.{Bool, List, Some, [], ap, arith, cond, false, inl, inr, length, length-append, refl, slice_get, subst, suc, sym, true, zero, ℕ, ◌++◌, ◌<◌, ◌∙◌, ◌∷◌, ◌≡◌, ◌≤◌, ◌⊎◌}
+use Rattle.str_base.proofs.Lists.{got_push}
 use Rattle.std.proofs.lemmas.Option.{slice_get_within}
 use Rattle.std.proofs.lemmas.Slice.Eq.{bytes_eq-Decides}
 use Rattle.std.specs.Str.{bytes_eq}
 use Rattle.str_scene.proofs.Counts.{counted_next, counted_old}
-use Rattle.str_scene.proofs.Each.{each_push, get_left, get_middle, get_push}
+use Rattle.str_scene.proofs.Each.{each_push, get_left, get_middle}
 use Rattle.str_scene.specs.Lists.{Each}
 use Rattle.str_scene.specs.Keys.{string_place, with_string}
 use Rattle.str_scene.specs.SceneLimits.{counted}
@@ -58,9 +59,9 @@ stays P xs g d = record { longer = omega arith; good = g; distinct = d; kept = �
 -- an element that is not there may come at the end
 distinct_push : {X : Type 0} (xs : List X) (x : X) → Distinct xs → ((i : ℕ) → slice_get xs i ≡ Some x → ⊥) → Distinct (xs ++ x ∷ [])
 distinct_push xs x d new i j y p q =
-    elim (get_push xs x i y p) [
-      | inl u ↦ elim (get_push xs x j y q) [ inl v ↦ d i j y u v | inr v ↦ absurd (new i (u ∙ ap Some v.1)) ]
-      | inr u ↦ elim (get_push xs x j y q) [ inl v ↦ absurd (new j (v ∙ ap Some u.1)) | inr v ↦ u.0 ∙ sym v.0 ]
+    elim (got_push xs i x y p) [
+      | inr u ↦ elim (got_push xs j x y q) [ inr v ↦ d i j y u v | inl v ↦ absurd (new i (u ∙ ap Some v.1)) ]
+      | inl u ↦ elim (got_push xs j x y q) [ inr v ↦ absurd (new j (v ∙ ap Some u.1)) | inl v ↦ u.0 ∙ sym v.0 ]
     ]
 
 -- an element that comes to a table makes it grow

@@ -1,13 +1,14 @@
 -- The table of a scene has room for the names of all its operations.
 use Rattle.std.proofs.Common.{Bool, Err, IfErr, List, None, Ok, Option, Result, Some, [], ap, arith, cond, false, inl, inr, length, length-append, nat_le, nat_lt, refl, subst, suc, sym, true, ℕ, ◌&&◌, ◌*◌, ◌++◌, ◌+◌, ◌<◌, ◌==◌, ◌∙◌, ◌∷◌, ◌≡◌, ◌≤◌}
+use Rattle.str_scene.proofs.Checked.{no_fault}
+use Rattle.std.proofs.lemmas.Bool.{and_parts}
 use Rattle.std.proofs.lemmas.Bool.Decides.{nat_tests}
 use Rattle.std.proofs.lemmas.List.Sums.{sum_by-append}
 use Rattle.std.proofs.lemmas.Option.{none-some, same_Some}
 use Rattle.std.specs.Prelude.{flat_map}
 use Rattle.std.specs.Str.{bytes_eq}
-use Rattle.scene_text.proofs.Taking.BuildCalls.{fault_none, op_body, op_may, refused_count, refused_range, stands}
+use Rattle.scene_text.proofs.Taking.BuildCalls.{op_body, op_may, refused_count, refused_range, stands}
 use Rattle.scene_text.proofs.Taking.StatesKept.{GoodScript, GoodSession, Kept, tx_count}
-use Rattle.scene_text.proofs.Spelling.NumberTests.{parts}
 use Rattle.scene_text.specs.LineOrder.{Place, follows, op_follows, puts_follows}
 use Rattle.scene_text.specs.LineOrder.Place.{AfterOp}
 use Rattle.scene_text.specs.Reading.{IsKeyRefused, IsReached, IsRefusedFor}
@@ -113,7 +114,7 @@ key_refused s name part f r order named refused =
     fault_by _ (is_name name && is_up_to (length d.parts) part.0) (nat_le (length (with_pair (name, part) d.keys.names)) 16384) f (IsKeyRefused s part)
     (op_may s.place d s.ops AfterOp h.at_place order)
     (λ e. second_false (is_name name) (is_up_to (length d.parts) part.0) named e)
-    (λ e full. ((parts (is_name name) (is_up_to (length d.parts) part.0) e).1, full_ops (length (with_pair (name, part) d.keys.names)) (length d.keys.names) (length s.ops) full (pair_few (name, part) d.keys.names) few))
+    (λ e full. ((and_parts (is_name name) (is_up_to (length d.parts) part.0) e).1, full_ops (length (with_pair (name, part) d.keys.names)) (length d.keys.names) (length s.ops) full (pair_few (name, part) d.keys.names) few))
     tt refused
   where
     full_ops : (n m k : ℕ) → nat_le n 16384 ≡ false → n ≤ m + 1 → m ≤ 16368 + k → 16 ≤ k
@@ -122,7 +123,7 @@ key_refused s name part f r order named refused =
 -- a key that is taken is in range
 pub key_in_range : (d : Scene) (name : List ℕ) (part : PartId) → key_fault (name, part) d ≡ None → is_up_to (length d.parts) part.0 ≡ true
 key_in_range d name part e =
-    (parts (is_name name) (is_up_to (length d.parts) part.0) (fault_none _ (is_name name && is_up_to (length d.parts) part.0) _ e).1).1
+    (and_parts (is_name name) (is_up_to (length d.parts) part.0) (no_fault _ (is_name name && is_up_to (length d.parts) part.0) _ e).1).1
 
 -- and has its place as its number
 pub key_number_is : (d : Scene) (key : List ℕ × PartId) (k : KeyId) → number_of key d.keys.names ≡ Some k → k ≡ key_number key d

@@ -1,5 +1,6 @@
 -- The open transaction becomes the last of the draft.
-use Rattle.std.proofs.Common.{List, Some, [], ap, append-nil, append_assoc, arith, cond, length, length-append, refl, subst, suc, sym, ℕ, ◌++◌, ◌+◌, ◌<◌, ◌∙◌, ◌∷◌, ◌≡◌, ◌≤◌}
+use Rattle.std.proofs.Common.{List, Some, [], ap, append-nil, append_assoc, arith, cond, length, length-append, refl, subst, sym, ℕ, ◌++◌, ◌+◌, ◌<◌, ◌∙◌, ◌∷◌, ◌≡◌, ◌≤◌}
+use Rattle.str_scene.proofs.Filling.{add_tx_length}
 use Rattle.std.proofs.lemmas.Grind.{flat_map-append}
 use Rattle.std.proofs.lemmas.List.Sums.{sum_by-append}
 use Rattle.std.proofs.lemmas.Option.{none-some}
@@ -26,12 +27,6 @@ script_ops txs = flat_map (λ ops. ops) txs
 -- the operations of sessions in a row
 abbrev pub session_ops : List Session → List Op
 session_ops ss = flat_map (λ s. script_ops s.txs) ss
-
--- as many sessions
-pub length-add_tx : (ops : List Op) (ss : List Session) → length (add_tx ops ss) ≡ length ss
-length-add_tx ops [] = refl
-length-add_tx ops (s ∷ []) = refl
-length-add_tx ops (s ∷ t ∷ ss) = ap (λ n. suc n) (length-add_tx ops (t ∷ ss))
 
 -- as many at each node
 pub count_at-add_tx : (n : NodeId) (ops : List Op) (ss : List Session) → count_at n (add_tx ops ss) ≡ count_at n ss
@@ -87,10 +82,10 @@ with_tx_kept limits d ops some_ops some room k = record {
   sessions = good-add_tx limits d.version d.nodes d.keys ops d.sessions (some_ops, k.few_ops, k.open_ops) k.sessions;
   open_ops = tt;
   few_ops = omega arith;
-  events = subst (λ n. Each (GoodEvent n) d.schedule) (sym (length-add_tx ops d.sessions)) k.events;
+  events = subst (λ n. Each (GoodEvent n) d.schedule) (sym (add_tx_length ops d.sessions)) k.events;
   counts = record {
     few_parts = k.counts.few_parts;
-    few_sessions = omega (arith, length-add_tx ops d.sessions, k.counts.few_sessions);
+    few_sessions = omega (arith, add_tx_length ops d.sessions, k.counts.few_sessions);
     at_one_node = λ n. omega (arith, count_at-add_tx n ops d.sessions, k.counts.at_one_node n);
     few_txs = omega (arith, tx_count-add_tx ops d.sessions some);
     few_events = k.counts.few_events;
@@ -128,7 +123,7 @@ settled_section limits AfterOp d (o ∷ ops) m next e k a = record {
   body = record { head = record { version = a.0.body.head.version; nodes = a.0.body.head.nodes; parts = a.0.body.head.parts }; no_entry = a.0.body.no_entry; no_drain = a.0.body.no_drain };
   keys = refl;
   nodes = refl;
-  sessions = length-add_tx (o ∷ ops) d.sessions;
+  sessions = add_tx_length (o ∷ ops) d.sessions;
   at_node = λ n. count_at-add_tx n (o ∷ ops) d.sessions;
   text = λ table. body-add_tx table (o ∷ ops) d a.0.some;
 }

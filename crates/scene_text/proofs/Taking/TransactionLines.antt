@@ -1,13 +1,14 @@
 -- The lines of a scene's transactions are taken.
-use Rattle.std.proofs.Common.{List, None, Some, [], ap, append-nil, append_assoc, arith, false, get_or, length, length-append, map, nat_le, nat_lt, refl, slice_get, sym, take, true, ℕ, ◌++◌, ◌+◌, ◌<◌, ◌∙◌, ◌∷◌, ◌≡◌, ◌≤◌, cond}
-use Rattle.std.proofs.lemmas.Bool.Decides.{Decides-eqb, nat_tests}
+use Rattle.std.proofs.Common.{List, None, Some, [], ap, append-nil, append_assoc, arith, false, get_or, length, length-append, map, refl, slice_get, sym, take, ℕ, ◌++◌, ◌+◌, ◌<◌, ◌∙◌, ◌∷◌, ◌≡◌, ◌≤◌, cond}
+use Rattle.std.proofs.lemmas.Bool.{and_from, lt-ltb, le-leb}
+use Rattle.std.proofs.lemmas.Bool.Decides.{Decides-eqb}
 use Rattle.std.proofs.lemmas.Option.{same_Some, slice_get-get_or}
 use Rattle.std.specs.Prelude.{flat_map}
 use Rattle.scene_text.proofs.Taking.TableNumbers.{Found, found}
 use Rattle.scene_text.proofs.Taking.TableGrows.{Distinct, string_comes}
 use Rattle.scene_text.proofs.Taking.HeadLines.{mk}
 use Rattle.scene_text.proofs.Taking.LinesTaken.{taken}
-use Rattle.scene_text.proofs.Spelling.NumberTests.{both, number_holds, up_to_holds}
+use Rattle.scene_text.proofs.Spelling.NumberTests.{number_holds, up_to_holds}
 use Rattle.scene_text.specs.LineOrder.{Place, op_follows, puts_follows}
 use Rattle.scene_text.specs.LineOrder.Place.{AfterOp}
 use Rattle.scene_text.specs.SceneLines.{key_at, op_line, text_at}
@@ -100,13 +101,6 @@ with_puts_is scene place m k ss done key text n t m1 k1 e f g h =
     ∙ (ap (λ z. mk AfterOp (body scene m1 k1 ss) (done ++ Puts z (record { 0 = string_place text (take k scene.keys.texts) }) ∷ [])) (key_id n (place_of key (take m scene.keys.names)) e)
     ∙ ap (λ z. mk AfterOp (body scene m1 k1 ss) (done ++ Puts n z ∷ [])) (text_id t (string_place text (take k scene.keys.texts)) g)))
 
--- one more by a test
-room_is : (n m : ℕ) → n < m → nat_lt n m ≡ true
-room_is n m l = grind (arith, nat_tests)
-
-most_is : (n m : ℕ) → n ≤ m → nat_le n m ≡ true
-most_is n m l = grind (arith, nat_tests)
-
 -- where the key of the next operation is found
 key_found : (scene : Scene) (m : ℕ) (k : KeyId) (ms : List ℕ) (end : ℕ) → TableGood scene → KeyGood scene k → counted m (k.0 ∷ ms) ≡ Some end →
     Found scene.keys.names (place_of (key_at scene.keys k) (take m scene.keys.names)) (with_pair (key_at scene.keys k) (take m scene.keys.names)) k.0 ms end
@@ -130,7 +124,7 @@ op_taken limits scene place m k ss done (Get n) keys texts m' k' t is order room
     record {
       m1 = f.next;
       k1 = k;
-      taken = taken limits s (op_line scene.keys (Get n)) AfterOp order (up_to_holds (length scene.parts) (key_at scene.keys n).1.0 g.good.part) (room_is _ _ room)
+      taken = taken limits s (op_line scene.keys (Get n)) AfterOp order (up_to_holds (length scene.parts) (key_at scene.keys n).1.0 g.good.part) (lt-ltb _ _ room)
           ∙ ap Now (with_op_is scene place m k ss done Get (key_at scene.keys n) n f.next f.number f.first);
       keys_after = f.rest;
       texts_after = x;
@@ -143,7 +137,7 @@ op_taken limits scene place m k ss done (Put n v) keys texts m' k' t is order ro
       m1 = f.next;
       k1 = k;
       taken = taken limits s (op_line scene.keys (Put n v)) AfterOp order
-          (both _ _ (up_to_holds (length scene.parts) (key_at scene.keys n).1.0 g.good.part) (number_holds v is.1)) (room_is _ _ room)
+          (and_from _ _ (up_to_holds (length scene.parts) (key_at scene.keys n).1.0 g.good.part) (number_holds v is.1)) (lt-ltb _ _ room)
           ∙ ap Now (with_op_is scene place m k ss done (λ z. Put z v) (key_at scene.keys n) n f.next f.number f.first);
       keys_after = f.rest;
       texts_after = x;
@@ -159,7 +153,7 @@ op_taken limits scene place m k ss done (Puts n u) keys texts m' k' t is order r
       m1 = f.next;
       k1 = j.next;
       taken = taken limits s (op_line scene.keys (Puts n u)) AfterOp two
-          (both _ _ (up_to_holds (length scene.parts) (key_at scene.keys n).1.0 g.good.part) (most_is _ _ h.good.short)) (room_is _ _ room)
+          (and_from _ _ (up_to_holds (length scene.parts) (key_at scene.keys n).1.0 g.good.part) (le-leb _ _ h.good.short)) (lt-ltb _ _ room)
           ∙ ap Now (with_puts_is scene place m k ss done (key_at scene.keys n) (text_at scene.keys u) n u f.next j.next f.number f.first j.number j.first);
       keys_after = f.rest;
       texts_after = j.rest;
@@ -172,7 +166,7 @@ op_taken limits scene place m k ss done (Add n v) keys texts m' k' t is order ro
       m1 = f.next;
       k1 = k;
       taken = taken limits s (op_line scene.keys (Add n v)) AfterOp order
-          (both _ _ (up_to_holds (length scene.parts) (key_at scene.keys n).1.0 g.good.part) (number_holds v is.1)) (room_is _ _ room)
+          (and_from _ _ (up_to_holds (length scene.parts) (key_at scene.keys n).1.0 g.good.part) (number_holds v is.1)) (lt-ltb _ _ room)
           ∙ ap Now (with_op_is scene place m k ss done (λ z. Add z v) (key_at scene.keys n) n f.next f.number f.first);
       keys_after = f.rest;
       texts_after = x;
@@ -184,7 +178,7 @@ op_taken limits scene place m k ss done (Del n) keys texts m' k' t is order room
     record {
       m1 = f.next;
       k1 = k;
-      taken = taken limits s (op_line scene.keys (Del n)) AfterOp order (up_to_holds (length scene.parts) (key_at scene.keys n).1.0 g.good.part) (room_is _ _ room)
+      taken = taken limits s (op_line scene.keys (Del n)) AfterOp order (up_to_holds (length scene.parts) (key_at scene.keys n).1.0 g.good.part) (lt-ltb _ _ room)
           ∙ ap Now (with_op_is scene place m k ss done Del (key_at scene.keys n) n f.next f.number f.first);
       keys_after = f.rest;
       texts_after = x;
@@ -197,7 +191,7 @@ op_taken limits scene place m k ss done (Need n v) keys texts m' k' t is order r
       m1 = f.next;
       k1 = k;
       taken = taken limits s (op_line scene.keys (Need n v)) AfterOp order
-          (both _ _ (up_to_holds (length scene.parts) (key_at scene.keys n).1.0 g.good.part) (number_holds v is.1)) (room_is _ _ room)
+          (and_from _ _ (up_to_holds (length scene.parts) (key_at scene.keys n).1.0 g.good.part) (number_holds v is.1)) (lt-ltb _ _ room)
           ∙ ap Now (with_op_is scene place m k ss done (λ z. Need z v) (key_at scene.keys n) n f.next f.number f.first);
       keys_after = f.rest;
       texts_after = x;
@@ -206,7 +200,7 @@ op_taken limits scene place m k ss done Abort keys texts m' k' t is order room c
     record {
       m1 = m;
       k1 = k;
-      taken = taken limits (mk place (body scene m k ss) done) (op_line scene.keys Abort) AfterOp order refl (room_is _ _ room);
+      taken = taken limits (mk place (body scene m k ss) done) (op_line scene.keys Abort) AfterOp order refl (lt-ltb _ _ room);
       keys_after = c;
       texts_after = x;
     }

@@ -1,9 +1,9 @@
 -- With greater limits no less is taken.
 use Rattle.std.proofs.Common.{List, [], ap, arith, length, nat_lt, true, ℕ, ◌+◌, ◌∙◌, ◌∷◌, ◌≡◌, ◌≤◌}
+use Rattle.std.proofs.lemmas.Bool.{and_from, and_parts}
 use Rattle.std.proofs.lemmas.Bool.Decides.{nat_tests}
 use Rattle.scene_text.proofs.Taking.StatesKept.{count_at, tx_count}
 use Rattle.scene_text.proofs.Taking.LinesTaken.{goes_on_from, is_taken, taken}
-use Rattle.scene_text.proofs.Spelling.NumberTests.{both, parts}
 use Rattle.scene_text.specs.Taking.{Limits, State, goes_on, has_room, settled, take_line, take_lines}
 use Rattle.scene_text.specs.Taking.Taken.{Now}
 use Rattle.scene_text.specs.declared.lines.Line.{Line}
@@ -43,8 +43,8 @@ less_more n a b l e = grind (arith, nat_tests)
 pub room_more : (a b : Limits) (s : State) (l : Line) → Within a b → has_room a s l ≡ true → has_room b s l ≡ true
 room_more a b s (LPart p row) w e = less_more _ _ _ w.parts e
 room_more a b s (LSession n) w e =
-    let h = parts (nat_lt (length s.draft.sessions) a.sessions) (nat_lt (count_at n s.draft.sessions) a.at_node) e in
-    both _ _ (less_more (length s.draft.sessions) _ _ w.sessions h.0) (less_more (count_at n s.draft.sessions) _ _ w.at_node h.1)
+    let h = and_parts (nat_lt (length s.draft.sessions) a.sessions) (nat_lt (count_at n s.draft.sessions) a.at_node) e in
+    and_from _ _ (less_more (length s.draft.sessions) _ _ w.sessions h.0) (less_more (count_at n s.draft.sessions) _ _ w.at_node h.1)
 room_more a b s LTx w e = less_more (tx_count (settled s).sessions) _ _ w.txs e
 room_more a b s (LGet name p) w e = less_more _ _ _ w.ops e
 room_more a b s (LPut name p n) w e = less_more _ _ _ w.ops e

@@ -1,6 +1,5 @@
 -- Snapshot isolation of a list of answers lasts where the next answer is one that may follow.
-use Rattle.std.proofs.Common.{Bool, List, Some, [], ap, append-nil, append_assoc, arith, cond, eq-eqb, inl, inr, length, refl, slice_get, subst, suc, sym, take, true, zero, ℕ, ◌++◌, ◌+◌, ◌<◌, ◌==◌, ◌∙◌, ◌∷◌, ◌≡◌, ◌≢◌, ◌≤◌, ◌⊎◌}
-use Rattle.std.proofs.Math.Seq.{take-length}
+use Rattle.std.proofs.Common.{Bool, List, Some, [], ap, arith, cond, eq-eqb, inl, inr, length, refl, slice_get, subst, suc, sym, take, true, zero, ℕ, ◌++◌, ◌+◌, ◌<◌, ◌==◌, ◌∙◌, ◌∷◌, ◌≡◌, ◌≢◌, ◌≤◌, ◌⊎◌}
 use Rattle.std.proofs.lemmas.List.Sums.{sum_by-cons}
 use Rattle.std.specs.List.{count_by}
 use Rattle.str_base.specs.declared.names.Cause.TheVariants.{Wish}
@@ -12,7 +11,7 @@ use Rattle.si_laws.specs.Commits.{seen}
 use Rattle.str_model.specs.Owned.{wrote_key}
 use Rattle.str_model.specs.Evaluation.{Evaluated}
 use Rattle.str_scene.specs.Scenes.{Scene}
-use Rattle.si_laws.specs.SnapshotIsolation.{AnswersPlaced, CommittedSnapshots, IsAnswer, IsCommittedAt, IsCommittedSnapshot, IsPlaced, IsWish, NoOverlap, SI, SIRun, SessionOrder, Wishes, of_one_session}
+use Rattle.si_laws.specs.SnapshotIsolation.{AnswersPlaced, CommittedSnapshots, IsAnswer, IsCommittedAt, IsCommittedSnapshot, IsPlaced, IsWish, NoOverlap, SI, SessionOrder, Wishes, of_one_session}
 use Rattle.si_laws.proofs.CommitLists.NextAnswer.{IsNext, SeenNext, seen_next}
 use Rattle.std.proofs.lemmas.Option.{slice_get_within}
 use Rattle.str_base.proofs.Lists.{got_push}

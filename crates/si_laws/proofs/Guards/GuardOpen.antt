@@ -18,7 +18,7 @@ use Rattle.str_model.proofs.Principle.Everywhere.{IsSeen, Stage, at_place, durin
 use Rattle.str_model.proofs.Principle.OwnPaths.{gate_commits}
 use Rattle.si_laws.specs.Standing.{IsAborted}
 use Rattle.std.proofs.Common.{Bool, List, None, Option, Some, [], add-sub_cancel, ap, arith, eq-eqb, false, inl, inr, length, map, refl, slice_get, slice_set, subst, subst₂, sym, true, ℕ, ◌++◌, ◌+◌, ◌<◌, ◌∙◌, ◌∷◌, ◌≡◌, ◌≢◌, ◌≤◌, ◌⊎◌}
-use Rattle.str_base.specs.Versions.{mark_of, same_tx, stamp}
+use Rattle.str_base.specs.Versions.{mark_of, stamp}
 use Rattle.str_base.specs.declared.names.KeyId.{KeyId}
 use Rattle.str_base.specs.declared.names.Kind.TheVariants.{Final, Local as LocalKind, Pre}
 use Rattle.str_base.specs.declared.names.NodeId.{NodeId}
@@ -40,7 +40,7 @@ use Rattle.str_model.specs.declared.names.KeyMark.{KeyMark}
 use Rattle.str_model.specs.declared.names.ReadDone.{ReadDone}
 use Rattle.str_scene.specs.SceneLimits.{IsScene}
 use Rattle.str_scene.specs.Scenes.{Here, Scene, hosts, in_part, is_master, part_of}
-use Rattle.str_base.proofs.SameNames.{cases_tx, same_tx-is}
+use Rattle.str_base.proofs.SameNames.{cases_tx}
 use Rattle.str_base.proofs.Members.{filter_in, in_append, in_left, in_right, map_in}
 use Rattle.str_base.proofs.Lists.{get_push, get_set, get_set_other}
 use Rattle.std.proofs.lemmas.Bool.{cases_eq}

@@ -5,7 +5,6 @@ use Rattle.si_laws.proofs.Guards.ReadGuards.{Clear}
 use Rattle.si_laws.proofs.Guards.GuardGrounds.{Committer, Grounds, committer}
 use Rattle.si_laws.proofs.Guards.GuardsKept.{MarkSent, clear_some_up, open_not, there_d, there_e}
 use Rattle.si_laws.proofs.Stages.LinkedStates.{one_certified, one_of}
-use Rattle.str_model.proofs.ViewFacts.MarksRise.{index_same, raise_all-rises}
 use Rattle.si_laws.proofs.Order.MasterFacts.{IsBefore}
 use Rattle.si_laws.proofs.Guards.VersionOrigins.{HasWritten, Origin, og_came, og_commit, og_local, og_old, og_pre, origin}
 use Rattle.si_laws.proofs.Changes.ReadLetters.{ReadLetter, is_other, letters_act, rl_commit, rl_other, rl_reply, rl_request}
@@ -13,8 +12,8 @@ use Rattle.si_laws.proofs.Sources.FinalsReported.{CommittedIn}
 use Rattle.si_laws.proofs.Guards.DecidedAbove.{came_above}
 use Rattle.str_model.proofs.Principle.SingleChanges.{Act, Where}
 use Rattle.str_model.proofs.Principle.Everywhere.{IsSeen, Sent, Stage, at_place, during}
-use Rattle.std.proofs.Common.{Bool, List, Some, [], ap, arith, eq-eqb, false, inl, inr, length, length-set, max, refl, slice_get, slice_index, slice_set, subst, subst₂, suc, sym, true, zero, ℕ, ◌++◌, ◌+◌, ◌<◌, ◌∙◌, ◌∷◌, ◌≡◌, ◌≢◌, ◌≤◌, ◌⊎◌}
-use Rattle.str_base.specs.Versions.{mark_of, raised, same_tx, stamp}
+use Rattle.std.proofs.Common.{List, Some, ap, arith, inl, inr, length, refl, slice_get, slice_set, subst, subst₂, sym, true, ℕ, ◌++◌, ◌+◌, ◌<◌, ◌∙◌, ◌≡◌, ◌≢◌, ◌≤◌, ◌⊎◌}
+use Rattle.str_base.specs.Versions.{mark_of, stamp}
 use Rattle.str_base.specs.declared.names.KeyId.{KeyId}
 use Rattle.str_base.specs.declared.names.Kind.TheVariants.{Final, Pre}
 use Rattle.str_base.specs.declared.names.PartId.{PartId}

@@ -16,6 +16,7 @@ use Rattle.str_model.specs.Turns
 use Rattle.str_model.specs.Views.{Own, View}
 use Rattle.str_scene.specs.Scenes.{Here, first_or, hosts_key, part_of, replicas}
 use Rattle.str_base.specs.Members.{In}
+use Rattle.str_model.proofs.KindTests.{final_kind}
 
 -- each version of the key but those above the snapshot is not Pre and not after p
 pub record Sees (vs : List Version) (k : KeyId) (rs : ℕ) (p : Version) : Type 0 where
@@ -35,11 +36,6 @@ not_pre k e q = cc (ap is_pre q, e)
 
 decided_not_pre : (k : Kind) → is_undecided k ≡ false → k ≢ Pre
 decided_not_pre k e q = cc (ap is_undecided q, e)
-
-decided_is : (k : Kind) → is_undecided k ≡ false → k ≡ Final
-decided_is Pre e = absurd (cc e)
-decided_is LocalKind e = absurd (cc e)
-decided_is Final e = refl
 
 -- what is visible, where no Pre version is in the way
 pub sees_visible : (vs : List Version) (k : KeyId) (rs : ℕ) (p : Version) → InTime vs → last_pre vs k rs ≡ None → visible vs k rs ≡ Some p → Sees vs k rs p
@@ -131,7 +127,7 @@ serve-sees vs k rs a by fc t e = by_undecided (last_undecided vs k rs) refl e
         h = visible_one vs k rs p t v
 
         kind_of : p.kind ≡ Final
-        kind_of = elim (none_undecided vs k rs n p h.is_in h.key) [ inl l ↦ absurd (omega (Rattle.std.proofs.Common.arith, l, h.below)) | inr f ↦ decided_is p.kind f ]
+        kind_of = elim (none_undecided vs k rs n p h.is_in h.key) [ inl l ↦ absurd (omega (Rattle.std.proofs.Common.arith, l, h.below)) | inr f ↦ final_kind p.kind f ]
 
     by_visible : (o : Option Version) → visible vs k rs ≡ o → last_undecided vs k rs ≡ None → Turns.serve_visible o ≡ Give a by fc → ServeSees vs k rs a by fc
     by_visible None v n q =

@@ -10,7 +10,7 @@ use Rattle.si_laws.proofs.Order.MasterFacts.{IsBefore}
 use Rattle.si_laws.proofs.Guards.GuardedNewest.{commit_at}
 use Rattle.si_laws.proofs.CommitLists.NextAnswer.{IsNext, Keeps, SeenNext, seen_next}
 use Rattle.si_laws.proofs.CommitLists.NextHolds.{si_next, si_none}
-use Rattle.si_laws.proofs.Order.WritersApart.{key_of_table, master_of}
+use Rattle.si_laws.proofs.Order.WritersApart.{at_final, key_of_table, master_of}
 use Rattle.si_laws.proofs.CommitLists.ReadsSeen.{reads_seen}
 use Rattle.si_laws.proofs.CommitLists.CommitOrder.{named}
 use Rattle.str_model.proofs.OwnFacts.ScriptsCovered.{scripts_after}
@@ -26,7 +26,7 @@ use Rattle.str_base.specs.Versions.{stamp}
 use Rattle.str_base.specs.declared.names.Cause.TheVariants.{Wish}
 use Rattle.str_base.specs.declared.names.Cause.{Cause}
 use Rattle.str_base.specs.declared.names.KeyId.{KeyId}
-use Rattle.str_base.specs.declared.names.Kind.TheVariants.{Final, Local as LocalKind}
+use Rattle.str_base.specs.declared.names.Kind.TheVariants.{Local as LocalKind}
 use Rattle.str_base.specs.declared.names.NodeId.{NodeId}
 use Rattle.str_base.specs.declared.names.PartId.{PartId}
 use Rattle.str_base.specs.declared.names.Ts.{Ts}
@@ -160,10 +160,6 @@ module _ (scene : Scene) (ok : IsScene scene) (es : List Event) where
         → wrote_key k (seen scene (take n (run scene es).answers) b).writes ≡ true → (f ≤ b.rs.0) ⊎ (g ≤ a.rs.0)
     apart_ j f g b k ib ca cb wa wb = by_buffers (old j b ib) (behind scene ok es n a ia) (ap (λ (z : Evaluated). wrote_key k z.writes) (sym (commit_seen scene ok es n si so n a ia (Some (stamp f)) ca.0 (omega arith) ca.1)) ∙ wa)
       where
-        at_final : (v : View) (h : ℕ) (q : Version) → ArrivedAs v h q → q.kind ≡ Final → q.ts.0 ≡ h
-        at_final v h q (a_final t e) z = e
-        at_final v h q (a_pre t le nd) z = absurd (cc (sym t ∙ z))
-
         not_local : (v : View) (h : ℕ) (q : Version) → ArrivedAs v h q → q.kind ≢ LocalKind
         not_local v h q (a_final t e) z = cc (sym t ∙ z)
         not_local v h q (a_pre t le nd) z = cc (sym t ∙ z)

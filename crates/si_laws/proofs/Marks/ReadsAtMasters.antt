@@ -1,5 +1,5 @@
 -- A read goes to the master of its key's partition, waits there and is answered there.
-use Rattle.std.proofs.Common.{Bool, List, None, Option, Some, [], ap, eq-eqb, eqb-true, false, if◌then◌else◌, inl, inr, replicate, slice_get, slice_set, subst, sym, true, ℕ, ◌&&◌, ◌++◌, ◌+◌, ◌-◌, ◌∙◌, ◌∷◌, ◌≡◌}
+use Rattle.std.proofs.Common.{Bool, List, None, Option, Some, [], ap, eq-eqb, eqb-true, false, if◌then◌else◌, inl, inr, slice_get, subst, sym, true, ℕ, ◌&&◌, ◌++◌, ◌+◌, ◌-◌, ◌∙◌, ◌∷◌, ◌≡◌}
 use Rattle.str_base.specs.declared.names.KeyId.{KeyId}
 use Rattle.str_base.specs.declared.names.NodeId.{NodeId}
 use Rattle.str_base.specs.declared.names.Ts.{Ts}
@@ -13,7 +13,6 @@ use Rattle.str_base.specs.Versions.{last_pre, same_node, visible}
 use Rattle.dependency_set.specs.Snapshots.{Snap, accept_final, holds, oldest}
 use Rattle.str_scene.specs.declared.names.Event.{Event}
 use Rattle.str_scene.specs.Scenes.{Here, Scene, first_or, hosts_key, is_master, leads, part_of, replicas}
-use Rattle.str_scene.specs.Scenes
 use Rattle.partition_map.specs.Maps
 use Rattle.str_model.specs.declared.messages.Body.TheVariants.{ReadReply, ReadReq}
 use Rattle.str_model.specs.declared.messages.Input.{Input}

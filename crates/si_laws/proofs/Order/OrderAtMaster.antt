@@ -13,9 +13,9 @@ use Rattle.str_model.proofs.Principle.Everywhere.{IsSeen, Stage, at_place, durin
 use Rattle.si_laws.specs.Commits.{seen}
 use Rattle.si_laws.specs.Laws.Apart.{IsOrdered, OnePre, OrderAtMaster, OrderHolds}
 use Rattle.si_laws.specs.Standing.{Begun}
-use Rattle.std.proofs.Common.{Bool, List, Some, [], ap, arith, eq-eqb, false, inl, inr, refl, replicate, slice_get, subst, subst₂, sym, true, ℕ, ◌+◌, ◌∙◌, ◌≡◌, ◌≢◌, ◌≤◌, ◌⊎◌}
-use Rattle.str_base.specs.Versions.{is_local, same_tx}
-use Rattle.str_base.specs.declared.names.Kind.TheVariants.{Final, Local as LocalKind, Pre}
+use Rattle.std.proofs.Common.{Bool, List, Some, [], ap, arith, false, inl, inr, refl, replicate, slice_get, subst, subst₂, sym, true, ℕ, ◌+◌, ◌∙◌, ◌≡◌, ◌≢◌, ◌≤◌}
+use Rattle.str_base.specs.Versions.{is_local}
+use Rattle.str_base.specs.declared.names.Kind.TheVariants.{Final, Local as LocalKind}
 use Rattle.str_base.specs.declared.names.Kind.{Kind}
 use Rattle.str_base.specs.declared.names.NodeId.{NodeId}
 use Rattle.str_base.specs.declared.names.TxId.{TxId}
@@ -29,10 +29,11 @@ use Rattle.str_model.specs.declared.messages.Waiter.TheVariants.{Held}
 use Rattle.str_scene.specs.SceneLimits.{IsScene}
 use Rattle.str_scene.specs.Scenes.{Scene, is_master, nth}
 use Rattle.str_scene.specs.declared.names.Event.{Event}
-use Rattle.str_base.proofs.SameNames.{cases_tx, is-same_tx, same_tx-is}
+use Rattle.str_base.proofs.SameNames.{cases_tx}
 use Rattle.str_base.proofs.Lists.{get_set, get_set_other, got_replicate, got_set}
 use Rattle.str_base.proofs.Members.{in_at}
 use Rattle.str_base.specs.Members.{In}
+use Rattle.str_model.proofs.KindTests.{local_kind}
 
 -- what holds of every state: of messages, around Local versions, and at masters
 pub record Governed (scene : Scene) (s : Stage) : Type 0 where
@@ -123,19 +124,14 @@ module _ (scene : Scene) (ok : IsScene scene) (events : List Event) where
       let ir = in_at v.versions hr.0 r hr.1 in
       by_kinds p.0 p.2 mas' iq ir (is_local q.kind) refl (is_local r.kind) refl
     where
-      local_is : (k : Kind) → is_local k ≡ true → k ≡ LocalKind
-      local_is Pre e = absurd (cc e)
-      local_is LocalKind e = refl
-      local_is Final e = absurd (cc e)
-
       not_local : (k : Kind) → is_local k ≡ false → k ≢ LocalKind
       not_local k e q = cc (ap is_local q, e)
 
       by_kinds : (m : ℕ) → slice_get (run scene events).nodes m ≡ Some v → is_master scene (record { 0 = m + 1 }) q.part ≡ true → In q v.versions → In r v.versions
           → (a : Bool) → is_local q.kind ≡ a → (b : Bool) → is_local r.kind ≡ b → IsOrdered q x r y
-      by_kinds m there mas' iq ir true ea true eb = inr (inr (local_is q.kind ea, local_is r.kind eb))
-      by_kinds m there mas' iq ir true ea false eb = inr (inl (beside_local m v there q r x iq (local_is q.kind ea) ir (sym key) (λ z. ne (sym z)) (not_local r.kind eb) bx))
-      by_kinds m there mas' iq ir false ea true eb = inl (beside_local m v there r q y ir (local_is r.kind eb) iq key ne (not_local q.kind ea) by_)
+      by_kinds m there mas' iq ir true ea true eb = inr (inr (local_kind q.kind ea, local_kind r.kind eb))
+      by_kinds m there mas' iq ir true ea false eb = inr (inl (beside_local m v there q r x iq (local_kind q.kind ea) ir (sym key) (λ z. ne (sym z)) (not_local r.kind eb) bx))
+      by_kinds m there mas' iq ir false ea true eb = inl (beside_local m v there r q y ir (local_kind r.kind eb) iq key ne (not_local q.kind ea) by_)
       by_kinds m there mas' iq ir false ea false eb =
           elim ((governed scene events).masters.order m v there q r iq ir key mas' ne (not_local q.kind ea) (not_local r.kind eb)) [
             | inl z ↦ inl (z.final, omega (arith, z.below, begun_rs r.tx y z.rs z.lc z.ws by_ z.certified))

@@ -11,9 +11,8 @@ use Rattle.str_model.proofs.Principle.SingleChanges.{Act, Arrives, IsHere, Where
 use Rattle.str_model.proofs.Principle.Everywhere.{IsSeen, Stage, at_place, during}
 use Rattle.str_model.proofs.Changes.VersionsMet.{accept_met}
 use Rattle.std.proofs.Common.{List, Some, [], ap, arith, false, inl, inr, refl, slice_get, slice_set, subst, sym, true, ℕ, ◌+◌, ◌-◌, ◌∙◌, ◌∷◌, ◌≡◌, ◌≢◌, ◌⊎◌}
-use Rattle.str_base.specs.Versions.{is_undecided, of_pair, settled}
+use Rattle.str_base.specs.Versions.{of_pair, settled}
 use Rattle.str_base.specs.declared.names.Kind.TheVariants.{Final, Local as LocalKind, Pre}
-use Rattle.str_base.specs.declared.names.Kind.{Kind}
 use Rattle.str_base.specs.declared.names.NodeId.{NodeId}
 use Rattle.str_base.specs.declared.names.PartId.{PartId}
 use Rattle.str_base.specs.declared.names.Ts.{Ts}
@@ -36,15 +35,11 @@ use Rattle.str_scene.specs.Scenes.{Scene, is_master, part_of}
 use Rattle.str_base.proofs.Lists.{get_set_other, got_set}
 use Rattle.str_base.proofs.Members.{in_append}
 use Rattle.str_base.specs.Members.{In}
+use Rattle.str_model.proofs.KindTests.{final_kind}
 
 module _ (scene : Scene) (s : Stage) (i : ℕ) (v : View) (input : Input) (w : Where) (d e : Doing) (is : slice_get s.nodes i ≡ Some v) (seen : IsSeen s input) (act : Act (at_place scene i) input w d e)
     (h : Linked scene (during s i d)) (st : Stand (at_place scene i) d.view) (m : Masters scene (during s i d)) where
   -- ---- order
-
-  not_undecided : (k : Kind) → is_undecided k ≡ false → k ≡ Final
-  not_undecided Pre f = absurd (cc f)
-  not_undecided LocalKind f = absurd (cc f)
-  not_undecided Final f = refl
 
   -- a version that is accepted comes after those that stand
   accepted_after : (a : Arrived) (ts : ℕ) → IsHere (at_place scene i) input d a → master_turn d.view a ≡ Accept ts → (x : Write) → In x a.writes → (q r : Version) → q ≡ pre_version a ts x → In r d.view.versions
@@ -53,7 +48,7 @@ module _ (scene : Scene) (s : Stage) (i : ℕ) (v : View) (input : Input) (w : W
       let met = accept_met d.view a ts t r x o j (key ∙ ap (λ (y : Version). y.key) z) in
       let ws = writes_of scene s i v input w d e is seen act h st m a (by_master g) in
       record {
-        final = not_undecided r.kind met.0;
+        final = final_kind r.kind met.0;
         rs = a.rs.0;
         lc = a.lc.0;
         ws = ws.0;

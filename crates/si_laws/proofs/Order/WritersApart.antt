@@ -6,7 +6,6 @@ use Rattle.si_laws.proofs.Stages.LinkedStates.{IsCertified, one_certified, one_o
 use Rattle.si_laws.proofs.Order.OrderAtMaster.{governed, one_pre}
 use Rattle.si_laws.proofs.Order.MasterFacts.{IsBefore}
 use Rattle.str_model.proofs.OwnFacts.ScriptsCovered.{ScriptGood, WritesKey, eval_keys, scripts_after}
-use Rattle.si_laws.proofs.Stages.ParticipantSeats.{of_nth}
 use Rattle.si_laws.proofs.Sessions.SessionAnswers.{committed_phase, entry, session_holds}
 use Rattle.si_laws.proofs.Sessions.SessionHolds.{good_everywhere}
 use Rattle.str_model.proofs.Changes.PairWords.{any_has}
@@ -15,7 +14,7 @@ use Rattle.si_laws.specs.Commits.{seen}
 use Rattle.si_laws.specs.Laws.Apart.{ApartHolds}
 use Rattle.si_laws.specs.SnapshotIsolation.{IsAnswer, IsCommittedAt, NoOverlap}
 use Rattle.si_laws.specs.Standing.{IsCommitted}
-use Rattle.std.proofs.Common.{List, None, Option, Some, [], ap, arith, eq-eqb, eqb-true, inl, inr, length, refl, slice_get, subst, subst₂, suc, sym, true, zero, ℕ, ◌+◌, ◌<◌, ◌∙◌, ◌∷◌, ◌≡◌, ◌≢◌, ◌≤◌}
+use Rattle.std.proofs.Common.{List, None, Some, [], ap, arith, eq-eqb, eqb-true, inl, inr, length, refl, slice_get, subst, subst₂, suc, sym, true, zero, ℕ, ◌+◌, ◌<◌, ◌∙◌, ◌∷◌, ◌≡◌, ◌≢◌, ◌≤◌}
 use Rattle.std.specs.List.{list_any}
 use Rattle.str_base.specs.Versions.{same_key, same_node}
 use Rattle.str_base.specs.declared.names.KeyId.{KeyId}
@@ -31,7 +30,7 @@ use Rattle.str_model.specs.Scripts.{own_op}
 use Rattle.str_model.specs.Views.{Own, View, lc_of}
 use Rattle.str_model.specs.declared.messages.Answer.{Answer}
 use Rattle.str_scene.specs.SceneLimits.{Exists, IsOp, IsScene}
-use Rattle.str_scene.specs.Scenes.{KeyTable, Scene, Session, hosts, is_master, leads, named_part, nth, ops_at, or_none, part_of, replicas, script_at}
+use Rattle.str_scene.specs.Scenes.{KeyTable, Scene, hosts, is_master, leads, named_part, nth, or_none, part_of, replicas, script_at}
 use Rattle.str_scene.specs.declared.names.Event.{Event}
 use Rattle.str_scene.specs.declared.names.Op.TheVariants.{Abort as Stop, Add, Del, Get, Need, Put, Puts}
 use Rattle.str_scene.specs.declared.names.Op.{Op}

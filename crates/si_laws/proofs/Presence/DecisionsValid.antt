@@ -14,7 +14,7 @@ use Rattle.str_model.specs.Owned.{wrote_key}
 use Rattle.si_laws.specs.Laws.Presence.{Decides}
 use Rattle.si_laws.specs.Laws.Times.{TimesBounded}
 use Rattle.si_laws.specs.Numbers.{all_times, body_times, proposals, view_times}
-use Rattle.std.proofs.Common.{Bool, List, Some, [], ap, arith, eq-eqb, eqb-true, false, filter, flat_map, inl, inr, le-leb, length, lt-ltb, map, nat_le, nat_lt, not, refl, slice_get, subst, subst₂, sym, true, ℕ, ◌&&◌, ◌*◌, ◌+◌, ◌<◌, ◌^◌, ◌∙◌, ◌∷◌, ◌≡◌, ◌≤◌}
+use Rattle.std.proofs.Common.{Bool, List, Some, [], ap, arith, eq-eqb, eqb-true, false, filter, flat_map, inl, inr, le-leb, length, lt-ltb, map, nat_le, nat_lt, not, refl, slice_get, subst, subst₂, sym, true, ℕ, ◌*◌, ◌+◌, ◌<◌, ◌^◌, ◌∙◌, ◌∷◌, ◌≡◌, ◌≤◌}
 use Rattle.std.proofs.lemmas.Option.{slice_get_within}
 use Rattle.std.specs.List.{list_all, list_any}
 use Rattle.str_base.specs.Versions.{same_key, same_node, same_part}

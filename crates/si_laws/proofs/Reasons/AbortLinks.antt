@@ -1,31 +1,25 @@
 -- Between two moments that follow one another a transaction aborts by one of the causes.
-use Rattle.std.proofs.Common.{Bool, List, None, Option, Some, [], ap, eqb-true, false, if◌then◌else◌, inl, inr, refl, slice_get, subst, sym, true, ℕ, ◌&&◌, ◌+◌, ◌∙◌, ◌∷◌, ◌≡◌, ◌≢◌}
+use Rattle.std.proofs.Common.{Bool, List, None, Option, Some, [], ap, eqb-true, false, if◌then◌else◌, inl, inr, refl, slice_get, subst, sym, true, ℕ, ◌+◌, ◌∙◌, ◌∷◌, ◌≡◌, ◌≢◌}
 use Rattle.std.specs.List.{list_any}
 use Rattle.str_base.specs.declared.names.Cause.{Cause}
 use Rattle.str_base.specs.declared.names.Cause.TheVariants.{Wish}
 use Rattle.str_base.specs.declared.names.KeyId.{KeyId}
 use Rattle.str_base.specs.declared.names.SessionId.{SessionId}
-use Rattle.str_base.specs.declared.names.TxId.{TxId}
 use Rattle.str_base.specs.declared.names.Value.{Value}
 use Rattle.str_base.specs.declared.names.Value.TheVariants.{Absent, Num, Text}
 use Rattle.str_base.specs.declared.names.Write.{Write}
-use Rattle.str_base.specs.Versions.{same_node, stamp}
-use Rattle.str_scene.specs.Scenes.{Here, Session, hosts_key, nth}
+use Rattle.str_base.specs.Versions.{same_node}
+use Rattle.str_scene.specs.Scenes.{Here, Session, nth}
 use Rattle.str_scene.specs.declared.names.Op.{Op}
 use Rattle.str_scene.specs.declared.names.Op.TheVariants.{Abort as Stop, Add, Del, Get, Need, Put, Puts}
 use Rattle.str_scene.specs.declared.names.TxPlace.{TxPlace}
-use Rattle.str_model.specs.declared.messages.Arrived.{Arrived}
 use Rattle.str_model.specs.declared.messages.Input.{Input}
 use Rattle.str_model.specs.declared.messages.Input.TheVariants.{Client}
-use Rattle.str_model.specs.Acts.{accepted, begun, fresh, in_phase, marked, refused, replied, waits}
-use Rattle.str_model.specs.Arrivals
-use Rattle.str_model.specs.Arrivals.{evict}
+use Rattle.str_model.specs.Acts.{begun, fresh, in_phase}
 use Rattle.str_model.specs.Clients
 use Rattle.str_model.specs.Owned.{Owns}
-use Rattle.str_model.specs.Proposals.{Accept, Ignore, MasterTurn, Park, Refuse}
 use Rattle.str_model.specs.Scripts
 use Rattle.str_model.specs.Scripts.{known, own_op}
-use Rattle.str_model.specs.Turns.{Give, ServeTurn, ServeWait, serve_turn}
 use Rattle.str_model.specs.Views.{Aborted, Active, Closing, Committed, Doing, Own, Phase, is_decided, put}
 use Rattle.str_model.proofs.Principle.SingleChanges.{InRule, InTurn, Path, Touches, Where, along}
 use Rattle.str_model.proofs.Principle.OwnPaths.{free_at, op_or_commit-path}

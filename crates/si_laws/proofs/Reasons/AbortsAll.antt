@@ -1,5 +1,5 @@
 -- How a transaction aborts between two moments that follow one another: the messages, and all links.
-use Rattle.std.proofs.Common.{Bool, List, None, Option, Some, ap, false, if◌then◌else◌, inl, inr, length, refl, slice_get, sub-one, subst, suc, sym, true, zero, ℕ, ◌&&◌, ◌-◌, ◌∙◌, ◌≡◌, ◌≢◌}
+use Rattle.std.proofs.Common.{Bool, List, None, Option, Some, ap, false, if◌then◌else◌, inl, inr, length, refl, slice_get, subst, suc, sym, true, ℕ, ◌&&◌, ◌-◌, ◌∙◌, ◌≡◌, ◌≢◌}
 use Rattle.str_base.specs.declared.names.Cause.{Cause}
 use Rattle.str_base.specs.declared.names.Cause.TheVariants.{Conflict as ByConflict}
 use Rattle.str_base.specs.declared.names.KeyId.{KeyId}
@@ -10,8 +10,8 @@ use Rattle.partition_map.specs.declared.rows.Asked.{Asked}
 use Rattle.str_base.specs.declared.names.TxId.{TxId}
 use Rattle.str_base.specs.declared.names.Value.{Value}
 use Rattle.str_base.specs.declared.names.Write.{Write}
-use Rattle.str_base.specs.Versions.{same_key, same_node}
-use Rattle.str_scene.specs.Scenes.{Here, is_master, nth}
+use Rattle.str_base.specs.Versions.{same_key}
+use Rattle.str_scene.specs.Scenes.{Here, is_master}
 use Rattle.str_model.specs.declared.messages.Arrived.{Arrived}
 use Rattle.str_model.specs.declared.messages.Body.{Body}
 use Rattle.str_model.specs.declared.messages.Body.TheVariants.{Abort, Ack, Commit, Prepare, ReadReply, ReadReq, Refuse as Refusal, Replicate}
@@ -40,7 +40,8 @@ use Rattle.str_model.proofs.Principle.NextMoments.{Link, evict_linked_to, l_clos
 use Rattle.str_model.proofs.Principle.MomentPaths.{take_is}
 use Rattle.si_laws.proofs.Reasons.AbortChanges.{AbortedBy, ab_refused, aborted_cause, evict_by, half_by, turn_by}
 use Rattle.si_laws.proofs.Reasons.AbortLinks.{Case, client_case, kept_case, left_alone, same_case, set_case}
-use Rattle.si_laws.proofs.Reasons.QuietRules.{by_if, master_quiet, named_owns, read_req_quiet}
+use Rattle.si_laws.proofs.Reasons.QuietRules.{by_if, master_quiet, read_req_quiet}
+use Rattle.str_model.proofs.Principle.RulePaths.{named_owns}
 use Rattle.str_base.proofs.Lists.{get_set_other}
 use Rattle.std.proofs.lemmas.Bool.{and_parts, cases_eq}
 

@@ -3,7 +3,6 @@ use Rattle.std.proofs.Common.{List, None, Option, Some, [], ap, inl, inr, option
 use Rattle.str_base.specs.declared.names.Cause.{Cause}
 use Rattle.str_base.specs.declared.names.NodeId.{NodeId}
 use Rattle.str_base.specs.declared.names.Ts.{Ts}
-use Rattle.str_base.specs.declared.names.TxId.{TxId}
 use Rattle.str_base.specs.Versions.{stamp}
 use Rattle.str_scene.specs.declared.names.Event.{Event}
 use Rattle.str_scene.specs.SceneLimits.{IsScene}
@@ -13,10 +12,10 @@ use Rattle.str_model.specs.declared.messages.Outcome.TheVariants.{Aborted as Abo
 use Rattle.str_model.specs.declared.names.Got.{Got}
 use Rattle.str_model.specs.Runs.{World, happens, opening, run, run_from}
 use Rattle.str_model.specs.Traces.{Happening, MomentAt, happening, trace, trace_from}
-use Rattle.str_model.specs.Views.{Aborted, Committed, Doing, Own, Phase, is_decided, starts}
+use Rattle.str_model.specs.Views.{Aborted, Committed, Doing, Phase, is_decided, starts}
 use Rattle.str_model.proofs.Principle.Everywhere.{at_place}
 use Rattle.str_model.proofs.Principle.LastMoment.{EndsAt}
-use Rattle.str_model.proofs.Principle.LaterMoments.{Took, first_of, got_below, took}
+use Rattle.str_model.proofs.Principle.LaterMoments.{first_of, got_below, took}
 use Rattle.str_model.proofs.Principle.NextMoments.{linked}
 use Rattle.str_model.proofs.Principle.TraceEvents.{Turns, ends_slice, event_turns, nobody, somebody}
 use Rattle.str_model.proofs.Changes.AnswerChanges.{outcome_of}

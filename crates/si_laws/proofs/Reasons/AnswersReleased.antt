@@ -1,5 +1,6 @@
 -- Between two moments that follow one another an answer is released only of a transaction that was undecided and is decided, and tells how it stood.
 use Rattle.std.proofs.Common.{Bool, List, None, Option, Some, [], ap, false, if◌then◌else◌, inl, inr, length, refl, slice_get, slice_set, subst, suc, sym, true, zero, ℕ, ◌&&◌, ◌+◌, ◌-◌, ◌<◌, ◌∙◌, ◌∷◌, ◌≡◌, ◌≢◌, ◌⊎◌}
+use Rattle.std.proofs.lemmas.Bool.{false_from_ne_true}
 use Rattle.std.proofs.lemmas.Option.{slice_get_within}
 use Rattle.partition_map.specs.declared.rows.Asked.{Asked}
 use Rattle.dependency_set.specs.declared.names.Dep.{Dep}
@@ -23,7 +24,6 @@ use Rattle.str_model.specs.declared.messages.Body.{Body}
 use Rattle.str_model.specs.declared.messages.Body.TheVariants.{Abort, Ack, Commit, Prepare, ReadReply, ReadReq, Refuse as Refusal, Replicate}
 use Rattle.str_model.specs.declared.messages.Input.{Input}
 use Rattle.str_model.specs.declared.messages.Input.TheVariants.{Client, Deliver}
-use Rattle.str_model.specs.declared.messages.Message.{Message}
 use Rattle.str_model.specs.declared.names.Got.{Got}
 use Rattle.str_model.specs.Acts.{abort_came, aborted, acked, asked, begun, closed, commit_came, committed, decided_as, fresh, in_phase, taken, with_asked}
 use Rattle.str_model.specs.Arrivals
@@ -48,6 +48,7 @@ use Rattle.str_model.proofs.Principle.SingleChanges.{Act, InRule, InTurn, InWait
 use Rattle.str_model.proofs.Principle.StepPaths.{half_turn-path, waiter_turn-waited}
 use Rattle.str_model.proofs.Principle.NextMoments.{Link, evict_linked_to, l_close, l_evict, l_half, l_rule, l_wait, last_of, valid}
 use Rattle.str_model.proofs.Principle.MomentPaths.{take_is}
+use Rattle.str_model.proofs.Principle.RulePaths.{named_owns}
 use Rattle.str_model.proofs.Principle.OwnPaths.{free_at, op_or_commit-path}
 use Rattle.str_model.proofs.Changes.AnswerChanges.{TellStep, in_release, t_begins, t_decides, t_goes, t_rests, tell_step, told}
 use Rattle.str_model.proofs.Changes.OwnChanges.{own_step}
@@ -59,9 +60,10 @@ use Rattle.str_model.proofs.OwnFacts.PlacesInOrder.{get_set_cases}
 use Rattle.str_model.proofs.OwnFacts.TurnsBelow.{leaves}
 use Rattle.si_laws.proofs.Dependencies.DependencyFates.{NotCommitted, not_committed-act}
 use Rattle.si_laws.proofs.Reasons.AbortChanges.{at_own_is}
-use Rattle.si_laws.proofs.Reasons.QuietRules.{by_if, master_quiet, named_owns, read_req_quiet}
+use Rattle.si_laws.proofs.Reasons.QuietRules.{by_if, master_quiet, read_req_quiet}
 use Rattle.si_laws.proofs.Stages.LinkedStates.{one_of}
 use Rattle.si_laws.specs.GateLaw.{HasCommitted}
+use Rattle.std.proofs.lemmas.Bool.{false_from_ne_true}
 
 -- ---- what stays of an own transaction
 
@@ -129,10 +131,6 @@ module _ (here : Here) (input : Input) where
   follows_self : (d : Doing) → Follows d d
   follows_self d = record { stays = λ i x own. (x, own, still_self x); tells = λ a m. inl m }
 
-  not_yet : (b : Bool) → (b ≡ true → ⊥) → b ≡ false
-  not_yet true h = absurd (h refl)
-  not_yet false h = refl
-
   follows_act : (w : Where) (d c e : Doing) → Act here input w c e → Follows d c → Follows d e
   follows_act w d c e act h =
       record {
@@ -160,7 +158,7 @@ module _ (here : Here) (input : Input) where
               is = q;
               before = λ z oz. let s = h.stays i z oz in
                   let same : s.0 ≡ x = same_own c.view i i s.0 x s.1 own refl in (
-                    not_yet (is_decided z.phase) (λ t. cc (s.2.decided t, ap (λ (u : Own). is_decided u.phase) same, f)),
+                    false_from_ne_true (is_decided z.phase) (λ t. cc (s.2.decided t, ap (λ (u : Own). is_decided u.phase) same, f)),
                     record { place = ap (λ (u : Own). u.place) (sym same) ∙ s.2.place; rs = ap (λ (u : Own). u.snap.rs) (sym same) ∙ s.2.rs; decided = λ t. g },
                   );
             })

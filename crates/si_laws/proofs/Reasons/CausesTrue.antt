@@ -1,12 +1,11 @@
 -- Each abort has a true cause: a dependency that was lost or came too late, a wish, a conflict found at home or by a Replicate.
-use Rattle.std.proofs.Common.{Bool, List, None, Option, Some, [], add-sub_cancel, ap, arith, false, find, if◌then◌else◌, inl, inr, max, nat_lt, refl, slice_get, subst, suc, sym, true, ltb-true, ℕ, ◌+◌, ◌-◌, ◌<◌, ◌∙◌, ◌∷◌, ◌≡◌, ◌||◌, ◌⊎◌}
+use Rattle.std.proofs.Common.{Bool, List, None, Option, Some, [], add-sub_cancel, ap, arith, false, find, if◌then◌else◌, inl, inr, max, nat_lt, refl, slice_get, subst, suc, sym, true, ltb-true, ℕ, ◌+◌, ◌-◌, ◌<◌, ◌∙◌, ◌∷◌, ◌≡◌, ◌⊎◌}
 use Rattle.dependency_set.specs.Snapshots.{Snap}
 use Rattle.dependency_set.specs.declared.names.Dep.{Dep}
 use Rattle.str_base.specs.declared.names.Cause.{Cause}
 use Rattle.str_base.specs.declared.names.Cause.TheVariants.{Late as IsLate, Lost as IsLost, Wish}
 use Rattle.str_base.specs.declared.names.KeyId.{KeyId}
-use Rattle.str_base.specs.declared.names.Kind.{Kind}
-use Rattle.str_base.specs.declared.names.Kind.TheVariants.{Final, Local as LocalKind, Pre}
+use Rattle.str_base.specs.declared.names.Kind.TheVariants.{Pre}
 use Rattle.str_base.specs.declared.names.Ts.{Ts}
 use Rattle.str_base.specs.declared.names.TxId.{TxId}
 use Rattle.str_base.specs.declared.names.Version.{Version}
@@ -37,6 +36,7 @@ use Rattle.str_base.proofs.SameNames.{same_key-is}
 use Rattle.si_laws.proofs.Stages.ParticipantSeats.{of_nth}
 use Rattle.str_base.specs.Members.{In}
 use Rattle.std.proofs.lemmas.Bool.{or_cases}
+use Rattle.str_model.proofs.KindTests.{pre_kind}
 
 -- ---- the look at the dependencies
 
@@ -99,11 +99,6 @@ conflict_is here v snap ws u k e = by_found (find (conflicts snap.rs) (met ws v.
     by_gate true n s t q = cc q
     by_gate false n s t q = cc q
 
-    kind_of : (kind : Kind) → is_pre kind ≡ true → kind ≡ Pre
-    kind_of Pre q = refl
-    kind_of LocalKind q = absurd (cc q)
-    kind_of Final q = absurd (cc q)
-
     by_found : (o : Option Version) → find (conflicts snap.rs) (met ws v.versions) ≡ o → Turns.cert_after here v snap ws o ≡ Conflict u k
         → (q : Version) × (In q v.versions) × (q.tx ≡ u) × (q.key ≡ k) × ((q.kind ≡ Pre) ⊎ (snap.rs < q.ts.0)) × ((w : Write) × (In w ws) × (w.key ≡ k))
     by_found None f q = absurd (by_gate _ _ _ _ q)
@@ -117,7 +112,7 @@ conflict_is here v snap ws u k e = by_found (find (conflicts snap.rs) (met ws v.
           c.0,
           tx,
           key,
-          elim (or_cases (is_pre x.kind) (nat_lt snap.rs x.ts.0) g.1) [ inl z ↦ inl (kind_of x.kind z) | inr z ↦ inr (ltb-true snap.rs x.ts.0 z) ],
+          elim (or_cases (is_pre x.kind) (nat_lt snap.rs x.ts.0) g.1) [ inl z ↦ inl (pre_kind x.kind z) | inr z ↦ inr (ltb-true snap.rs x.ts.0 z) ],
           (r.0, r.1, sym (same_key-is x.key r.0.key c.1) ∙ key),
         )
 

@@ -31,7 +31,6 @@ use Rattle.si_laws.specs.Standing.{IsCommitted}
 use Rattle.str_base.proofs.Lists.{got_replicate}
 use Rattle.std.proofs.lemmas.Bool.{cases_eq}
 use Rattle.str_base.specs.Members.{In}
-use Rattle.si_laws.proofs.Stages.ParticipantSeats.{of_nth}
 
 pub place_nth : {X : Type 0} (xs : List X) (s i : ℕ) (x : X) → s ≡ i + 1 → slice_get xs i ≡ Some x → nth xs s ≡ Some x
 place_nth xs s i x e g = ap (λ k. nth xs k) (e ∙ one) ∙ g

@@ -1,10 +1,9 @@
 -- A conflict that makes a transaction abort: both wrote the key, and it was found at home, came by a Replicate, or the master's Refuse came.
-use Rattle.std.proofs.Common.{Bool, List, None, Some, [], add-sub_cancel, ap, arith, eqb-true, false, if◌then◌else◌, inl, inr, refl, slice_get, slice_set, subst, sym, true, ℕ, ◌&&◌, ◌+◌, ◌-◌, ◌∙◌, ◌∷◌, ◌≡◌, ◌||◌, ◌⊎◌}
+use Rattle.std.proofs.Common.{Bool, List, None, Some, [], add-sub_cancel, ap, arith, eq-eqb, eqb-true, false, if◌then◌else◌, inl, inr, refl, slice_get, slice_set, subst, suc, sym, true, ℕ, ◌&&◌, ◌+◌, ◌-◌, ◌∙◌, ◌∷◌, ◌≡◌, ◌||◌, ◌⊎◌}
 use Rattle.std.specs.List.{list_any}
+use Rattle.str_base.specs.declared.names.Cause.{Cause}
 use Rattle.str_base.specs.declared.names.Cause.TheVariants.{Conflict as ByConflict}
 use Rattle.str_base.specs.declared.names.KeyId.{KeyId}
-use Rattle.str_base.specs.declared.names.Kind.{Kind}
-use Rattle.str_base.specs.declared.names.Kind.TheVariants.{Final, Local as LocalKind, Pre}
 use Rattle.str_base.specs.declared.names.NodeId.{NodeId}
 use Rattle.str_base.specs.declared.names.PartId.{PartId}
 use Rattle.str_base.specs.declared.names.TxId.{TxId}
@@ -13,17 +12,19 @@ use Rattle.str_base.specs.declared.names.Write.{Write}
 use Rattle.str_base.specs.Versions.{is_local, of_tx, same_key, same_node}
 use Rattle.str_scene.specs.declared.names.Event.{Event}
 use Rattle.str_scene.specs.SceneLimits.{IsScene}
-use Rattle.str_scene.specs.Scenes.{Scene, is_master, nth}
+use Rattle.str_scene.specs.Scenes.{Here, Scene, is_master, nth}
 use Rattle.str_model.specs.declared.messages.Body.TheVariants.{Refuse as Refusal}
+use Rattle.str_model.specs.declared.messages.Input.{Input}
 use Rattle.str_model.specs.declared.messages.Message.{Message}
 use Rattle.str_model.specs.Owned.{Owns}
 use Rattle.str_model.specs.Returns.{own_named}
 use Rattle.str_model.specs.Runs.{World, happens, opening, run, run_from}
 use Rattle.str_model.specs.Traces.{MomentAt, trace}
-use Rattle.str_model.specs.Views.{Doing, Own, View, name_of}
+use Rattle.str_model.specs.Views.{Doing, Own, View, lc_of, name_of}
 use Rattle.str_model.proofs.Principle.Everywhere.{AtNode, Sent, Stage, at_place, during, run-append, stage_of, stays_at}
 use Rattle.str_model.proofs.Principle.LaterMoments.{Took, at_each_moment, to_end}
-use Rattle.si_laws.proofs.Reasons.AbortChanges.{AbortedBy, ab_evicted, ab_late, ab_lost, ab_met, ab_refused, ab_stop, ab_wish}
+use Rattle.si_laws.proofs.Reasons.AbortChanges.{AbortedBy, AsksNow, ab_evicted, ab_late, ab_lost, ab_met, ab_refused, ab_stop, ab_wish, now_at_end, now_waiting}
+use Rattle.si_laws.proofs.Reasons.OthersNamed.{evicted_other, no_version}
 use Rattle.si_laws.proofs.Reasons.CausesTrue.{Aborts, aborts_by, asks_is, conflict_is}
 use Rattle.si_laws.proofs.Reasons.CommitsAfter.{place_nth}
 use Rattle.str_model.proofs.OwnFacts.LocalOwners.{same_own}
@@ -37,6 +38,7 @@ use Rattle.str_base.proofs.Lists.{get_set, got_set}
 use Rattle.str_base.proofs.Members.{at_in, in_at, in_left}
 use Rattle.si_laws.proofs.Stages.ParticipantSeats.{of_nth}
 use Rattle.str_base.specs.Members.{In}
+use Rattle.str_model.proofs.KindTests.{local_kind}
 
 -- the own transaction of this place has written the key
 abbrev pub WroteAt : ℕ → KeyId → View → Type 0
@@ -91,6 +93,23 @@ module _ (scene : Scene) (ok : IsScene scene) (es : List Event) where
     pub body : message.body ≡ Refusal t part u k
     pub master : is_master scene n part ≡ true
 
+  named : (t : TxId) (p i : ℕ) → t.node.0 ≡ i + 1 → t.seq ≡ p + 1 → name_of (at_place scene i) p ≡ t
+  named t p i n s = λ z. record { node = record { 0 = sym n z }; seq = sym s z }
+
+  no_lc : {here : Here} {input : Input} (x : Own) → AsksNow here input x → lc_of x.phase ≡ None
+  no_lc x (now_at_end st p e n) = ap lc_of p
+  no_lc x (now_waiting p) = ap lc_of p
+
+  apart : (i : ℕ) (u : TxId) → u.node.0 ≡ i + 1 → same_node u.node (record { 0 = i + 1 }) ≡ false → ⊥
+  apart i u q f = cc (eq-eqb u.node.0 (i + 1) q, f)
+
+  one : (i : ℕ) → suc i ≡ i + 1
+  one i = omega arith
+
+  -- both moments are of one event
+  entry : (j : ℕ) (t : TxId) (d : Doing) (x : Own) (cause : Cause) (a : AbortsAt (trace scene es) j t d x cause) → a.before.0 ≡ a.after.0
+  entry j t d x cause a = let same : Some a.before.0 ≡ Some a.after.0 = sym a.before.1 ∙ a.after.1 in cc same
+
   -- a conflict: both wrote the key, and it was found at home or came by a Replicate; or the master's Refuse has come
   pub conflict_true : (j : ℕ) (t : TxId) (d : Doing) (x : Own) (u : TxId) (k : KeyId) (n : NodeId) → AbortsAt (trace scene es) j t d x (ByConflict u k n)
       → TrueConflict scene (run scene es) (trace scene es) j t d x u k n ⊎ RefuseHere j t u k n
@@ -111,6 +130,7 @@ module _ (scene : Scene) (ok : IsScene scene) (es : List Event) where
           let tx : r.0.tx ≡ u = r.2 ∙ eu in
           let key : r.0.key ≡ k = r.3 ∙ ek in
           inl (
+            (λ z. no_version scene ok es j a.moment t.node d a.before g b.place x r.0 b.owns a.was_open (no_lc x asks) mem (tx ∙ (z ∙ sym (named t b.place g.takes.place (ap (λ (z : NodeId). z.0) g.node) b.seq)))),
             (wrote_is x k (r.5.0, r.5.1, r.5.2 ∙ ek), w'.0, subst (λ z. Begun (run scene es) z w'.0) tx w'.1, subst (Wrote w'.0) key w'.2),
             inl (inl (sym en ∙ sym g.node, (asks_is scene ok es j t d x (ByConflict u k n) a b asks, (r.0, (at.0, at.1, tx, key), elim r.4 [ inl z ↦ inl z | inr z ↦ inr (omega (arith, z, rs)) ])))),
           )
@@ -126,7 +146,7 @@ module _ (scene : Scene) (ok : IsScene scene) (es : List Event) where
           let qkey : q.0.key ≡ w.key = same_key-is q.0.key w.key (and_true_left (same_key q.0.key w.key) (of_tx (name_of here b.place) q.0 && is_local q.0.kind) q.2) in
           let rest = and_true_right (same_key q.0.key w.key) (of_tx (name_of here b.place) q.0 && is_local q.0.kind) q.2 in
           let qtx : q.0.tx ≡ name_of here b.place = same_tx-is q.0.tx (name_of here b.place) (and_true_left (of_tx (name_of here b.place) q.0) (is_local q.0.kind) rest) in
-          let local = kind_is q.0.kind (and_true_right (of_tx (name_of here b.place) q.0) (is_local q.0.kind) rest) in
+          let local = local_kind q.0.kind (and_true_right (of_tx (name_of here b.place) q.0) (is_local q.0.kind) rest) in
           let name : name_of here b.place ≡ t = named t b.place g.takes.place (ap (λ (z : NodeId). z.0) g.node) b.seq in
           let all = written_moment j a.moment t.node d a.before g in
           let there = get_set (run scene g.from.early).nodes g.takes.place g.takes.view d.view g.takes.is in
@@ -137,6 +157,8 @@ module _ (scene : Scene) (ok : IsScene scene) (es : List Event) where
           let p = at_in d.view.versions q.0 q.1 in
           let i = at_in c.writes w f.0 in
           inl (
+            (λ z. apart g.takes.place c.tx (ap (λ (y : TxId). y.node.0) (eu ∙ z) ∙ ap (λ (y : NodeId). y.0) g.node)
+                (evicted_other here g.takes.input g.takes.view a.moment a.next from c (ap (λ xs. slice_get xs (suc a.moment)) (sym g.takes.moments) ∙ (ap (λ h. slice_get h.moments (suc a.moment)) (entry j t d x (ByConflict u k n) a) ∙ (ap (λ i. slice_get a.after.0.moments i) (one a.moment) ∙ a.after.3))) m)),
             (
               wrote_is x k (subst (λ z. WroteKey x.writes z) (qkey ∙ ek) (own_wrote s g.takes.place b.place q.0.tx q.0.key mine x (ap (λ (z : TxId). z.node.0) qtx) (ap (λ (z : TxId). z.seq) qtx) b.owns there)),
               y.0,
@@ -156,14 +178,6 @@ module _ (scene : Scene) (ok : IsScene scene) (es : List Event) where
             )),
           )
         where
-          kind_is : (z : Kind) → is_local z ≡ true → z ≡ LocalKind
-          kind_is Pre q = absurd (cc q)
-          kind_is Final q = absurd (cc q)
-          kind_is LocalKind q = refl
-
-          named : (t : TxId) (p i : ℕ) → t.node.0 ≡ i + 1 → t.seq ≡ p + 1 → name_of (at_place scene i) p ≡ t
-          named t p i n s = λ z. record { node = record { 0 = sym n z }; seq = sym s z }
-
           own_wrote : (s : Stage) (i p : ℕ) (tx : TxId) (l : KeyId) (c : WroteIn (during s i d) tx l) (x : Own) → tx.node.0 ≡ i + 1 → tx.seq ≡ p + 1 → Owns d.view p x → slice_get (slice_set s.nodes i d.view) i ≡ Some d.view → WroteKey x.writes l
           own_wrote s i p tx l c x node seq own there =
               let n : c.node ≡ i = omega (arith, node, c.at_node) in

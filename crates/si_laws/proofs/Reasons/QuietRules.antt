@@ -1,18 +1,17 @@
 -- Rules of messages that leave the own transactions and the answers alone.
-use Rattle.std.proofs.Common.{Bool, None, Option, Some, false, if◌then◌else◌, not, refl, slice_get, sub-one, subst, suc, true, zero, ℕ, ◌&&◌, ◌-◌, ◌≡◌}
+use Rattle.std.proofs.Common.{Bool, None, Option, Some, false, if◌then◌else◌, not, refl, subst, true, ℕ, ◌&&◌, ◌≡◌}
 use Rattle.std.specs.List.{list_any}
 use Rattle.str_base.specs.declared.names.KeyId.{KeyId}
 use Rattle.str_base.specs.declared.names.TxId.{TxId}
 use Rattle.str_base.specs.Versions.{same_node, stamp}
-use Rattle.str_scene.specs.Scenes.{Here, hosts_key, nth}
+use Rattle.str_scene.specs.Scenes.{Here, hosts_key}
 use Rattle.str_model.specs.declared.messages.Arrived.{Arrived}
 use Rattle.str_model.specs.declared.messages.Waiter.TheVariants.{Held, Read}
 use Rattle.str_model.specs.Acts.{accepted, marked, refused, replied, waits}
 use Rattle.str_model.specs.Arrivals
 use Rattle.str_model.specs.Proposals.{Accept, Ignore, MasterTurn, Park, Refuse}
-use Rattle.str_model.specs.Returns.{own_named}
 use Rattle.str_model.specs.Turns.{Give, ServeTurn, ServeWait, serve_turn}
-use Rattle.str_model.specs.Views.{Doing, Own}
+use Rattle.str_model.specs.Views.{Doing}
 
 -- the own transactions and the answers are as before
 pub record IsQuiet (d r : Doing) : Type 0 where
@@ -27,18 +26,6 @@ by_if true o r e = (refl, e)
 by_if false o r e = absurd (cc e)
 
 module _ (here : Here) where
-  -- the own transaction that a message names
-  pub named_owns : (tx : TxId) (d : Doing) (z : Own) → own_named here tx d ≡ Some z → slice_get d.view.own (tx.seq - 1) ≡ Some z
-  named_owns tx d z e = by_node (same_node tx.node here.node) e
-    where
-      got : (n : ℕ) → nth d.view.own n ≡ Some z → slice_get d.view.own (n - 1) ≡ Some z
-      got zero f = absurd (cc f)
-      got (suc n) f = rw sub-one f
-
-      by_node : (b : Bool) → (if b then nth d.view.own tx.seq else None) ≡ Some z → slice_get d.view.own (tx.seq - 1) ≡ Some z
-      by_node true f = got tx.seq f
-      by_node false f = absurd (cc f)
-
   -- a read request
   pub read_req_quiet : (tx : TxId) (k : KeyId) (rs : ℕ) (d r : Doing) → Arrivals.read_req here tx k rs d ≡ Some r → IsQuiet d r
   unfolding Arrivals.read_req marked replied waits

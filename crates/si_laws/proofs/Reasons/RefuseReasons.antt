@@ -36,6 +36,7 @@ use Rattle.si_laws.proofs.Stages.AllLinksKept.{linked, linked_step}
 use Rattle.str_model.proofs.OwnFacts.LocalOwners.{same_own}
 use Rattle.si_laws.proofs.Reasons.MessagesSent.{SentBy, Sending, sending, sent_by}
 use Rattle.str_model.proofs.Changes.OwnTurns.{own_change}
+use Rattle.si_laws.proofs.Reasons.OthersNamed.{final_other}
 use Rattle.si_laws.proofs.Reasons.WritersFirst.{gate_law}
 use Rattle.si_laws.proofs.Scripts.ReadsEvaluate.{find_is}
 use Rattle.si_laws.specs.Laws.Reasons.{ReasonsHold}
@@ -236,6 +237,11 @@ module _ (scene : Scene) (ok : IsScene scene) (es : List Event) where
               let reason = reason_is t x c.arrived f.version tx rs f.reason in
               let vtx : f.version.tx ≡ u = f.tx ∙ by in
               let vkey : f.version.key ≡ k = f.key ∙ key in (
+                (λ y. elim reason [
+                  | inl o ↦ o.1 (ap (λ (q : TxId). q.node) (vtx ∙ y))
+                  | inr o ↦ final_other scene ok es w.event z.moment j a.moment m t z.there d x f.version before a.before (subst (λ i. w.event < i) g.from.number w.earlier) f.member o.0 (vtx ∙ y)
+                      (λ q. p.other (ap (λ (v : TxId). v.node) tx ∙ sym q)) b.place b.seq b.owns a.was_open
+                ]),
                 (wrote_is x k (f.write, mine, f.of_key ∙ key), theirs.0, subst (λ y. Rattle.si_laws.specs.Standing.Begun (run scene es) y theirs.0) vtx theirs.1, subst (Rattle.si_laws.specs.Standing.Wrote theirs.0) vkey theirs.2),
                 inr (record {
                   master = subst (λ q. is_master scene n q ≡ true) at r.master;

@@ -1,25 +1,28 @@
 -- The gate law's clause on writers that were read from, and the gate law of every run.
-use Rattle.std.proofs.Common.{List, Some, ap, arith, inl, inr, refl, slice_get, subst, sym, ℕ, ◌+◌, ◌∙◌, ◌≡◌, ◌≢◌, ◌≤◌}
+use Rattle.std.proofs.Common.{List, Some, ap, arith, inl, inr, refl, slice_get, subst, sym, ℕ, ◌+◌, ◌∙◌, ◌≡◌, ◌≢◌, ◌≤◌, ◌⊎◌}
 use Rattle.str_base.specs.declared.names.NodeId.{NodeId}
 use Rattle.str_base.specs.declared.names.TxId.{TxId}
 use Rattle.str_scene.specs.declared.names.Event.{Event}
 use Rattle.str_scene.specs.SceneLimits.{IsScene}
 use Rattle.str_scene.specs.Scenes.{Scene}
+use Rattle.str_model.specs.declared.names.ReadDone.{ReadDone}
 use Rattle.str_model.specs.Owned.{Owns}
 use Rattle.str_model.specs.Runs.{run}
-use Rattle.str_model.specs.Traces.{MomentAt, trace}
+use Rattle.str_model.specs.Traces.{Earlier, MomentAt, trace}
 use Rattle.str_model.specs.Turns.{CommittedAt, own_fate}
 use Rattle.str_model.specs.Views.{Doing, Own, View, is_decided, lc_of}
 use Rattle.str_model.proofs.Principle.Everywhere.{during, stage_of}
-use Rattle.str_model.proofs.Principle.LaterMoments.{Took, at_each_moment, took}
+use Rattle.str_model.proofs.Principle.LaterMoments.{Took, at_each_moment, later, took}
 use Rattle.si_laws.proofs.Reasons.DependenciesFirst.{cascades, dependencies_first}
 use Rattle.si_laws.proofs.Reasons.CommitsAfter.{committed_is, decided_later, fate_own, order, stand_moment, stood_before, strict}
 use Rattle.str_model.proofs.OwnFacts.LocalOwners.{same_own}
 use Rattle.si_laws.proofs.Sources.FinalsReported.{CommittedIn, ReadOk, Reported, reported-act, reported_opening, ro_committed, ro_gone, ro_listed}
-use Rattle.si_laws.specs.GateLaw.{CommittedBefore, GateLaw, HasCommitted, WritersFirst}
+use Rattle.si_laws.proofs.Reasons.ReadsKept.{ReadAt, reads_kept}
+use Rattle.si_laws.specs.GateLaw.{CommittedBefore, GateLaw, HasCommitted, StandsAt, WritersFirst}
 use Rattle.si_laws.specs.Standing.{ReadFrom}
 use Rattle.str_base.proofs.Lists.{get_set, got_set}
-use Rattle.str_base.proofs.Members.{in_at}
+use Rattle.str_base.proofs.Members.{at_in, in_at}
+use Rattle.str_base.specs.Members.{In}
 use Rattle.si_laws.proofs.Stages.ParticipantSeats.{of_nth}
 
 module _ (scene : Scene) (ok : IsScene scene) (es : List Event) where
@@ -51,9 +54,9 @@ module _ (scene : Scene) (ok : IsScene scene) (es : List Event) where
       let at : h.1.place ≡ k = omega (arith, h.1.at_place_, seq) in
       (h.0, ap (λ b. own_fate (slice_get d.view.own b)) (sym at) ∙ (ap (λ (z : View). own_fate (slice_get z.own h.1.place)) (sym is) ∙ h.1.fate), h.2)
 
-  -- each writer that was read from committed first
-  pub writers_first : WritersFirst (trace scene es)
-  writers_first j m t u x sx cx rx = by_place (of_nth sx.0.view.own t.seq x sx.2)
+  -- each writer that it has read from at the moment committed first
+  read_first : (j m : ℕ) (t u : TxId) (x : Own) → StandsAt (trace scene es) j m t x → HasCommitted x → ReadFrom x u → CommittedBefore (trace scene es) j m u x.snap.rs
+  read_first j m t u x sx cx rx = by_place (of_nth sx.0.view.own t.seq x sx.2)
     where
       n : NodeId
       n = t.node
@@ -99,6 +102,29 @@ module _ (scene : Scene) (ok : IsScene scene) (es : List Event) where
                       let w = (s.base.times.each p.0 x p.2).fc y.0 h.0 y.1 in
                       let l = (s.base.times.each p.0 x p.2).lc w.0 (ap lc_of y.1 ∙ w.1) in
                       absurd (omega (arith, h.2, w.2, l.0))
+
+  -- each writer that it has read from at some moment committed first
+  pub writers_first : WritersFirst (trace scene es)
+  writers_first j m j' m' t u x z sx cx sz rz = by_place (of_nth sx.0.view.own t.seq x sx.2) (of_nth sz.0.view.own t.seq z sz.2)
+    where
+      by_place : (i : ℕ) × (t.seq ≡ i + 1) × Owns sx.0.view i x → (k : ℕ) × (t.seq ≡ k + 1) × Owns sz.0.view k z → CommittedBefore (trace scene es) j m u x.snap.rs
+      by_place p q = read_first j m t u x sx cx (elim (order j' m' j m) [ inl o ↦ later_reads o | inr o ↦ subst (λ (y : Own). ReadFrom y u) (sym (still o)) rz ])
+        where
+          oz : Owns sz.0.view p.0 z
+          oz = subst (λ k. Owns sz.0.view k z) (omega (arith, p.1, q.1)) q.2
+
+          -- what it had read it has read when it has committed
+          later_reads : (Earlier j' m' j m) ⊎ ((j' ≡ j) × (m' ≡ m)) → ReadFrom x u
+          later_reads o =
+              let r : ReadDone = rz.0 in
+              let h = later scene ok (λ v. ReadAt v.own p.0 r) (λ here good input w c e act g. reads_kept here input w c e act p.0 r g) es j' m' j m t.node sz.0 sx.0 sz.1 sx.1 o (z, oz, in_at z.reads rz.1.0 r rz.1.1) in
+              let same : h.0 ≡ x = same_own sx.0.view p.0 p.0 h.0 x h.1 p.2 refl in
+              let i = at_in x.reads r (subst (λ (y : Own). In r y.reads) same h.2) in
+              (r, (i.0, i.1), rz.2)
+
+          -- it stands the same once it has committed
+          still : Earlier j m j' m' → x ≡ z
+          still o = same_own sz.0.view p.0 p.0 x z (decided_later scene ok es j m j' m' t.node sx.0 sz.0 p.0 x sx.1 sz.1 (inl o) p.2 (ap is_decided cx.2)) oz refl
 
 -- the gate law of every run
 pub gate_law : (scene : Scene) → IsScene scene → (events : List Event) → GateLaw (trace scene events)

@@ -1,5 +1,5 @@
 -- The law Session, over every run.
-use Rattle.std.proofs.Common.{List, Some, [], ap, append-nil, arith, eqb-true, filter, inl, inr, length, refl, replicate, slice_get, slice_set, subst, subst₂, suc, sym, zero, ℕ, ◌++◌, ◌+◌, ◌<◌, ◌∙◌, ◌∷◌, ◌≡◌, ◌≢◌, ◌⊎◌}
+use Rattle.std.proofs.Common.{List, Some, [], ap, append-nil, arith, eqb-true, filter, inl, inr, length, refl, replicate, slice_get, subst, subst₂, suc, sym, zero, ℕ, ◌++◌, ◌+◌, ◌∙◌, ◌≡◌, ◌≢◌, ◌⊎◌}
 use Rattle.std.proofs.lemmas.List.Elements.{filter-append}
 use Rattle.str_scene.specs.declared.names.Event.{Event}
 use Rattle.str_model.specs.declared.messages.Answer.{Answer}
@@ -18,7 +18,7 @@ use Rattle.si_laws.proofs.Sessions.SessionOrder.{Told, ours-step, rising-step, t
 use Rattle.str_model.proofs.Changes.AnswerChanges.{Rising, none_pass, r_none, tell_step}
 use Rattle.str_model.proofs.OwnFacts.NodeTimes.{timed-step, timed_opening}
 use Rattle.std.proofs.lemmas.Bool.{false_from_ne_true}
-use Rattle.str_base.proofs.Lists.{got_replicate, got_set, slice_get_there}
+use Rattle.str_base.proofs.Lists.{got_replicate, got_set}
 use Rattle.str_base.proofs.Members.{in_append}
 use Rattle.str_base.specs.Members.{In}
 use Rattle.std.proofs.lemmas.List.{length-set}

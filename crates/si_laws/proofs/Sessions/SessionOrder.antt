@@ -13,7 +13,6 @@ use Rattle.str_model.specs.Views.{Doing, Own, Phase, is_decided, release}
 use Rattle.str_model.specs.declared.names.Got.{Got}
 use Rattle.si_laws.proofs.Scripts.ReadsEvaluate.{Ends}
 use Rattle.str_model.proofs.Principle.SingleChanges.{NextPlace, is_first, is_next}
-use Rattle.str_model.proofs.Changes.SnapshotsGain.{if_elim}
 use Rattle.str_model.proofs.Changes.AnswerChanges.{IsLastOf, Rising, TellStep, in_release, last_index-none, last_index-some, release-last, release-other, release-rising, t_begins, t_decides, t_goes, t_rests, told}
 use Rattle.str_model.proofs.OwnFacts.PlacesInOrder.{InOrder, PlacedIn, get_set_cases}
 use Rattle.str_base.proofs.Lists.{get_push, get_set, got_push, got_set}

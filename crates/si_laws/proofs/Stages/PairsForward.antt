@@ -161,7 +161,7 @@ module _ (here : Here) (input : Input) (w : Where) (tx : TxId) (p : PartId) (oth
   second-act d e a (inl k) = inl (done-act d e a k)
   second-act d e a (inr k) = stands-act d e a k
 
-  third-act : (d e : Doing) → Act here input w d e → SomeWrites d.view → Done d.view ⊎ (Stands d.view ⊎ Waits d.view) → Done e.view ⊎ (Stands e.view ⊎ Waits e.view)
+  pub third-act : (d e : Doing) → Act here input w d e → SomeWrites d.view → Done d.view ⊎ (Stands d.view ⊎ Waits d.view) → Done e.view ⊎ (Stands e.view ⊎ Waits e.view)
   third-act d e a some (inl k) = inl (done-act d e a k)
   third-act d e a some (inr (inl k)) = elim (stands-act d e a k) [ inl j ↦ inl j | inr j ↦ inr (inl j) ]
   third-act d e a some (inr (inr k)) = waits-act d e a some k

@@ -3,7 +3,6 @@ use Rattle.std.proofs.Common.{Bool, List, Some, [], ap, arith, filter, inl, inr,
 use Rattle.std.specs.List.{range_with_len}
 use Rattle.si_laws.proofs.Stages.ParticipantSeats.{in_range}
 use Rattle.str_model.proofs.Changes.SnapshotsGain.{if_elim}
-use Rattle.std.proofs.lemmas.List.FromFn.{length-range_with_len}
 use Rattle.str_base.proofs.Members.{at_in, in_append, in_filter, in_map}
 use Rattle.str_base.specs.Members.{In}
 

@@ -6,7 +6,7 @@ use Rattle.str_model.proofs.OwnFacts.ScriptsCovered.{ScriptGood, WritesKey}
 use Rattle.si_laws.proofs.Stages.ParticipantSeats.{flat_map_in, range_in}
 use Rattle.str_model.proofs.Changes.PairWords.{any_has}
 use Rattle.str_model.specs.Owned.{wrote_key}
-use Rattle.std.proofs.Common.{List, None, Option, Some, [], ap, arith, eq-eqb, eqb-true, flat_map, inl, inr, length, length-append, map, not, refl, slice_get, subst, suc, sym, true, zero, ℕ, ◌*◌, ◌∷◌, ◌≡◌, ◌≤◌}
+use Rattle.std.proofs.Common.{List, None, Option, Some, [], ap, arith, eq-eqb, eqb-true, flat_map, inl, inr, length, length-append, map, not, refl, subst, suc, sym, true, zero, ℕ, ◌*◌, ◌∷◌, ◌≡◌, ◌≤◌}
 use Rattle.std.specs.List.{list_any, range_with_len}
 use Rattle.str_base.specs.declared.names.KeyId.{KeyId}
 use Rattle.str_base.specs.declared.names.NodeId.{NodeId}
@@ -18,9 +18,8 @@ use Rattle.str_model.specs.Strange
 use Rattle.str_model.specs.Views.{Own, lc_of}
 use Rattle.str_scene.specs.declared.names.Op.{Op}
 use Rattle.str_scene.specs.declared.names.Op.TheVariants.{Abort as Stop, Add, Del, Get, Need, Put, Puts}
-use Rattle.str_scene.specs.declared.names.TxPlace.{TxPlace}
 use Rattle.str_scene.specs.SceneLimits.{Exists, IsRow, IsScene, key_of}
-use Rattle.str_scene.specs.Scenes.{Here, Scene, Session, all_parts, in_part, nth, ops_at, or_none, others, part_of, participants, replicas, script_at, unasked, written_parts}
+use Rattle.str_scene.specs.Scenes.{Here, Scene, all_parts, in_part, nth, or_none, others, part_of, participants, replicas, script_at, unasked, written_parts}
 use Rattle.std.proofs.lemmas.List.FromFn.{length-range_with_len}
 use Rattle.str_base.proofs.Members.{any_in, at_in, in_at, in_filter, in_map, map_in}
 use Rattle.str_base.proofs.Tests.{and_true_left, and_true_right}

@@ -1,5 +1,5 @@
 -- Each dependency of a transaction is an earlier one of its node, over every run.
-use Rattle.std.proofs.Common.{Some, ap, arith, false, inl, inr, slice_get, subst, sym, ℕ, ◌+◌, ◌<◌, ◌∙◌, ◌≡◌}
+use Rattle.std.proofs.Common.{ap, arith, false, inl, inr, slice_get, subst, sym, ℕ, ◌+◌, ◌<◌, ◌∙◌, ◌≡◌}
 use Rattle.dependency_set.specs.declared.names.Dep.{Dep}
 use Rattle.str_base.proofs.Lists.{got_push, got_set}
 use Rattle.str_base.proofs.Members.{in_at}
@@ -10,7 +10,6 @@ use Rattle.str_model.specs.declared.messages.Input.{Input}
 use Rattle.str_model.specs.Acts.{fresh}
 use Rattle.str_model.specs.NodeFacts.{Depends}
 use Rattle.str_model.specs.Owned.{Owns}
-use Rattle.str_model.specs.Runs.{opening_view}
 use Rattle.str_model.specs.Views.{Doing, Own, View, is_decided, starts}
 use Rattle.str_model.proofs.Changes.OwnChanges.{Becomes, OwnStep, aborts, certifies, closes, commits, goes_on, own_step, rests, starts_one, turns_one}
 use Rattle.str_model.proofs.OwnFacts.EarlierDependencies.{depends-act}

@@ -1,5 +1,5 @@
 -- After each event every dependency of an undecided transaction stands, over every run.
-use Rattle.std.proofs.Common.{Some, add-sub_cancel, ap, arith, false, length, slice_get, sym, ℕ, ◌-◌, ◌<◌, ◌∙◌, ◌≡◌}
+use Rattle.std.proofs.Common.{Some, add-sub_cancel, ap, false, length, slice_get, sym, ℕ, ◌-◌, ◌<◌, ◌∙◌, ◌≡◌}
 use Rattle.std.proofs.lemmas.Option.{slice_get_within}
 use Rattle.dependency_set.specs.declared.names.Dep.{Dep}
 use Rattle.spsi_laws.specs.Laws.Dependencies.{DependenciesStand, StandsFor}

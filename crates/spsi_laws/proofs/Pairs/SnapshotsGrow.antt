@@ -15,9 +15,9 @@ use Rattle.str_scene.specs.Scenes.{Here, first_or, hosts_key, part_of, replicas}
 use Rattle.str_model.specs.Turns.{Away, CertTurn, Certified, Conflict, Plain, ReadTurn, Speculative, Wait, WaitGate, cert_turn, conflicts, joined, met, passed, read_turn, reply_turn, take_over}
 use Rattle.str_model.specs.Turns
 use Rattle.str_model.specs.Views.{Own, View}
-use Rattle.str_model.proofs.Changes.SnapshotsGain.{Names, if_elim, in_insert_dep, in_insert_dep_old, in_met, in_union, in_union_right, insert_dep_names, union_names, visible-is}
+use Rattle.str_model.proofs.Changes.SnapshotsGain.{Names, if_elim, in_insert_dep, in_insert_dep_old, in_met, in_union, in_union_right, union_names, visible-is}
 use Rattle.str_base.proofs.Tests.{and_true_left, and_true_right, or_false_right}
-use Rattle.str_base.proofs.Members.{find_none, in_filter, in_flat_map}
+use Rattle.str_base.proofs.Members.{find_none}
 use Rattle.str_base.specs.Members.{In}
 
 -- a dependency that is gained comes with all of its Local version's transaction: that one's number, dependencies and greatest final timestamp

@@ -21,7 +21,9 @@ use Rattle.spsi_laws.proofs.Rest.RestStages.{OfWriter, SentTo, Tells, staged}
 use Rattle.spsi_laws.proofs.Rest.RestEvents.{rests_run, waits_run}
 use Rattle.spsi_laws.proofs.Rest.RestPass.{ParkedFor}
 use Rattle.spsi_laws.proofs.Rest.RestTurns.{Back, IsStuck, s_dep, s_own, s_pre}
-use Rattle.spsi_laws.specs.Laws.Rest.{AllAnswered, IsAnswered, RestByUnderWay, UnderWay, Undelivered, ru_message, ru_waits, u_message, u_parked}
+use Rattle.spsi_laws.specs.Laws.Rest.{AllAnswered, IsAnswered, RestHolds}
+use Rattle.spsi_laws.specs.Laws.UnderWay.{UnderWay, ru_message, ru_waits, u_message, u_parked}
+use Rattle.spsi_laws.proofs.UnderWay.UnderWayHolds.{under_way}
 use Rattle.str_base.specs.declared.names.Kind.TheVariants.{Final, Pre}
 use Rattle.str_base.specs.declared.names.NodeId.{NodeId}
 use Rattle.str_base.specs.declared.names.PartId.{PartId}
@@ -33,7 +35,7 @@ use Rattle.str_model.proofs.Changes.AnswerChanges.{IsLastOf, last_index-none, la
 use Rattle.str_model.specs.Acts.{local_version}
 use Rattle.str_model.specs.Clients
 use Rattle.str_model.specs.Clients.{client_rule, last_index, of_session}
-use Rattle.str_model.specs.Drains.{AllGiven, AtRest, moves, session_moves, view_moves}
+use Rattle.str_model.specs.Drains.{AllGiven, moves, session_moves, view_moves}
 use Rattle.str_model.specs.Owned.{Owns}
 use Rattle.str_model.specs.Proposals.{holds_pair}
 use Rattle.str_model.specs.Runs.{World, run}
@@ -64,8 +66,8 @@ abbrev At : World → ℕ → View → Type 0
 At w n v = slice_get w.nodes n ≡ Some v
 
 module _ (scene : Scene) (ok : IsScene scene) (es : List Event) (f : UnderWay scene (run scene es)) (given : AllGiven (run scene es)) where
-  none_left : Undelivered (run scene es) → ⊥
-  none_left u = cc (given u.0 false u.1)
+  none_left : (j : ℕ) → slice_get (run scene es).given j ≡ Some false → ⊥
+  none_left j e = cc (given j false e)
 
   -- the decision of a transaction with a Pre version was sent, and was never given
   decision : (n : ℕ) (v : View) (q : Version) (m i : ℕ) (u : View) (y : Own) → At (run scene es) n v → In q v.versions → q.kind ≡ Pre → At (run scene es) m u → Owns u i y → q.tx ≡ name_of (at_place scene m) i
@@ -96,7 +98,7 @@ module _ (scene : Scene) (ok : IsScene scene) (es : List Event) (f : UnderWay sc
       never (msg, im, to, dec) =
           let k = at_in (run scene es).sent msg im in
           let g0 = (presence_by_bound times_bounded scene ok es).untold q.tx y (record { 0 = n + 1 }) q.key q begun dd holds pre k.0 msg k.1 to dec in
-          none_left (k.0, g0)
+          none_left k.0 g0
 
       asked_flag : (a : Asked) → In a y.parts → a.part ≡ q.part → a.asked ≡ true
       asked_flag a ma part =
@@ -208,8 +210,8 @@ module _ (scene : Scene) (ok : IsScene scene) (es : List Event) (f : UnderWay sc
           let a = (rests_run scene ok es n v g i x o).gate lc l op q in
           let k = at_in x.parts a.0 a.1 in
           elim (f.answer n i k.0 lc v x a.0 g o l op k.1 a.2 a.3) [
-            | u_message z ↦ none_left z
-            | u_parked m c u b gm mem tx part ↦ parked_for n i lc v x a.0.part m u b g o l op q gm (in_at u.waiters c (Held b) mem) tx part
+            | u_message z ↦ none_left z.0 z.3
+            | u_parked m c u b ms gm mem tx part ↦ parked_for n i lc v x a.0.part m u b g o l op q gm (in_at u.waiters c (Held b) mem) tx part
           ]
 
   -- nobody is certified and undecided
@@ -309,8 +311,8 @@ module _ (scene : Scene) (ok : IsScene scene) (es : List Event) (f : UnderWay sc
         by_phase (ReadWait k) e d = blocked d ((rests_run scene ok es n v g i x o).stuck (subst IsStuck (sym e) tt))
         by_phase (Remote k) e d =
             elim (f.reading n i v x k g o e) [
-              | ru_message z ↦ none_left z
-              | ru_waits m c u l rs gm mem ↦ (let r : (q : Version) × In q u.versions × (q.kind ≡ Final → ⊥) = waits_run scene ok es m u gm (Read (name_of (at_place scene n) i) l rs) (in_at u.waiters c (Read (name_of (at_place scene n) i) l rs) mem) in all_final m u r.0 gm r.1 r.2)
+              | ru_message z ↦ none_left z.0 z.3
+              | ru_waits m c u rs ms gm mem ↦ (let r : (q : Version) × In q u.versions × (q.kind ≡ Final → ⊥) = waits_run scene ok es m u gm (Read (name_of (at_place scene n) i) k rs) (in_at u.waiters c (Read (name_of (at_place scene n) i) k rs) mem) in all_final m u r.0 gm r.1 r.2)
             ]
         by_phase (Reply k a by fc) e d = blocked d ((rests_run scene ok es n v g i x o).stuck (subst IsStuck (sym e) tt))
         by_phase CertWait e d = blocked d ((rests_run scene ok es n v g i x o).stuck (subst IsStuck (sym e) tt))
@@ -388,8 +390,5 @@ module _ (scene : Scene) (ok : IsScene scene) (es : List Event) (f : UnderWay sc
             let v = slice_get_there (run scene es).nodes n (omega (arith, z.1, q, len)) in
             by_last n v.0 v.1 (omega (arith, q)) (last_index (mine place.session.0) v.0.own) refl
 
-pub rest_from : (scene : Scene) → IsScene scene → (es : List Event) → UnderWay scene (run scene es) → AtRest scene (run scene es) → AllAnswered scene (run scene es)
-rest_from scene ok es f h = all_answered scene ok es f h.0 h.1
-
-pub rest_by_under_way : RestByUnderWay
-rest_by_under_way u scene ok es h = rest_from scene ok es (u scene ok es) h
+pub rest_holds : RestHolds
+rest_holds scene ok es h = all_answered scene ok es (under_way scene ok es) h.0 h.1

@@ -50,6 +50,7 @@ use Rattle.str_base.proofs.Members.{any_in, find_none, in_filter, in_flat_map, i
 use Rattle.str_base.proofs.Tests.{and_true_right, or_false_right}
 use Rattle.str_base.proofs.Lists.{get_set, get_set_other}
 use Rattle.str_base.specs.Members.{In}
+use Rattle.str_model.proofs.ViewFacts.GatesEnd.{gate_open}
 
 -- it waits at its own node
 abbrev pub IsStuck : Phase → Type 0
@@ -373,7 +374,7 @@ module _ (here : Here) where
   asks_fewer : (v : View) (i lc : ℕ) (x : Own) (p : PartId) → Fit v → Owns v i x → gate_of here v lc x ≡ Ask p → unasked_in (record x { parts = with_asked p x.parts; phase = Global lc }) < unasked_in x
   unfolding unasked_in open_part
   asks_fewer v i lc x p h o e =
-      let r = Rattle.spsi_laws.proofs.Work.LeftActs.asks_one here x.snap lc x.parts (map (dep_parts here v.own) x.snap.deps) p e in
+      let r = gate_open x.snap lc x.parts (map (dep_parts here v.own) x.snap.deps) p e in
       let seat = own_seat here v.versions i x (h.fit.home i x o) r.0 r.1 in
       let ex = part_exists here.scene r.0.node r.0.part seat.hosted in
       let p0 : r.0.part.0 ≡ p.0 = ap (λ (y : PartId). y.0) r.2 in

@@ -1,21 +1,22 @@
 -- A participant whose Ack has come stays answered.
-use Rattle.std.proofs.Common.{Bool, List, None, Option, Some, [], ap, eq-eqb, eqb-true, false, if◌then◌else◌, inl, inr, is_some, map, not, option_map, refl, subst, sym, true, ℕ, ◌&&◌, ◌||◌, ◌∙◌, ◌∷◌, ◌≡◌, ◌⊎◌}
-use Rattle.std.proofs.lemmas.Bool.{and_from}
+use Rattle.std.proofs.Common.{Bool, List, None, Option, Some, [], ap, eq-eqb, eqb-true, false, inl, inr, is_some, not, option_map, refl, subst, sym, true, ℕ, ◌&&◌, ◌||◌, ◌∙◌, ◌∷◌, ◌≡◌, ◌⊎◌}
 use Rattle.partition_map.specs.declared.rows.Asked.{Asked}
 use Rattle.spsi_laws.proofs.UnderWay.OneOwn.{KeepsOne}
 use Rattle.str_base.specs.Versions.{same_node, same_part, stamp}
 use Rattle.str_base.specs.declared.names.NodeId.{NodeId}
 use Rattle.str_base.specs.declared.names.PartId.{PartId}
 use Rattle.str_model.proofs.Changes.OwnGoesOn.{puts_on}
-use Rattle.str_model.proofs.Changes.PairWords.{same_part-is}
-use Rattle.str_model.proofs.Changes.SnapshotsGain.{and_left, and_right, if_elim}
-use Rattle.str_model.proofs.Lists.Members.{In, map_in}
+use Rattle.str_model.proofs.Changes.SnapshotsGain.{if_elim}
 use Rattle.str_model.proofs.Principle.SingleChanges.{AsksCommit, asks_again, asks_new}
-use Rattle.str_model.specs.Acts.{with_asked}
 use Rattle.str_model.specs.Returns.{with_ack}
 use Rattle.str_model.specs.Views.{Doing, Own, is_decided, lc_of}
 use Rattle.str_model.specs.declared.messages.Input.{Input}
 use Rattle.str_scene.specs.Scenes.{Here}
+use Rattle.std.proofs.lemmas.Bool.{and_from}
+use Rattle.str_base.proofs.SameNames.{same_part-is}
+use Rattle.str_base.proofs.Tests.{and_true_left, and_true_right}
+use Rattle.str_base.proofs.Members.{map_in}
+use Rattle.str_base.specs.Members.{In}
 
 -- the participant has answered
 abbrev pub HasAnswered : List Asked → PartId → NodeId → Type 0
@@ -26,7 +27,7 @@ abbrev pub AnsweredBy : PartId → NodeId → Own → Type 0
 AnsweredBy p r x = (is_decided x.phase ≡ true) ⊎ (((lc : ℕ) × (lc_of x.phase ≡ Some lc)) × HasAnswered x.parts p r)
 
 -- the test of an answer: an asked participant that has not answered
-ack_test : (a : Asked) (p : PartId) (n : NodeId) → Bool
+abbrev ack_test : Asked → PartId → NodeId → Bool
 ack_test a p n = same_part a.part p && (same_node a.node n && (a.asked && not (is_some a.ack)))
 
 ack_stays : (old new : List Asked) (p : PartId) (n : NodeId) (ts : ℕ) (b : Asked) → with_ack old p n ts ≡ Some new → In b old → is_some b.ack ≡ true → In b new
@@ -35,7 +36,7 @@ ack_stays (a ∷ old) new p n ts b e0 h s =
     (if_elim (λ o. o ≡ Some new → In b new) (same_part a.part p && (same_node a.node n && (a.asked && not (is_some a.ack)))) (Some (record a { ack = Some (stamp ts) } ∷ old)) (option_map (λ bs. a ∷ bs) (with_ack old p n ts))
     (λ t e. let is : record a { ack = Some (stamp ts) } ∷ old ≡ new = cc e in
     subst (In b) is (elim h [
-      | inl q ↦ absurd (cc (and_right a.asked (not (is_some a.ack)) (and_right (same_node a.node n) (a.asked && not (is_some a.ack)) (and_right (same_part a.part p) (same_node a.node n && (a.asked && not (is_some a.ack))) t)), ap (λ (z : Asked). not (is_some z.ack)) q, ap not s))
+      | inl q ↦ absurd (cc (and_true_right a.asked (not (is_some a.ack)) (and_true_right (same_node a.node n) (a.asked && not (is_some a.ack)) (and_true_right (same_part a.part p) (same_node a.node n && (a.asked && not (is_some a.ack))) t)), ap (λ (z : Asked). not (is_some z.ack)) q, ap not s))
       | inr k ↦ inr k
     ]))
     (λ t e. later_ (with_ack old p n ts) (λ bs q k. ack_stays old bs p n ts b q k s) e h)) e0
@@ -50,8 +51,8 @@ ack_new [] new p n ts e = absurd (cc e)
 ack_new (a ∷ old) new p n ts e0 =
     (if_elim (λ o. o ≡ Some new → HasAnswered new p n) (same_part a.part p && (same_node a.node n && (a.asked && not (is_some a.ack)))) (Some (record a { ack = Some (stamp ts) } ∷ old)) (option_map (λ bs. a ∷ bs) (with_ack old p n ts))
     (λ t e. let is : record a { ack = Some (stamp ts) } ∷ old ≡ new = cc e in
-    let part : a.part ≡ p = same_part-is a.part p (and_left (same_part a.part p) _ t) in
-    let num : a.node.0 ≡ n.0 = eqb-true a.node.0 n.0 (and_left (same_node a.node n) (a.asked && not (is_some a.ack)) (and_right (same_part a.part p) (same_node a.node n && (a.asked && not (is_some a.ack))) t)) in
+    let part : a.part ≡ p = same_part-is a.part p (and_true_left (same_part a.part p) _ t) in
+    let num : a.node.0 ≡ n.0 = eqb-true a.node.0 n.0 (and_true_left (same_node a.node n) (a.asked && not (is_some a.ack)) (and_true_right (same_part a.part p) (same_node a.node n && (a.asked && not (is_some a.ack))) t)) in
     subst (λ (ps : List Asked). HasAnswered ps p n) is (record a { ack = Some (stamp ts) }, inl refl, part, (λ j. record { 0 = num j }), refl))
     (λ t e. later_ (with_ack old p n ts) (λ bs q. ack_new old bs p n ts q) e)) e0
   where
@@ -75,13 +76,11 @@ ack_none (a ∷ old) p n ts b e0 h0 part node asked_ =
     left_none (Some bs) e = absurd (cc e)
 
     by_ack : (c : Bool) → is_some b.ack ≡ c → ack_test b p n ≡ false → is_some b.ack ≡ true
-    unfolding ack_test
     by_ack true q t = q
     by_ack false q t =
         absurd (cc (t, and_from (same_part b.part p) _ (eq-eqb b.part.0 p.0 (ap (λ (z : PartId). z.0) part)) (and_from (same_node b.node n) _ (eq-eqb b.node.0 n.0 (ap (λ (z : NodeId). z.0) node)) (and_from b.asked (not (is_some b.ack)) asked_ (ap not q)))))
 
     first : (same_part a.part p && (same_node a.node n && (a.asked && not (is_some a.ack)))) ≡ false → a ≡ b → is_some b.ack ≡ true
-    unfolding ack_test
     first t q = by_ack (is_some b.ack) refl (subst (λ (z : Asked). (same_part z.part p && (same_node z.node n && (z.asked && not (is_some z.ack)))) ≡ false) q t)
 
 module _ (here : Here) (input : Input) (d : Doing) (p : PartId) (r : NodeId) where

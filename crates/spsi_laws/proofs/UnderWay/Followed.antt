@@ -1,6 +1,6 @@
 -- What was sent, in every state of a run: each partition that is asked was asked by a message, each version and each done pair of another node's transaction was
 -- answered for, and each message follows one that asks for it.
-use Rattle.std.proofs.Common.{Bool, List, None, Option, Some, [], ap, append_assoc, arith, eqb-true, false, filter, inl, inr, length, map, not, refl, slice_get, slice_set, subst, subst₂, sym, true, ℕ, ◌++◌, ◌+◌, ◌∙◌, ◌∷◌, ◌≡◌, ◌≢◌, ◌⊎◌}
+use Rattle.std.proofs.Common.{List, Some, [], ap, arith, eqb-true, filter, inl, inr, map, not, refl, slice_get, slice_set, subst, subst₂, sym, true, ℕ, ◌++◌, ◌+◌, ◌∙◌, ◌∷◌, ◌≡◌, ◌≢◌, ◌⊎◌}
 use Rattle.partition_map.specs.declared.rows.Asked.{Asked}
 use Rattle.si_laws.proofs.Stages.ParticipantSeats.{own_seat}
 use Rattle.si_laws.specs.Laws.Presence.{Decides}
@@ -16,12 +16,8 @@ use Rattle.str_base.specs.declared.names.PartId.{PartId}
 use Rattle.str_base.specs.declared.names.Ts.{Ts}
 use Rattle.str_base.specs.declared.names.TxId.{TxId}
 use Rattle.str_base.specs.declared.names.Version.{Version}
-use Rattle.str_model.proofs.Changes.PairWords.{not_both}
 use Rattle.str_model.proofs.Changes.SnapshotsGain.{if_elim}
 use Rattle.str_model.proofs.Changes.VersionChanges.{Placed, WaitStep, by_master, by_slave, sent_step, w_fewer, w_more, wait_step}
-use Rattle.str_model.proofs.Changes.VersionsMet.{filter_in}
-use Rattle.str_model.proofs.Lists.ListReads.{get_set, get_set_other, got_replicate, got_set}
-use Rattle.str_model.proofs.Lists.Members.{In, in_append, in_at, in_left, in_right, map_in}
 use Rattle.str_model.proofs.Principle.Everywhere.{IsSeen, Sent, Stage, at_place, during, everywhere, stage_of}
 use Rattle.str_model.proofs.Principle.SingleChanges.{Act, Arrives, IsAsked, IsHere, Where, a_prepare, a_read, asked_before as read_before, asked_now as read_now, it_comes, it_waits}
 use Rattle.str_model.specs.Acts
@@ -39,6 +35,10 @@ use Rattle.str_model.specs.declared.messages.Waiter.TheVariants.{Held, Read}
 use Rattle.str_scene.specs.SceneLimits.{IsScene}
 use Rattle.str_scene.specs.Scenes.{Here, Scene, first_or, in_part, is_master, leads, others, replicas}
 use Rattle.str_scene.specs.declared.names.Event.{Event}
+use Rattle.std.proofs.lemmas.Bool.{false_from_ne_true}
+use Rattle.str_base.proofs.Members.{filter_in, in_append, in_at, in_left, in_right, map_in}
+use Rattle.str_base.proofs.Lists.{get_set, get_set_other, got_replicate, got_set}
+use Rattle.str_base.specs.Members.{In}
 
 -- such a message was sent
 abbrev pub Sends : List Message → (Message → Type 0) → Type 0
@@ -154,7 +154,7 @@ module _ (scene : Scene) (s : Stage) (i : ℕ) (v : View) (input : Input) (w : W
   -- ---- each field
 
   post_follows : (m : Message) → In m e.sent → Post (at_place scene i) input d e m → Follows (s.sent ++ e.sent) m.body
-  post_follows m k (p_request j l to x own own') = tt
+  post_follows m k (p_request j l to x own own' aw) = tt
   post_follows m k (p_prepare j lc p x own l g t) = (m, newer m k, (refl, (refl, refl)))
   post_follows m k (p_replicate j lc p x r own l g t z) = (m, newer m k, (refl, (refl, refl)))
   post_follows m k (p_ack a ts pl) = lift (placed_asked a pl)
@@ -201,10 +201,10 @@ module _ (scene : Scene) (s : Stage) (i : ℕ) (v : View) (input : Input) (w : W
           (map (λ (r : NodeId). letter (at_place scene i) r (Replicate (name_of (at_place scene i) j) a.part (stamp y.snap.rs) (stamp lc) ws)) (others me rs))
           (letter (at_place scene i) (first_or me rs) (Prepare (name_of (at_place scene i) j) a.part (stamp y.snap.rs) (stamp lc) ws) ∷ [])
           (λ t g. inr (
-          letter (at_place scene i) a.node (Replicate (name_of (at_place scene i) j) a.part (stamp y.snap.rs) (stamp lc) ws),
-          newer _ (g _ (map_in (λ (r : NodeId). letter (at_place scene i) r (Replicate (name_of (at_place scene i) j) a.part (stamp y.snap.rs) (stamp lc) ws)) (others me rs) a.node
-              (filter_in (λ (r : NodeId). not (same_node r me)) rs a.node inrow (ap not (not_both (same_node a.node me) (λ q. other (eqb-true a.node.0 me.0 q))))))),
-          (refl, (refl, refl)),
+            letter (at_place scene i) a.node (Replicate (name_of (at_place scene i) j) a.part (stamp y.snap.rs) (stamp lc) ws),
+            newer _ (g _ (map_in (λ (r : NodeId). letter (at_place scene i) r (Replicate (name_of (at_place scene i) j) a.part (stamp y.snap.rs) (stamp lc) ws)) (others me rs) a.node
+                (filter_in (λ (r : NodeId). not (same_node r me)) rs a.node inrow (ap not (false_from_ne_true (same_node a.node me) (λ q. other (eqb-true a.node.0 me.0 q))))))),
+            (refl, (refl, refl)),
           ))
           (λ t g. inl (letter (at_place scene i) (first_or me rs) (Prepare (name_of (at_place scene i) j) a.part (stamp y.snap.rs) (stamp lc) ws), newer _ (g _ (inl refl)), (refl, refl)))) letters
 
@@ -278,7 +278,7 @@ module _ (scene : Scene) (s : Stage) (i : ℕ) (v : View) (input : Input) (w : W
   no_request tx k (Ack t p ts) z r = absurd z
 
   new_requested : (m : Message) (n j : ℕ) (u : View) (k : KeyId) → Post (at_place scene i) input d e m → slice_get (slice_set s.nodes i e.view) n ≡ Some u → Requests (name_of (at_place scene n) j) k m.body → OneHas (λ x. Requested x k) j u
-  new_requested m n j u k (p_request c l to x own own') g r =
+  new_requested m n j u k (p_request c l to x own own' aw) g r =
       let node : i + 1 ≡ n + 1 = ap (λ (z : TxId). z.node.0) r.0 in
       let place : c + 1 ≡ j + 1 = ap (λ (z : TxId). z.seq) r.0 in
       let at : c ≡ j = omega (arith, place) in

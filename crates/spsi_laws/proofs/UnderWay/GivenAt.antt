@@ -1,16 +1,13 @@
 -- What holds once a message was given: the event that gave it judged it, and what it left stays.
-use Rattle.std.proofs.Common.{List, None, Option, Some, [], ap, arith, inl, inr, length, option_map, refl, slice_get, slice_set, subst, subst₂, suc, sym, true, zero, ℕ, ◌++◌, ◌+◌, ◌-◌, ◌<◌, ◌∙◌, ◌∷◌, ◌≡◌, ◌≢◌, ◌⊎◌}
+use Rattle.std.proofs.Common.{List, None, Option, Some, [], ap, arith, inl, inr, length, option_map, refl, slice_get, slice_set, subst, suc, sym, true, zero, ℕ, ◌++◌, ◌+◌, ◌-◌, ◌<◌, ◌∙◌, ◌∷◌, ◌≡◌}
 use Rattle.si_laws.proofs.Stages.LinkedStates.{one_of}
 use Rattle.si_laws.proofs.Stages.ParticipantSeats.{to_nth}
 use Rattle.spsi_laws.proofs.Rest.GivenBy.{given_by}
 use Rattle.spsi_laws.proofs.UnderWay.ReadsWaiting.{by_steps}
 use Rattle.spsi_laws.proofs.UnderWay.ValidMessages.{posted}
-use Rattle.si_laws.proofs.Sessions.SessionHolds.{get_within}
 use Rattle.str_base.specs.declared.names.NodeId.{NodeId}
-use Rattle.str_model.proofs.Lists.ListReads.{get_set, get_set_other, got_set}
-use Rattle.str_model.proofs.Lists.Members.{In, in_at}
 use Rattle.str_model.proofs.Principle.Everywhere.{IsSeen, Stage, at_place, during, ever_after, run-append, stage_of}
-use Rattle.str_model.proofs.Principle.SingleChanges.{Act, InRule, InTurn, InWait, Where, along}
+use Rattle.str_model.proofs.Principle.SingleChanges.{Act, InTurn, InWait, Where, along}
 use Rattle.str_model.proofs.Principle.StepPaths.{turn-path, wait_turns-path}
 use Rattle.str_model.specs.Owned.{IsView}
 use Rattle.str_model.specs.Pass
@@ -27,6 +24,7 @@ use Rattle.str_scene.specs.SceneLimits.{IsScene}
 use Rattle.str_scene.specs.Scenes.{Here, Scene, nth}
 use Rattle.str_scene.specs.declared.names.Event.{Event}
 use Rattle.str_scene.specs.declared.names.Event.TheVariants.{Deliver as DeliverEvent}
+use Rattle.str_base.proofs.Lists.{get_set, get_set_other, got_set, slice_get_there}
 
 -- the event by which the j-th message was given to the n-th node, both counted from 0
 pub record Given (scene : Scene) (es : List Event) (j : ℕ) (m : Message) (n : ℕ) : Type 0 where
@@ -65,7 +63,7 @@ pub given_at : (scene : Scene) → IsScene scene → (es : List Event) (j n : �
 given_at scene ok es j n m given sent to less =
     let g = given_by scene es j given in
     let len = (posted scene ok g.early).count in
-    let v = get_within (run scene g.early).nodes n (omega (arith, less, len)) in
+    let v = slice_get_there (run scene g.early).nodes n (omega (arith, less, len)) in
     let all : run scene es ≡ run_from scene (happens scene (run scene g.early) (DeliverEvent (j + 1))) g.late = ap (λ xs. run scene xs) g.all ∙ run-append scene (opening scene) g.early (DeliverEvent (j + 1) ∷ g.late) in
     let later : slice_get (run scene (g.early ++ DeliverEvent (j + 1) ∷ g.late)).sent j ≡ Some g.message =
     ap (λ (w : World). slice_get w.sent j) (run-append scene (opening scene) g.early (DeliverEvent (j + 1) ∷ g.late)) ∙ sent_stays scene (run scene g.early) (DeliverEvent (j + 1) ∷ g.late) j g.message g.was_sent in

@@ -1,5 +1,5 @@
 -- What a message is that a single change sends.
-use Rattle.std.proofs.Common.{List, Some, [], ap, false, filter, inl, inr, map, refl, subst, sym, true, ℕ, ◌++◌, ◌∷◌, ◌≡◌, ◌⊎◌}
+use Rattle.std.proofs.Common.{List, Some, [], false, filter, inl, inr, map, subst, true, ℕ, ◌++◌, ◌∷◌, ◌≡◌, ◌⊎◌}
 use Rattle.partition_map.specs.declared.rows.Asked.{Asked}
 use Rattle.str_base.specs.Versions.{stamp}
 use Rattle.str_base.specs.declared.names.KeyId.{KeyId}
@@ -10,14 +10,13 @@ use Rattle.str_base.specs.declared.names.Value.{Value}
 use Rattle.std.specs.Prelude.{Option}
 use Rattle.str_model.proofs.Changes.SnapshotsGain.{if_elim}
 use Rattle.str_model.proofs.Changes.VersionChanges.{Placed, by_master, by_slave}
-use Rattle.str_model.proofs.Lists.ListReads.{get_set}
-use Rattle.str_model.proofs.Lists.Members.{In, in_append, in_map}
-use Rattle.str_model.proofs.Principle.SingleChanges.{Act, Goes, IsHere, Serves, Where, act_abort, act_abort_came, act_accept, act_ack, act_ask, act_begin, act_certify, act_close, act_commit, act_commit_came, act_mark, act_put, act_refuse, act_reply, act_request, act_take, act_unwait, act_wait}
+use Rattle.str_model.proofs.Principle.SingleChanges.{Act, IsHere, Serves, Where, act_abort, act_abort_came, act_accept, act_ack, act_ask, act_begin, act_certify, act_close, act_commit, act_commit_came, act_mark, act_put, act_refuse, act_reply, act_request, act_take, act_unwait, act_wait}
 use Rattle.str_model.specs.Acts
 use Rattle.str_model.specs.Acts.{aborted, accepted, acked, asked, begun, certified, closed, commit_came, committed, in_phase, marked, refused, replied, requested, taken, waits}
 use Rattle.str_model.specs.Gates.{Ask, gate_of}
 use Rattle.str_model.specs.Owned.{Owns}
 use Rattle.str_model.specs.Proposals.{Refuse, master_turn, proposed}
+use Rattle.str_model.specs.Turns.{Away, read_turn}
 use Rattle.str_model.specs.Views.{Doing, Own, Remote, lc_of, letter, name_of}
 use Rattle.str_model.specs.declared.messages.Arrived.{Arrived}
 use Rattle.str_model.specs.declared.messages.Body.{Body}
@@ -25,6 +24,9 @@ use Rattle.str_model.specs.declared.messages.Body.TheVariants.{Abort, Ack, Commi
 use Rattle.str_model.specs.declared.messages.Input.{Input}
 use Rattle.str_model.specs.declared.messages.Message.{Message}
 use Rattle.str_scene.specs.Scenes.{Here, first_or, in_part, leads, others, replicas}
+use Rattle.str_base.proofs.Lists.{get_set}
+use Rattle.str_base.proofs.Members.{in_append, in_map}
+use Rattle.str_base.specs.Members.{In}
 
 -- it tells a decision
 abbrev pub IsDecision : Body → Type 0
@@ -38,7 +40,7 @@ writes_in here p x = filter (in_part here.scene p) x.writes
 
 -- a message that has just been sent
 pub data Post (here : Here) (input : Input) (d e : Doing) : Message → Type 0 where
-  p_request : (i : ℕ) (k : KeyId) (to : NodeId) (x : Own) → Owns d.view i x → Owns e.view i (in_phase (Remote k) x) → Post here input d e (letter here to (ReadReq (name_of here i) k (stamp x.snap.rs)))
+  p_request : (i : ℕ) (k : KeyId) (to : NodeId) (x : Own) → Owns d.view i x → Owns e.view i (in_phase (Remote k) x) → read_turn here d.view x.snap k ≡ Away to → Post here input d e (letter here to (ReadReq (name_of here i) k (stamp x.snap.rs)))
   p_prepare : (i lc : ℕ) (p : PartId) (x : Own) → Owns d.view i x → lc_of x.phase ≡ Some lc → gate_of here d.view lc x ≡ Ask p → leads here.node (replicas here.scene p) ≡ false
       → Post here input d e (letter here (first_or here.node (replicas here.scene p)) (Prepare (name_of here i) p (stamp x.snap.rs) (stamp lc) (writes_in here p x)))
   p_replicate : (i lc : ℕ) (p : PartId) (x : Own) (r : NodeId) → Owns d.view i x → lc_of x.phase ≡ Some lc → gate_of here d.view lc x ≡ Ask p → leads here.node (replicas here.scene p) ≡ true
@@ -77,7 +79,7 @@ module _ (here : Here) (input : Input) (w : Where) where
   posts d e (act_ask i lc p x d' own f l g) m h = newly d' e (Acts.ask_letters here i lc x p (replicas here.scene p)) m (asks i lc x d' e p m own.0 l g) h
   posts d e (act_request i k to x d' own g) m h =
       newly d' e (letter here to (ReadReq (name_of here i) k (stamp x.snap.rs)) ∷ []) m
-      (single d' e (letter here to (ReadReq (name_of here i) k (stamp x.snap.rs))) m (p_request i k to x own.0 (get_set d'.view.own i x (in_phase (Remote k) x) own.0))) h
+      (single d' e (letter here to (ReadReq (name_of here i) k (stamp x.snap.rs))) m (p_request i k to x own.0 (get_set d'.view.own i x (in_phase (Remote k) x) own.0) g.away)) h
   posts d e (act_abort i cause x d' own f y) m h =
       newly d' e (Acts.abort_letters here i x.parts) m
       (each d' e (λ (a : Asked). letter here a.node (Abort (name_of here i) a.part)) (Acts.asked_ones x.parts) m (λ a j. p_decision a.node (Abort (name_of here i) a.part) tt)) h

@@ -5,12 +5,10 @@ use Rattle.str_base.specs.declared.names.KeyId.{KeyId}
 use Rattle.str_base.specs.declared.names.TxId.{TxId}
 use Rattle.str_base.specs.declared.names.Value.{Value}
 use Rattle.spsi_laws.proofs.UnderWay.OneOwn.{KeepsOne}
-use Rattle.str_model.proofs.Changes.SnapshotsGain.{find_none, if_elim}
-use Rattle.str_model.proofs.Lists.Members.{In, in_left, in_right}
+use Rattle.str_model.proofs.Changes.SnapshotsGain.{if_elim}
 use Rattle.str_model.proofs.Principle.SingleChanges.{AsksCommit, Change, Reads, asks_again, asks_new, ch_away, ch_blind, ch_close, ch_gate, ch_known, ch_read, ch_reply, ch_resolve, ch_take, ch_wait, reads_again, reads_new}
 use Rattle.str_model.specs.NodeFacts.{Needy}
-use Rattle.str_model.specs.Scripts.{finish, finish_next, found_read, found_write, known, noted, or_else, own_op}
-use Rattle.str_model.specs.Scripts
+use Rattle.str_model.specs.Scripts.{finish, finish_next, found_read, found_write, noted, or_else, own_op}
 use Rattle.str_base.specs.Values.{is_below}
 use Rattle.str_model.specs.Views.{Active, Closing, Doing, Own, Phase, Remote, Reply, is_decided, lc_of}
 use Rattle.str_model.specs.declared.messages.Input.{Input}
@@ -18,6 +16,8 @@ use Rattle.str_model.specs.declared.names.ReadDone.{ReadDone}
 use Rattle.str_scene.specs.Scenes.{Here}
 use Rattle.str_scene.specs.declared.names.Op.{Op}
 use Rattle.str_scene.specs.declared.names.Op.TheVariants.{Abort as Stop, Add, Del, Get, Need, Put, Puts}
+use Rattle.str_base.proofs.Members.{find_none, in_left, in_right}
+use Rattle.str_base.specs.Members.{In}
 
 -- it is decided, or a value of the key has come, or the key was read
 pub data Past (x : Own) (k : KeyId) : Type 0 where

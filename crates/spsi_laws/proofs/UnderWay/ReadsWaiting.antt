@@ -1,14 +1,11 @@
--- A waiting read waits on until its reply is sent, and a read that went elsewhere has its request with the key's master, in every state of a run.
-use Rattle.std.proofs.Common.{Bool, List, None, Option, Some, [], add-one, ap, append_assoc, append-nil, inl, inr, length, option_map, refl, slice_get, slice_set, sub-one, subst, subst₂, suc, sym, zero, ℕ, ◌++◌, ◌+◌, ◌-◌, ◌∙◌, ◌∷◌, ◌≡◌, ◌≢◌, ◌⊎◌}
-use Rattle.spsi_laws.proofs.UnderWay.Followed.{Requests, Sends}
-use Rattle.spsi_laws.proofs.UnderWay.RequestsKept.{AllRequested, KeepsRequests, KeepsTo, master_of, pass_, rule_}
+-- A waiting read waits on until its reply is sent, and who waits for another node has sent its request, in every state of a run.
+use Rattle.std.proofs.Common.{List, None, Option, Some, [], add-one, ap, inl, inr, length, option_map, refl, slice_get, slice_set, sub-one, subst, suc, sym, zero, ℕ, ◌++◌, ◌-◌, ◌∙◌, ◌∷◌, ◌≡◌, ◌≢◌, ◌⊎◌}
+use Rattle.spsi_laws.proofs.UnderWay.Followed.{Sends}
+use Rattle.spsi_laws.proofs.UnderWay.RequestsKept.{AllRequested, KeepsRequests, KeepsTo, pass_, rule_}
 use Rattle.str_base.specs.declared.names.KeyId.{KeyId}
 use Rattle.str_base.specs.declared.names.NodeId.{NodeId}
-use Rattle.str_base.specs.declared.names.PartId.{PartId}
 use Rattle.str_base.specs.declared.names.Ts.{Ts}
 use Rattle.str_base.specs.declared.names.TxId.{TxId}
-use Rattle.str_model.proofs.Lists.ListReads.{get_set, get_set_other, got_replicate, got_set, same_or_not}
-use Rattle.str_model.proofs.Lists.Members.{In, in_append, in_left, in_right}
 use Rattle.str_model.proofs.Principle.Everywhere.{IsSeen, Sent, Stage, at_place, during, stage_of}
 use Rattle.str_model.proofs.Principle.StepPaths.{waiter_turn-waited}
 use Rattle.str_model.proofs.Principle.SingleChanges.{InWait}
@@ -32,9 +29,13 @@ use Rattle.str_model.specs.declared.messages.Input.TheVariants.{Client, Deliver}
 use Rattle.str_model.specs.declared.messages.Message.{Message}
 use Rattle.str_model.specs.declared.messages.Waiter.{Waiter}
 use Rattle.str_model.specs.declared.messages.Waiter.TheVariants.{Held, Read}
-use Rattle.str_scene.specs.Scenes.{Here, Scene, Session, nth, others, replicas}
+use Rattle.str_scene.specs.Scenes.{Here, Scene, Session, nth, replicas}
 use Rattle.str_scene.specs.declared.names.Event.{Event}
 use Rattle.str_scene.specs.declared.names.Event.TheVariants.{Client as ClientEvent, Deliver as DeliverEvent}
+use Rattle.str_base.proofs.Lists.{get_set, get_set_other, got_replicate, got_set}
+use Rattle.std.proofs.lemmas.Bool.{cases_eq}
+use Rattle.str_base.proofs.Members.{in_append, in_left, in_right}
+use Rattle.str_base.specs.Members.{In}
 
 abbrev pub Replies : TxId → KeyId → Body → Type 0
 Replies tx k (ReadReply t l v by fc) = (t ≡ tx) × (l ≡ k)
@@ -123,7 +124,7 @@ module _ (here : Here) where
   swept_requests : (old : List Message) (d e : Doing) → Sweeps d e → AllRequested here old d → AllRequested here old e
   swept_requests old d e s h i x k o p =
       let r = h i x k (subst (λ (xs : List Own). slice_get xs i ≡ Some x) s.own o) p in
-      (r.0, elim (in_append old d.sent (letter here (master_of here k) (ReadReq (name_of here i) k r.0)) r.1) [ inl j ↦ in_left old e.sent _ j | inr j ↦ in_right old e.sent _ (s.sent _ j) ])
+      (r.0, r.1, elim (in_append old d.sent (letter here r.0 (ReadReq (name_of here i) k r.1)) r.2) [ inl j ↦ in_left old e.sent _ j | inr j ↦ in_right old e.sent _ (s.sent _ j) ])
 
   ruled_keeps : (old : List Message) (input : Input) (v : View) (o : Option Doing) (e : Doing) → KeepsTo here old (starts v) o → option_map (Steps.after_rule here) o ≡ Some e → StepKeeps old v e
   unfolding Steps.after_rule
@@ -181,18 +182,21 @@ module _ (scene : Scene) (I : Stage → Type 0)
 
 -- ---- over every run
 
--- each own transaction that waits for another node has its request with the key's master
+-- each own transaction that waits for another node has sent its request
 abbrev RequestsSent : Scene → Stage → Type 0
 RequestsSent scene s =
     (n i : ℕ) (v : View) (x : Own) (k : KeyId) → slice_get s.nodes n ≡ Some v → Owns v i x → x.phase ≡ Remote k
-    → (rs : Ts) × In (letter (at_place scene n) (master_of (at_place scene n) k) (ReadReq (name_of (at_place scene n) i) k rs)) s.sent
+    → (to : NodeId) × (rs : Ts) × In (letter (at_place scene n) to (ReadReq (name_of (at_place scene n) i) k rs)) s.sent
 
 requests_kept : (scene : Scene) (s : Stage) (i : ℕ) (v : View) (input : Input) (e : Doing) → slice_get s.nodes i ≡ Some v → IsSeen s input → step (at_place scene i) input v ≡ Some e → RequestsSent scene s
     → RequestsSent scene (during s i e)
 requests_kept scene s i v input e is seen q h n j u x k g o p = elim (got_set s.nodes i n e.view u g) [
-  | inl r ↦ (let a = (step_keeps (at_place scene i) s.sent input v e q).remote (λ c y l own ph. let b = h i c v y l is own ph in (b.0, in_left s.sent [] _ b.1)) j x k (subst (λ (z : View). Owns z j x) r.1 o) p in
-      (a.0, subst (λ (z : ℕ). In (letter (at_place scene z) (master_of (at_place scene z) k) (ReadReq (name_of (at_place scene z) j) k a.0)) (s.sent ++ e.sent)) (sym r.0) a.1))
-  | inr r ↦ (let a = h n j u x k r.1 o p in (a.0, in_left s.sent e.sent _ a.1))
+  | inl r ↦ (let a = (step_keeps (at_place scene i) s.sent input v e q).remote (λ c y l own ph. let b = h i c v y l is own ph in (b.0, b.1, in_left s.sent [] _ b.2)) j x k (subst (λ (z : View). Owns z j x) r.1 o) p in (
+    a.0,
+    a.1,
+    subst (λ (z : ℕ). In (letter (at_place scene z) a.0 (ReadReq (name_of (at_place scene z) j) k a.1)) (s.sent ++ e.sent)) (sym r.0) a.2,
+  ))
+  | inr r ↦ (let a = h n j u x k r.1 o p in (a.0, a.1, in_left s.sent e.sent _ a.2))
 ]
 
 pub requests_sent : (scene : Scene) (es : List Event) → RequestsSent scene (stage_of (run scene es))
@@ -208,7 +212,7 @@ pub record WaitsOrAnswered (n : ℕ) (tx : TxId) (k : KeyId) (s : Stage) : Type 
 
 reads_kept : (scene : Scene) (n : ℕ) (tx : TxId) (k : KeyId) (s : Stage) (i : ℕ) (v : View) (input : Input) (e : Doing) → slice_get s.nodes i ≡ Some v → IsSeen s input → step (at_place scene i) input v ≡ Some e
     → WaitsOrAnswered n tx k s → WaitsOrAnswered n tx k (during s i e)
-reads_kept scene n tx k s i v input e is seen q h = by_place (same_or_not n i)
+reads_kept scene n tx k s i v input e is seen q h = by_place (cases_eq n i)
   where
     sent_ : Sends s.sent (λ m. Replies tx k m.body) → Sends (s.sent ++ e.sent) (λ m. Replies tx k m.body)
     sent_ r = (r.0, in_left s.sent e.sent r.0 r.1, r.2)

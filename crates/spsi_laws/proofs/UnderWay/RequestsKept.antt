@@ -1,27 +1,20 @@
--- A read that goes elsewhere has its request with the key's master, through every function of a step: changes alone don't say that the one comes with the other.
-use Rattle.std.proofs.Common.{Bool, List, None, Option, Some, [], ap, false, filter, if◌then◌else◌, inl, inr, length, map, nat_lt, option_map, refl, slice_get, slice_set, sub-one, subst, suc, sym, true, zero, ℕ, ◌++◌, ◌+◌, ◌-◌, ◌∙◌, ◌∷◌, ◌≡◌, ◌≢◌, ◌⊎◌}
-use Rattle.dependency_set.specs.Snapshots.{Snap, accept_final, holds}
+-- Who waits for another node has sent its request, through every function of a step: changes alone don't say that the one comes with the other.
+use Rattle.std.proofs.Common.{Bool, List, None, Option, Some, [], ap, false, if◌then◌else◌, inl, inr, length, nat_lt, refl, slice_get, slice_set, sub-one, subst, suc, sym, true, zero, ℕ, ◌++◌, ◌+◌, ◌-◌, ◌∙◌, ◌∷◌, ◌≡◌, ◌⊎◌}
+use Rattle.dependency_set.specs.Snapshots.{Snap}
 use Rattle.partition_map.specs.declared.rows.Asked.{Asked}
-use Rattle.si_laws.proofs.Stages.LinkedStates.{one_of}
 use Rattle.str_base.specs.Values.{is_below}
-use Rattle.str_base.specs.Versions.{last_pre, same_key, same_node, visible}
+use Rattle.str_base.specs.Versions.{same_key, same_node}
 use Rattle.str_base.specs.declared.names.KeyId.{KeyId}
-use Rattle.str_base.specs.declared.names.Kind.{Kind}
-use Rattle.str_base.specs.declared.names.Kind.TheVariants.{Final, Local as LocalKind, Pre}
 use Rattle.str_base.specs.declared.names.NodeId.{NodeId}
 use Rattle.str_base.specs.declared.names.PartId.{PartId}
 use Rattle.str_base.specs.declared.names.SessionId.{SessionId}
 use Rattle.str_base.specs.declared.names.Ts.{Ts}
 use Rattle.str_base.specs.declared.names.TxId.{TxId}
 use Rattle.str_base.specs.declared.names.Value.{Value}
-use Rattle.str_base.specs.declared.names.Value.TheVariants.{Absent}
-use Rattle.str_base.specs.declared.names.Version.{Version}
 use Rattle.str_base.specs.declared.names.Write.{Write}
 use Rattle.str_model.proofs.Changes.SnapshotsGain.{if_elim}
-use Rattle.str_model.proofs.Lists.ListReads.{get_set, got_push, got_set}
-use Rattle.str_model.proofs.Lists.Members.{In, in_append, in_left, in_right}
 use Rattle.str_model.specs.Acts
-use Rattle.str_model.specs.Acts.{aborted, accepted, acked, asked, begun, certified, closed, commit_came, committed, fresh, in_phase, marked, refused, replied, requested, taken, waits, with_asked, with_waiters}
+use Rattle.str_model.specs.Acts.{aborted, accepted, acked, asked, begun, certified, closed, commit_came, committed, fresh, decided_as, in_phase, marked, refused, replied, requested, taken, waits, with_asked, with_waiters}
 use Rattle.str_model.specs.Arrivals
 use Rattle.str_model.specs.Clients
 use Rattle.str_model.specs.Gates.{Ask, CommitAt, GateTurn, Missing, Shut, gate_of}
@@ -34,9 +27,8 @@ use Rattle.str_model.specs.Scripts.{finish, finish_next, known, noted, own_op}
 use Rattle.str_model.specs.Steps
 use Rattle.str_model.specs.Steps.{drop_held}
 use Rattle.str_model.specs.Strange.{is_valid}
-use Rattle.str_model.specs.Turns
 use Rattle.str_model.specs.Turns.{Away, CertTurn, Certified, Conflict, DepTurn, Give, Keep, Late, Lost, Plain, ReadTurn, ServeTurn, ServeWait, Speculative, Wait, WaitGate, cert_turn, dep_turn, left_by, read_turn, reply_turn, serve_turn}
-use Rattle.str_model.specs.Views.{Aborted, Active, CertWait, Closing, Committed, Doing, Global, Local, Own, Phase, ReadWait, Remote, Reply, View, is_decided, lc_of, letter, name_of, put, send}
+use Rattle.str_model.specs.Views.{Aborted, Active, CertWait, Closing, Committed, Doing, Global, Local, Own, Phase, ReadWait, Remote, Reply, is_decided, lc_of, letter, name_of, put}
 use Rattle.str_model.specs.declared.messages.Arrived.{Arrived}
 use Rattle.str_model.specs.declared.messages.Body.{Body}
 use Rattle.str_model.specs.declared.messages.Body.TheVariants.{Abort, Ack, Commit, Prepare, ReadReply, ReadReq, Refuse as Refusal, Replicate}
@@ -45,53 +37,24 @@ use Rattle.str_model.specs.declared.messages.Input.TheVariants.{Client, Deliver}
 use Rattle.str_model.specs.declared.messages.Message.{Message}
 use Rattle.str_model.specs.declared.messages.Waiter.{Waiter}
 use Rattle.str_model.specs.declared.messages.Waiter.TheVariants.{Held, Read}
-use Rattle.str_scene.specs.Scenes.{Here, Session, first_or, hosts_key, nth, part_of, participants, replicas}
+use Rattle.str_scene.specs.Scenes.{Here, Session, nth, participants, replicas}
 use Rattle.str_scene.specs.declared.names.Op.{Op}
 use Rattle.str_scene.specs.declared.names.Op.TheVariants.{Abort as Stop, Add, Del, Get, Need, Put, Puts}
 use Rattle.str_scene.specs.declared.names.TxPlace.{TxPlace}
+use Rattle.str_base.proofs.Lists.{get_set, got_push, got_set}
+use Rattle.str_base.proofs.Members.{in_append, in_left, in_right}
+use Rattle.str_base.specs.Members.{In}
 
--- the master of a key
-abbrev pub master_of : Here → KeyId → NodeId
-master_of here k = first_or here.node (replicas here.scene (part_of here.scene k))
-
--- the request of the i-th own transaction for the key is with the key's master
+-- a request of the i-th own transaction for the key was sent
 abbrev pub HasRequest : Here → List Message → Doing → ℕ → KeyId → Type 0
-HasRequest here old d i k = (rs : Ts) × In (letter here (master_of here k) (ReadReq (name_of here i) k rs)) (old ++ d.sent)
+HasRequest here old d i k = (to : NodeId) × (rs : Ts) × In (letter here to (ReadReq (name_of here i) k rs)) (old ++ d.sent)
 
 -- each own transaction that waits for another node
 abbrev pub AllRequested : Here → List Message → Doing → Type 0
 AllRequested here old d = (i : ℕ) (x : Own) (k : KeyId) → Owns d.view i x → x.phase ≡ Remote k → HasRequest here old d i k
 
--- where a read goes elsewhere it goes to the master, and the key isn't hosted here
-pub away_is : (here : Here) (v : View) (snap : Snap) (k : KeyId) (n : NodeId) → read_turn here v snap k ≡ Away n → n ≡ master_of here k
-unfolding read_turn
-away_is here v snap k n e = by_pre (last_pre v.versions k snap.rs) e
-  where
-    by_gate : (b : Bool) (t : ReadTurn) (u : TxId) → (t ≡ Away n → ⊥) → (if b then t else Wait u) ≡ Away n → ⊥
-    by_gate true t u f q = f q
-    by_gate false t u f q = cc q
-
-    by_kind : (q : Version) (kind : Kind) → Turns.read_kind here v.own snap q kind ≡ Away n → ⊥
-    by_kind q Pre e = cc e
-    by_kind q LocalKind e =
-        let new : Snap = Turns.take_over (slice_get v.own (q.tx.seq - 1)) q.tx.seq snap in by_gate (holds new) (Speculative q.value q.tx new) (Turns.waits_for here _) (λ z. cc z) e
-    by_kind q Final e =
-        let new : Snap = accept_final snap q.ts.0 in by_gate (holds new) (Plain q.value (Some q.tx) q.ts.0 new) (Turns.waits_for here _) (λ z. cc z) e
-
-    by_visible : (o : Option Version) → Turns.read_visible here v.own snap k o ≡ Away n → n ≡ master_of here k
-    by_visible (Some q) e = absurd (by_kind q q.kind e)
-    by_visible None e = by_host (hosts_key here k) e
-      where
-        by_host : (b : Bool) → (if b then Turns.gated here snap (Plain Absent None 0 snap) else Away (master_of here k)) ≡ Away n → n ≡ master_of here k
-        by_host true e = absurd (by_gate (holds snap) (Plain Absent None 0 snap) (Turns.waits_for here _) (λ z. cc z) e)
-        by_host false e = let s : master_of here k ≡ n = cc e in sym s
-
-    by_pre : (o : Option Version) → Turns.read_after here v snap k o ≡ Away n → n ≡ master_of here k
-    by_pre (Some q) e = absurd (cc e)
-    by_pre None e = by_visible (visible v.versions k snap.rs) e
-
 module _ (here : Here) (old : List Message) where
-  -- nothing that was sent is taken back, waiting reads stay, and requests are with their masters
+  -- nothing that was sent is taken back, waiting reads stay, and who waits has sent its request
   pub record KeepsRequests (d e : Doing) : Type 0 where
     pub sent : (m : Message) → In m d.sent → In m e.sent
     pub reads : (tx : TxId) (k : KeyId) (rs : Ts) → In (Read tx k rs) d.view.waiters → In (Read tx k rs) e.view.waiters
@@ -112,7 +75,7 @@ module _ (here : Here) (old : List Message) where
   same_own d e q f g = record {
     sent = f;
     reads = g;
-    remote = λ h i x k o p. (let r = h i x k (subst (λ (xs : List Own). slice_get xs i ≡ Some x) q o) p in (r.0, older d e (letter here (master_of here k) (ReadReq (name_of here i) k r.0)) f r.1));
+    remote = λ h i x k o p. (let r = h i x k (subst (λ (xs : List Own). slice_get xs i ≡ Some x) q o) p in (r.0, r.1, older d e (letter here r.0 (ReadReq (name_of here i) k r.1)) f r.2));
   }
 
   -- one of them changes; where it goes elsewhere, it did so before, or its request is sent
@@ -124,10 +87,10 @@ module _ (here : Here) (old : List Message) where
     remote = λ h j z k oz p. elim (got_set d.view.own i j y z (subst (λ (xs : List Own). slice_get xs j ≡ Some z) q oz)) [
       | inl s ↦ subst (λ (n : ℕ). HasRequest here old e n k) (sym s.0)
           (elim (g k (ap (λ (u : Own). u.phase) (sym s.1) ∙ p)) [
-            | inl r ↦ (let a = h i x k o r in (a.0, older d e (letter here (master_of here k) (ReadReq (name_of here i) k a.0)) f a.1))
+            | inl r ↦ (let a = h i x k o r in (a.0, a.1, older d e (letter here a.0 (ReadReq (name_of here i) k a.1)) f a.2))
             | inr r ↦ r
           ])
-      | inr s ↦ (let a = h j z k s.1 p in (a.0, older d e (letter here (master_of here k) (ReadReq (name_of here j) k a.0)) f a.1))
+      | inr s ↦ (let a = h j z k s.1 p in (a.0, a.1, older d e (letter here a.0 (ReadReq (name_of here j) k a.1)) f a.2))
     ];
   }
 
@@ -141,15 +104,15 @@ module _ (here : Here) (old : List Message) where
 
   aborts : (i : ℕ) (cause : _) (x : Own) (d : Doing) → Owns d.view i x → KeepsRequests d (aborted here i cause x d)
   unfolding aborted
-  aborts i cause x d o = set_quiet d (aborted here i cause x d) i x (in_phase (Aborted (lc_of x.phase) cause) x) (Acts.abort_letters here i x.parts) o refl refl refl (λ k p. absurd (cc p))
+  aborts i cause x d o = set_quiet d (aborted here i cause x d) i x (decided_as (Aborted (lc_of x.phase) cause) x) (Acts.abort_letters here i x.parts) o refl refl refl (λ k p. absurd (cc p))
 
   commits : (i lc fc : ℕ) (x : Own) (d : Doing) → Owns d.view i x → KeepsRequests d (committed here i lc fc x d)
   unfolding committed
-  commits i lc fc x d o = set_quiet d (committed here i lc fc x d) i x (in_phase (Committed (Some lc) (Some fc)) x) (Acts.commit_letters here i x fc d.view) o refl refl refl (λ k p. absurd (cc p))
+  commits i lc fc x d o = set_quiet d (committed here i lc fc x d) i x (decided_as (Committed (Some lc) (Some fc)) x) (Acts.commit_letters here i x fc d.view) o refl refl refl (λ k p. absurd (cc p))
 
   closes : (i : ℕ) (x : Own) (d : Doing) → Owns d.view i x → KeepsRequests d (closed here i x d)
   unfolding closed
-  closes i x d o = set_own d (closed here i x d) i x (in_phase (Committed None None) x) o refl refl (λ m h. h) (λ k p. absurd (cc p))
+  closes i x d o = set_own d (closed here i x d) i x (decided_as (Committed None None) x) o refl refl (λ m h. h) (λ k p. absurd (cc p))
 
   asks : (i lc : ℕ) (p : PartId) (x : Own) (d : Doing) → Owns d.view i x → KeepsRequests d (asked here i lc p x d)
   unfolding asked
@@ -161,13 +124,17 @@ module _ (here : Here) (old : List Message) where
   certifies i lc snap x d o =
       set_own d (certified here i lc snap x d) i x (record x { snap = snap; parts = participants here.scene here.node x.writes; phase = Local lc }) o refl refl (λ m h. h) (λ k p. absurd (cc p))
 
-  requests : (i : ℕ) (k : KeyId) (n : NodeId) (x : Own) (d : Doing) → Owns d.view i x → n ≡ master_of here k → KeepsRequests d (requested here i k n x d)
+  requests : (i : ℕ) (k : KeyId) (n : NodeId) (x : Own) (d : Doing) → Owns d.view i x → KeepsRequests d (requested here i k n x d)
   unfolding requested
-  requests i k n x d o q =
+  requests i k n x d o =
       set_own d (requested here i k n x d) i x (in_phase (Remote k) x) o refl refl (λ m h. in_left d.sent _ m h)
       (λ l p. let same : k ≡ l = cc p in
-      inr (record { 0 = x.snap.rs }, in_right old (d.sent ++ letter here n (ReadReq (name_of here i) k (record { 0 = x.snap.rs })) ∷ []) _
-      (in_right d.sent (letter here n (ReadReq (name_of here i) k (record { 0 = x.snap.rs })) ∷ []) _ (inl (λ j. letter here ((q ∙ ap (master_of here) same) j) (ReadReq (name_of here i) (same j) (record { 0 = x.snap.rs })))))))
+      inr (
+        n,
+        record { 0 = x.snap.rs },
+        in_right old (d.sent ++ letter here n (ReadReq (name_of here i) k (record { 0 = x.snap.rs })) ∷ []) _
+            (in_right d.sent (letter here n (ReadReq (name_of here i) k (record { 0 = x.snap.rs })) ∷ []) _ (inl (λ j. letter here n (ReadReq (name_of here i) (same j) (record { 0 = x.snap.rs }))))),
+      ))
 
   -- ---- an own transaction as it stands
 
@@ -205,11 +172,11 @@ module _ (here : Here) (old : List Message) where
   with_value_ i k a by snap x d o = put_quiet i x (finish_next (own_op here x) a (noted k a by snap x)) d o (λ l p. next_remote (own_op here x) a (noted k a by snap x) l p)
 
   -- the mark has just risen
-  read_done_ : (i : ℕ) (k : KeyId) (x : Own) (t : ReadTurn) (d : Doing) → Owns d.view i x → ((n : NodeId) → t ≡ Away n → n ≡ master_of here k) → KeepsRequests d (Scripts.read_done here i k x t d)
-  read_done_ i k x (Plain a by fc snap) d o f = with_value_ i k a by snap x d o
-  read_done_ i k x (Speculative a by snap) d o f = with_value_ i k a (Some by) snap x d o
-  read_done_ i k x (Wait by) d o f = put_quiet i x (in_phase (ReadWait k) x) d o (λ l p. absurd (cc p))
-  read_done_ i k x (Away n) d o f = requests i k n x d o (f n refl)
+  read_done_ : (i : ℕ) (k : KeyId) (x : Own) (t : ReadTurn) (d : Doing) → Owns d.view i x → KeepsRequests d (Scripts.read_done here i k x t d)
+  read_done_ i k x (Plain a by fc snap) d o = with_value_ i k a by snap x d o
+  read_done_ i k x (Speculative a by snap) d o = with_value_ i k a (Some by) snap x d o
+  read_done_ i k x (Wait by) d o = put_quiet i x (in_phase (ReadWait k) x) d o (λ l p. absurd (cc p))
+  read_done_ i k x (Away n) d o = requests i k n x d o
 
   marks : (k : KeyId) (t : ℕ) (d : Doing) → KeepsRequests d (marked k t d)
   unfolding marked
@@ -224,7 +191,7 @@ module _ (here : Here) (old : List Message) where
   read_now_ i k x d o =
       let e : Doing = marked k x.snap.rs d in
       then_ d e (Scripts.read_done here i k x (read_turn here d.view x.snap k) e) (marks k x.snap.rs d)
-      (read_done_ i k x (read_turn here d.view x.snap k) e (marked_owns k x.snap.rs d i x o) (λ n q. away_is here d.view x.snap k n q))
+      (read_done_ i k x (read_turn here d.view x.snap k) e (marked_owns k x.snap.rs d i x o))
 
   -- ---- certification
 

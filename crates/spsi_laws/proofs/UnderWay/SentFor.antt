@@ -1,32 +1,32 @@
 -- What was sent for a partition that is asked, for versions that are placed, and for a pair that is done.
-use Rattle.std.proofs.Common.{Bool, List, None, Option, Some, [], ap, false, filter, inl, inr, map, refl, slice_get, slice_set, subst, subst₂, sym, true, ℕ, ◌++◌, ◌+◌, ◌||◌, ◌∙◌, ◌∷◌, ◌≡◌, ◌≢◌, ◌⊎◌}
+use Rattle.std.proofs.Common.{Bool, None, Some, [], ap, false, filter, inl, inr, map, refl, slice_get, slice_set, subst, subst₂, sym, true, ℕ, ◌++◌, ◌||◌, ◌∙◌, ◌∷◌, ◌≡◌, ◌⊎◌}
 use Rattle.partition_map.specs.declared.rows.Asked.{Asked}
 use Rattle.si_laws.specs.Laws.Presence.{Decides}
-use Rattle.str_base.specs.Versions.{insert_all, of_pair, of_tx, same_part, settled, stamp, without}
+use Rattle.str_base.specs.Versions.{of_pair, of_tx, same_part, settled, stamp, without}
 use Rattle.str_base.specs.declared.names.KeyId.{KeyId}
 use Rattle.str_base.specs.declared.names.NodeId.{NodeId}
 use Rattle.str_base.specs.declared.names.PartId.{PartId}
 use Rattle.str_base.specs.declared.names.TxId.{TxId}
 use Rattle.str_base.specs.declared.names.Version.{Version}
 use Rattle.str_model.proofs.Changes.OwnGoesOn.{puts_on}
-use Rattle.str_model.proofs.Changes.PairWords.{same_part-is}
-use Rattle.str_model.proofs.Changes.VersionChanges.{Placed}
-use Rattle.str_model.proofs.Lists.ListReads.{got_push, got_set}
-use Rattle.str_model.proofs.Lists.Members.{In, in_append, in_filter, in_insert_all, in_left, in_map, in_right, in_without, map_in}
 use Rattle.str_model.proofs.OwnFacts.AskedParts.{unasked_one}
 use Rattle.str_model.proofs.OwnFacts.AtHome.{a_new, a_old, acked_parts}
 use Rattle.str_model.proofs.Principle.SingleChanges.{Act, IsHere, Where, act_abort, act_abort_came, act_accept, act_ack, act_ask, act_begin, act_certify, act_close, act_commit, act_commit_came, act_mark, act_put, act_refuse, act_reply, act_request, act_take, act_unwait, act_wait}
 use Rattle.str_model.specs.Acts
-use Rattle.str_model.specs.Acts.{aborted, accepted, acked, asked, begun, certified, closed, commit_came, committed, fresh, in_phase, is_hosted_of, local_version, marked, pre_version, refused, replied, requested, taken, waits, with_asked}
+use Rattle.str_model.specs.Acts.{aborted, accepted, acked, asked, begun, certified, closed, commit_came, committed, fresh, decided_as, in_phase, is_hosted_of, local_version, marked, pre_version, refused, replied, requested, taken, waits, with_asked}
 use Rattle.str_model.specs.Owned.{Owns}
 use Rattle.str_model.specs.Proposals.{proposed}
-use Rattle.str_model.specs.Views.{Aborted, Committed, Doing, Global, Local, Own, Remote, is_decided, lc_of, letter, name_of}
+use Rattle.str_model.specs.Views.{Aborted, Committed, Doing, Global, Local, Own, Remote, lc_of, letter, name_of}
 use Rattle.str_model.specs.declared.messages.Arrived.{Arrived}
 use Rattle.str_model.specs.declared.messages.Body.TheVariants.{Ack, Refuse as Refusal, Replicate}
 use Rattle.str_model.specs.declared.messages.Input.{Input}
 use Rattle.str_model.specs.declared.messages.Input.TheVariants.{Deliver}
 use Rattle.str_model.specs.declared.messages.Message.{Message}
 use Rattle.str_scene.specs.Scenes.{Here, is_master, others, participants, replicas}
+use Rattle.str_base.proofs.SameNames.{same_part-is}
+use Rattle.str_base.proofs.Lists.{got_push, got_set}
+use Rattle.str_base.proofs.Members.{in_append, in_filter, in_insert_all, in_map, in_right, in_without, map_in}
+use Rattle.str_base.specs.Members.{In}
 
 -- ---- partitions that are asked
 
@@ -86,9 +86,9 @@ module _ (here : Here) (input : Input) (w : Where) where
         | a_old h ↦ same_asked d' e k x' a ok h t
         | a_new b h sp sn z ↦ asked_before x' b ok h (ap (λ (u : Asked). u.part) (sym z)) (ap (λ (u : Asked). u.node) (sym z)) (ap (λ (u : Asked). u.asked) (sym z) ∙ t)
       ])
-  asked_act d e (act_abort i cause x' d' own f z) k y a oy m t = set_same d' e i k x' (in_phase (Aborted (lc_of x'.phase) cause) x') y a own.0 refl oy m t
-  asked_act d e (act_commit i c fc x' d' own l n le f g) k y a oy m t = set_same d' e i k x' (in_phase (Committed (Some c) (Some fc)) x') y a own.0 refl oy m t
-  asked_act d e (act_close i x' d' own q n) k y a oy m t = set_same d' e i k x' (in_phase (Committed None None) x') y a own.0 refl oy m t
+  asked_act d e (act_abort i cause x' d' own f z) k y a oy m t = set_same d' e i k x' (decided_as (Aborted (lc_of x'.phase) cause) x') y a own.0 refl oy m t
+  asked_act d e (act_commit i c fc x' d' own l n le f g) k y a oy m t = set_same d' e i k x' (decided_as (Committed (Some c) (Some fc)) x') y a own.0 refl oy m t
+  asked_act d e (act_close i x' d' own q n) k y a oy m t = set_same d' e i k x' (decided_as (Committed None None) x') y a own.0 refl oy m t
   asked_act d e (act_mark g z d' rd) k y a oy m t = same_asked d' e k y a oy m t
   asked_act d e (act_accept b ts d' h z) k y a oy m t = same_asked d' e k y a oy m t
   asked_act d e (act_refuse b u g d' h z) k y a oy m t = same_asked d' e k y a oy m t

@@ -1,14 +1,12 @@
 -- Every message of a run is valid at its receiver.
-use Rattle.std.proofs.Common.{Bool, List, None, Option, Some, ap, arith, eq-eqb, eqb-true, flat_map, inl, inr, le-leb, length, lt-ltb, nat_le, nat_lt, refl, slice_get, slice_set, subst, subst₂, sym, true, ℕ, ◌&&◌, ◌++◌, ◌+◌, ◌-◌, ◌<◌, ◌∙◌, ◌∷◌, ◌≡◌}
+use Rattle.std.proofs.Common.{List, None, Option, Some, arith, eq-eqb, eqb-true, flat_map, inl, inr, le-leb, leb-true, length, lt-ltb, ltb-true, nat_le, nat_lt, refl, slice_get, slice_set, subst, subst₂, sym, true, ℕ, ◌+◌, ◌-◌, ◌<◌, ◌∙◌, ◌≡◌}
 use Rattle.std.specs.List.{list_any}
-use Rattle.std.proofs.lemmas.List.{length-replicate}
+use Rattle.std.proofs.lemmas.List.{length-replicate, length-set}
 use Rattle.std.proofs.lemmas.Option.{slice_get_within}
-use Rattle.std.proofs.lemmas.Bool.{and_from}
 use Rattle.partition_map.specs.Maps.{Exists}
-use Rattle.si_laws.proofs.Presence.DecisionsValid.{Bounded, bounded_from, decisions_are_valid}
-use Rattle.si_laws.proofs.Sessions.SessionHolds.{length_set}
+use Rattle.si_laws.proofs.Presence.DecisionsValid.{bounded_from, decisions_are_valid}
 use Rattle.si_laws.proofs.Stages.AllLinksKept.{linked}
-use Rattle.si_laws.proofs.Stages.LinkedStates.{IsDecidedAs, IsSeat, Linked, Told}
+use Rattle.si_laws.proofs.Stages.LinkedStates.{IsDecidedAs, IsSeat, Told}
 use Rattle.si_laws.proofs.Stages.ParticipantSeats.{flat_map_in, of_nth, own_seat}
 use Rattle.si_laws.proofs.Times.ProposalsFew.{times_bounded}
 use Rattle.si_laws.specs.Laws.Presence.{Decides}
@@ -23,23 +21,27 @@ use Rattle.str_base.specs.declared.names.TxId.{TxId}
 use Rattle.str_base.specs.declared.names.Ts.{Ts}
 use Rattle.str_base.specs.declared.names.Write.{Write}
 use Rattle.str_model.proofs.Changes.PairWords.{any_has}
-use Rattle.str_model.proofs.Lists.ListReads.{get_set, get_set_other, got_replicate, got_set}
-use Rattle.str_model.proofs.Lists.Members.{In, at_in, in_append, in_at, in_left, in_right}
 use Rattle.str_model.proofs.Principle.Everywhere.{IsSeen, Stage, at_place, during, everywhere, stage_of}
 use Rattle.str_model.proofs.Principle.SingleChanges.{Act, Where}
 use Rattle.str_model.proofs.ViewFacts.MomentKept.{moment-act, moment_opening}
 use Rattle.str_model.specs.NodeFacts.{MomentFacts}
 use Rattle.str_model.specs.Proposals.{ts_limit}
 use Rattle.str_model.specs.Runs.{opening, opening_view, run}
-use Rattle.str_model.specs.Strange.{below_limit, has_key, has_named, has_named_writes, has_node, has_part, has_value, has_values, has_writer, is_valid, some_keys_in}
+use Rattle.str_model.specs.Strange.{below_limit, has_named, has_named_writes, has_node, is_valid}
 use Rattle.str_model.specs.Views.{Doing, View}
 use Rattle.str_model.specs.declared.messages.Body.{Body}
 use Rattle.str_model.specs.declared.messages.Body.TheVariants.{Abort, Ack, Commit, Prepare, ReadReply, ReadReq, Refuse as Refusal, Replicate}
 use Rattle.str_model.specs.declared.messages.Input.{Input}
 use Rattle.str_model.specs.declared.messages.Message.{Message}
 use Rattle.str_scene.specs.SceneLimits.{IsScene}
-use Rattle.str_scene.specs.Scenes.{Here, Scene, hosts, nth, or_none, replicas}
+use Rattle.str_scene.specs.Scenes.{Here, Scene, hosts, is_master, nth, or_none, part_of}
 use Rattle.str_scene.specs.declared.names.Event.{Event}
+use Rattle.std.proofs.lemmas.Bool.{and_from}
+use Rattle.str_base.proofs.Tests.{and_true_left, and_true_right}
+use Rattle.str_model.proofs.ViewFacts.VersionsKept.{master_hosts}
+use Rattle.str_base.proofs.Lists.{get_set, get_set_other, got_replicate, got_set}
+use Rattle.str_base.proofs.Members.{at_in, in_append, in_at, in_left, in_right}
+use Rattle.str_base.specs.Members.{In}
 
 -- a message that was sent: its sender exists, and so does what it names
 pub record IsPosted (scene : Scene) (m : Message) : Type 0 where
@@ -62,7 +64,7 @@ pub posted_keeps : (scene : Scene) → IsScene scene → (s : Stage) (i : ℕ) (
     → Act (at_place scene i) input w d e → Posted scene (during s i d) → Posted scene (during s i e)
 posted_keeps scene ok s i v input w d e is seen hs act h =
     let there : slice_get (slice_set s.nodes i d.view) i ≡ Some d.view = get_set s.nodes i v d.view is in
-    let same : length (slice_set s.nodes i e.view) ≡ length (slice_set s.nodes i d.view) = length_set s.nodes i e.view ∙ sym (length_set s.nodes i d.view) in
+    let same : length (slice_set s.nodes i e.view) ≡ length (slice_set s.nodes i d.view) = length-set s.nodes i e.view ∙ sym (length-set s.nodes i d.view) in
     let less : i < scene.nodes = (let k = slice_get_within (slice_set s.nodes i d.view) i d.view there in let c = h.count in omega (arith, k, c)) in
     let exists = place_exists scene i less in
     let before = h.facts i d.view there in
@@ -89,7 +91,7 @@ posted_keeps scene ok s i v input w d e is seen hs act h =
     }
   where
     by_here : (here : Here) (input : Input) (d e : Doing) (m : Message) → Post here input d e m → m.sender ≡ here.node
-    by_here here input d e m (p_request i k to x own own') = refl
+    by_here here input d e m (p_request i k to x own own' aw) = refl
     by_here here input d e m (p_prepare i lc p x own l g t) = refl
     by_here here input d e m (p_replicate i lc p x r own l g t j) = refl
     by_here here input d e m (p_ack a ts pl) = refl
@@ -141,7 +143,7 @@ module _ (scene : Scene) (ok : IsScene scene) (es : List Event) where
       let k = own_seat (at_place scene dec.n) dec.view.versions dec.i x g seat.0 seat.1 in
       host_exists scene ok m.receiver p (subst₂ (λ (q : PartId) (r : NodeId). hosts scene r q ≡ true) seat.2 seat.3 k.hosted)
 
-  to_place : (r : NodeId) → Exists r.0 scene.nodes → (n : ℕ) × (r ≡ record { 0 = n + 1 })
+  pub to_place : (r : NodeId) → Exists r.0 scene.nodes → (n : ℕ) × (r ≡ record { 0 = n + 1 })
   to_place r e = (r.0 - 1, λ j. record { 0 = is j })
     where
       is : r.0 ≡ r.0 - 1 + 1
@@ -182,8 +184,30 @@ module _ (scene : Scene) (ok : IsScene scene) (es : List Event) where
     valid_ : is_valid (record { scene = scene; node = m.receiver }) m ≡ true
     valid_ = by_body m.body refl k.names (λ t j. time_below m t h j)
 
+  node_there : (n : NodeId) → has_node (at_place scene 0) n ≡ true → Exists n.0 scene.nodes
+  node_there n e = (ltb-true 0 n.0 (and_true_left (nat_lt 0 n.0) (nat_le n.0 scene.nodes) e), leb-true n.0 scene.nodes (and_true_right (nat_lt 0 n.0) (nat_le n.0 scene.nodes) e))
+
+  hosts_it : (r : NodeId) (p : PartId) → is_master scene r p ≡ true → Exists r.0 scene.nodes
+  hosts_it r p e = host_exists scene ok r p (master_hosts (record { scene = scene; node = r }) p e)
+
+  -- each message goes to a node of the scene
+  goes_there : (m : Message) → In m (run scene es).sent → (b : Body) → m.body ≡ b → Names (at_place scene 0) b → Addressed scene m.sender m.receiver b → Exists m.receiver.0 scene.nodes
+  goes_there m h (ReadReq tx k rs) e n a = hosts_it m.receiver (part_of scene k) a.1
+  goes_there m h (ReadReply tx k v by fc) e n a = node_there m.receiver (subst (λ (z : NodeId). has_node (at_place scene 0) z ≡ true) (sym a) n.0)
+  goes_there m h (Prepare tx p rs lc ws) e n a = hosts_it m.receiver p a.1
+  goes_there m h (Refusal tx p by k) e n a = node_there m.receiver (subst (λ (z : NodeId). has_node (at_place scene 0) z ≡ true) (sym a.0) n.0)
+  goes_there m h (Replicate tx p rs lc ws) e n a = host_exists scene ok m.receiver p a.0
+  goes_there m h (Ack tx p ts) e n a = node_there m.receiver (subst (λ (z : NodeId). has_node (at_place scene 0) z ≡ true) (sym a.0) n.0)
+  goes_there m h (Commit tx p fc ms) e n a =
+      let told = subst (λ (z : Body). Told scene (stage_of (run scene es)) m.sender m.receiver z) e ((linked scene es).told m h) in decision_goes m tx p told.0 told.1 told.3
+  goes_there m h (Abort tx p) e n a =
+      let told = subst (λ (z : Body). Told scene (stage_of (run scene es)) m.sender m.receiver z) e ((linked scene es).told m h) in decision_goes m tx p told.0 told.1 told.3
+
+  pub sent_goes : (m : Message) → In m (run scene es).sent → Exists m.receiver.0 scene.nodes
+  sent_goes m h = let k = (posted scene ok es).each m h in goes_there m h m.body refl k.names k.addressed
+
   pub sent_valid : (m : Message) → In m (run scene es).sent → is_valid (record { scene = scene; node = m.receiver }) m ≡ true
   sent_valid m h = valid_ m h ((posted scene ok es).each m h)
 
 pub messages_valid : MessagesValid
-messages_valid scene ok es i m e = sent_valid scene ok es m (in_at (run scene es).sent i m e)
+messages_valid scene ok es i m e = let h = in_at (run scene es).sent i m e in (sent_goes scene ok es m h, sent_valid scene ok es m h)

@@ -1,5 +1,5 @@
 -- The law Drain, over every run: the measure is fuel enough.
-use Rattle.std.proofs.Common.{Bool, List, None, Option, Some, [], ap, arith, false, find, if◌then◌else◌, length, refl, slice_get, subst, suc, sym, true, zero, ℕ, ◌++◌, ◌+◌, ◌<◌, ◌∙◌, ◌∷◌, ◌≡◌, ◌≤◌}
+use Rattle.std.proofs.Common.{Bool, List, None, Option, Some, [], ap, arith, false, find, length, refl, slice_get, subst, suc, sym, true, zero, ℕ, ◌++◌, ◌+◌, ◌<◌, ◌∙◌, ◌∷◌, ◌≡◌, ◌≤◌}
 use Rattle.std.proofs.lemmas.Option.{slice_get_within}
 use Rattle.std.specs.List.{range_with_len}
 use Rattle.si_laws.proofs.Stages.ParticipantSeats.{range_in}

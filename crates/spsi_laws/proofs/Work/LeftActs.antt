@@ -11,10 +11,8 @@ use Rattle.str_base.specs.declared.names.KeyId.{KeyId}
 use Rattle.str_base.specs.declared.names.NodeId.{NodeId}
 use Rattle.str_base.specs.declared.names.PartId.{PartId}
 use Rattle.dependency_set.specs.Snapshots.{Snap}
-use Rattle.dependency_set.specs.declared.names.Dep.{Dep}
 use Rattle.str_model.specs.Acts.{abort_letters, aborted, ask_letters, asked, asked_ones, certified, closed, commit_letters, committed, decided_as, in_phase, marked, marks_in, requested, with_asked}
-use Rattle.str_model.specs.Gates.{Ask, DepParts, GateTurn, gate_turn}
-use Rattle.str_model.specs.Gates
+use Rattle.str_model.specs.Gates.{Ask, DepParts, gate_turn}
 use Rattle.str_model.specs.Views.{Aborted, Committed, Doing, Global, Local, Own, Remote, is_decided, lc_of, letter, name_of, put}
 use Rattle.str_model.specs.Work.{body_weight, view_left, waiter_left}
 use Rattle.str_model.specs.declared.messages.Body.TheVariants.{Abort, Commit, Prepare, ReadReq, Replicate}
@@ -24,10 +22,8 @@ use Rattle.str_scene.specs.declared.names.TxPlace.{TxPlace}
 use Rattle.str_scene.specs.Scenes.{Here, Scene, first_or, leads, others, participants, replicas}
 use Rattle.str_model.proofs.OwnFacts.ScriptsCovered.{ScriptGood}
 use Rattle.str_model.proofs.OwnFacts.AtHome.{OwnGood}
-use Rattle.str_base.proofs.Tests.{and_true_left}
 use Rattle.str_base.proofs.Lists.{sum_by-set_got}
-use Rattle.str_base.specs.Members.{In}
-use Rattle.std.proofs.lemmas.Bool.{not-true}
+use Rattle.str_model.proofs.ViewFacts.GatesEnd.{gate_open}
 
 -- what messages count for
 unfoldable pub weights : Scene → List Message → ℕ
@@ -189,39 +185,12 @@ module _ (here : Here) where
           let z = weights_none here.scene in
           omega (arith, a, z))
 
-  find_is : {A : Type 0} (p : A → Bool) (xs : List A) (a : A) → find p xs ≡ Some a → In a xs × (p a ≡ true)
-  find_is p [] a e = absurd (cc e)
-  find_is {A = A} p (x ∷ xs) a e = by_test (p x) refl (find_is p xs a) e
-    where
-      by_test : (b : Bool) → p x ≡ b → (find p xs ≡ Some a → In a xs × (p a ≡ true)) → (if b then Some x else find p xs) ≡ Some a → In a (x ∷ xs) × (p a ≡ true)
-      by_test true q rec k = let s : x ≡ a = cc k in (inl s, ap p (sym s) ∙ q)
-      by_test false q rec k = let r = rec k in (inr r.0, r.1)
-
-  -- who is asked next
-  pub asks_one : (snap : Snap) (lc : ℕ) (parts : List Asked) (wrote : List DepParts) (p : PartId) → gate_turn snap lc parts wrote ≡ Ask p → (a : Asked) × In a parts × (a.part ≡ p) × (a.asked ≡ false)
-  unfolding gate_turn
-  asks_one snap lc parts wrote p e = by_ask (find (Gates.may_ask wrote) parts) refl e
-    where
-      by_ack : (o : Option Asked) → Gates.gate_acks lc parts o ≡ Ask p → ⊥
-      by_ack (Some a) k = cc k
-      by_ack None k = cc k
-
-      by_deps : (ds : List Dep) → Gates.gate_deps lc parts ds ≡ Ask p → ⊥
-      by_deps [] k = by_ack (find (λ a. not (Rattle.std.proofs.Common.is_some a.ack)) parts) k
-      by_deps (d ∷ ds) k = cc k
-
-      by_ask : (o : Option Asked) → find (Gates.may_ask wrote) parts ≡ o → Gates.gate_asks snap lc parts o ≡ Ask p → (a : Asked) × In a parts × (a.part ≡ p) × (a.asked ≡ false)
-      by_ask (Some a) q k =
-          let f = find_is (Gates.may_ask wrote) parts a q in
-          (a, f.0, (let s : a.part ≡ p = cc k in s), not-true a.asked (and_true_left (not a.asked) (not (Gates.dependency_wrote wrote a.part)) f.1))
-      by_ask None q k = absurd (by_deps snap.deps k)
-
   -- a partition is asked
   pub eases_ask : (i lc : ℕ) (p : PartId) (x : Own) (d : Doing) (wrote : List DepParts) → slice_get d.view.own i ≡ Some x → is_decided x.phase ≡ false → lc_of x.phase ≡ Some lc
       → gate_turn x.snap lc x.parts wrote ≡ Ask p → OwnGood here d.view.versions i x → Together x.parts → Eases here d (asked here i lc p x d) 0 0
   unfolding asked
   eases_ask i lc p x d wrote o f l e g t =
-      let r = asks_one x.snap lc x.parts wrote p e in
+      let r = gate_open x.snap lc x.parts wrote p e in
       eases_own d (asked here i lc p x d) i x (record x { parts = with_asked p x.parts; phase = Global lc }) (ask_letters here i lc x p (replicas here.scene p)) 0 0 o refl refl refl refl
       (let a = left_global here (record x { parts = with_asked p x.parts; phase = Global lc }) lc refl in
       let b = left_certified here x lc l f in

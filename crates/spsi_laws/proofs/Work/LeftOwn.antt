@@ -34,7 +34,7 @@ use Rattle.str_model.proofs.Changes.PairWords.{any_has}
 use Rattle.str_model.proofs.OwnFacts.AtHome.{OwnGood, seats}
 use Rattle.str_model.proofs.ListCounts.{how_many, many_append, one_if}
 use Rattle.std.proofs.lemmas.List.Concat.{length-flat_map}
-use Rattle.str_base.proofs.Members.{any_in, in_at, in_filter, in_flat_map, in_map, map_in}
+use Rattle.str_base.proofs.Members.{any_in, in_at, in_flat_map, in_map, map_in}
 use Rattle.str_base.proofs.Lists.{length-filter-le}
 use Rattle.str_base.specs.Members.{In}
 

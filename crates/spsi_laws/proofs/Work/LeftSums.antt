@@ -1,10 +1,8 @@
 -- Sums and counts over lists, after a write or a push.
-use Rattle.std.proofs.Common.{Bool, List, None, Option, Some, [], ap, arith, cond, drop, false, filter, flat_map, inl, inr, length, map, not, refl, replicate, slice_get, slice_set, suc, sym, true, zero, ℕ, ◌*◌, ◌++◌, ◌+◌, ◌<◌, ◌∙◌, ◌∷◌, ◌≡◌, ◌≤◌}
+use Rattle.std.proofs.Common.{Bool, List, Some, [], ap, arith, cond, false, filter, length, map, refl, slice_get, slice_set, suc, sym, true, zero, ℕ, ◌*◌, ◌++◌, ◌+◌, ◌∙◌, ◌∷◌, ◌≡◌, ◌≤◌}
 use Rattle.std.proofs.lemmas.List.Sums.{sum_by-cons}
 use Rattle.std.specs.List.{count_by, sum_by}
 use Rattle.str_model.proofs.ListCounts.{one_if}
-use Rattle.std.proofs.lemmas.List.Concat.{length-flat_map}
-use Rattle.str_base.proofs.Lists.{drop_there, length-filter-le, sum_by-set_got}
 
 -- ---- sums
 

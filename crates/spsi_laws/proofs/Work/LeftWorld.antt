@@ -4,7 +4,7 @@ use Rattle.std.proofs.lemmas.List.Sums.{sum_by-cons}
 use Rattle.std.specs.List.{count_by, sum_by}
 use Rattle.si_laws.proofs.Stages.ParticipantSeats.{own_seat}
 use Rattle.si_laws.proofs.Sessions.SessionHolds.{length_copies}
-use Rattle.spsi_laws.proofs.Work.LeftActs.{Eases, asks_one, owns_left, todo, waits_left, weights, weights_append}
+use Rattle.spsi_laws.proofs.Work.LeftActs.{Eases, owns_left, todo, waits_left, weights, weights_append}
 use Rattle.spsi_laws.proofs.Work.LeftHome.{HomeFit, fit-act, mine}
 use Rattle.spsi_laws.proofs.Work.LeftOwn.{left_fresh, left_of}
 use Rattle.spsi_laws.proofs.Work.LeftPass.{fit_path, pass_eased, pass_fit, waits_eased}
@@ -44,6 +44,7 @@ use Rattle.str_base.proofs.Lists.{drop_there, got_replicate, got_set, sum_by-set
 use Rattle.str_base.proofs.Members.{in_append, in_map}
 use Rattle.str_base.specs.Members.{In}
 use Rattle.std.proofs.lemmas.List.{length-set}
+use Rattle.str_model.proofs.ViewFacts.GatesEnd.{gate_open}
 
 -- ---- a whole step
 
@@ -171,7 +172,7 @@ module _ (here : Here) (input : Input) (w : Where) where
       kept_heavy d e (letter here m (ReadReq (name_of here i) g (record { 0 = x.snap.rs })) ∷ []) refl (one_heavy (letter here m (ReadReq (name_of here i) g (record { 0 = x.snap.rs }))) (omega arith)) k
   heavy-act d e (act_certify i lc snap x d' own f n c) fit k = k
   heavy-act d e (act_ask i lc p x d' own f l g) fit k =
-      let r = asks_one here x.snap lc x.parts (map (dep_parts here d'.view.own) x.snap.deps) p g in
+      let r = gate_open x.snap lc x.parts (map (dep_parts here d'.view.own) x.snap.deps) p g in
       let s = own_seat here d'.view.versions i x (fit.home i x own.0) r.0 r.1 in
       let l1 : 1 ≤ length (others here.node (replicas here.scene r.0.part)) = some_other here.node (replicas here.scene r.0.part) r.0.node s.replica s.other in
       kept_heavy d e (Acts.ask_letters here i lc x p (replicas here.scene p)) refl (ask_heavy i lc x p (subst (λ (q : PartId). 1 ≤ length (others here.node (replicas here.scene q))) r.2 l1)) k

@@ -26,8 +26,7 @@ use Rattle.str_model.specs.Owned.{Owns}
 use Rattle.partition_map.specs.declared.rows.Asked.{Asked}
 use Rattle.str_base.specs.declared.names.NodeId.{NodeId}
 use Rattle.str_model.specs.Strange
-use Rattle.std.proofs.lemmas.Bool.{false_from_ne_true, or_right}
-use Rattle.str_base.proofs.Members.{any_in, in_append, in_flat_map, in_map}
+use Rattle.str_base.proofs.Members.{in_append, in_flat_map, in_map}
 use Rattle.str_base.proofs.SameNames.{same_part-is, same_tx-is}
 use Rattle.str_base.proofs.Tests.{and_true_left, and_true_right}
 use Rattle.str_base.proofs.Lists.{get_push, get_set_other}

@@ -1,5 +1,5 @@
 -- What a turn takes into a snapshot: the dependencies that it gains come from Local versions at or below its timestamp.
-use Rattle.std.proofs.Common.{Bool, List, None, Option, Some, [], ap, arith, eqb-true, false, filter, find, if◌then◌else◌, inl, inr, leb-true, ltb-false, max, nat_le, nat_lt, refl, slice_get, subst, sym, true, ℕ, ◌&&◌, ◌+◌, ◌-◌, ◌<◌, ◌==◌, ◌||◌, ◌∙◌, ◌∷◌, ◌≡◌, ◌≤◌, ◌⊎◌}
+use Rattle.std.proofs.Common.{Bool, List, None, Option, Some, [], arith, eqb-true, false, filter, find, if◌then◌else◌, inl, inr, leb-true, ltb-false, max, nat_le, nat_lt, refl, slice_get, subst, sym, true, ℕ, ◌&&◌, ◌+◌, ◌-◌, ◌<◌, ◌==◌, ◌∙◌, ◌∷◌, ◌≡◌, ◌≤◌, ◌⊎◌}
 use Rattle.std.specs.List.{last_or}
 use Rattle.dependency_set.specs.declared.names.Dep.{Dep}
 use Rattle.str_base.specs.declared.names.KeyId.{KeyId}
@@ -16,7 +16,7 @@ use Rattle.str_model.specs.Turns.{Away, CertTurn, Certified, CommittedAt, Confli
 use Rattle.str_model.specs.Turns
 use Rattle.str_base.specs.Versions.{chain, is_pre, last_pre, same_key, stamp, visible}
 use Rattle.str_model.specs.Views.{Own, View}
-use Rattle.str_base.proofs.Tests.{and_true_left, and_true_right, or_false_right}
+use Rattle.str_base.proofs.Tests.{and_true_right, or_false_right}
 use Rattle.str_base.proofs.Members.{find_none, in_filter, in_flat_map}
 use Rattle.str_base.specs.Members.{In}
 

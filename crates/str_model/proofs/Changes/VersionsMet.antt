@@ -1,5 +1,5 @@
 -- What a certification has met, and what an acceptance at a master has met: no version of a written key that conflicts.
-use Rattle.std.proofs.Common.{Bool, List, None, Option, Some, [], ap, eq-eqb, false, filter, find, flat_map, if◌then◌else◌, inl, inr, ltb-false, nat_lt, not, refl, slice_get, subst, sym, true, ℕ, ◌&&◌, ◌-◌, ◌||◌, ◌∷◌, ◌≡◌, ◌≤◌}
+use Rattle.std.proofs.Common.{Bool, List, None, Option, Some, [], ap, eq-eqb, false, find, flat_map, if◌then◌else◌, inl, inr, ltb-false, nat_lt, not, refl, slice_get, subst, sym, true, ℕ, ◌&&◌, ◌-◌, ◌||◌, ◌∷◌, ◌≡◌, ◌≤◌}
 use Rattle.str_base.specs.declared.names.Kind.{Kind}
 use Rattle.str_base.specs.declared.names.Kind.TheVariants.{Final, Local as LocalKind, Pre}
 use Rattle.str_base.specs.declared.names.Version.{Version}

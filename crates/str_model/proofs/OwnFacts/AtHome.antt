@@ -6,7 +6,7 @@ use Rattle.partition_map.specs.declared.rows.Asked.{Asked}
 use Rattle.str_model.proofs.Changes.OwnTurns.{DecidesOne, OwnChange, o_aborts, o_acks, o_asks, o_begins, o_certifies, o_closes, o_commits, o_puts, o_rests, own_change, own_stays}
 use Rattle.str_model.proofs.Principle.SingleChanges.{Act, Where}
 use Rattle.str_model.proofs.Changes.SnapshotsGain.{if_elim}
-use Rattle.std.proofs.Common.{Bool, List, None, Option, Some, [], ap, arith, eq-eqb, false, filter, find, if◌then◌else◌, inl, inr, is_some, map, max, not, option_map, refl, slice_get, slice_set, subst, subst₂, sym, true, ℕ, ◌&&◌, ◌+◌, ◌||◌, ◌∙◌, ◌∷◌, ◌≡◌, ◌≤◌, ◌⊎◌}
+use Rattle.std.proofs.Common.{List, None, Option, Some, [], ap, arith, eq-eqb, false, filter, find, inl, inr, is_some, map, max, not, option_map, refl, slice_get, slice_set, subst, subst₂, sym, true, ℕ, ◌&&◌, ◌+◌, ◌||◌, ◌∙◌, ◌∷◌, ◌≡◌, ◌≤◌, ◌⊎◌}
 use Rattle.str_base.specs.Versions.{insert_all, of_tx, same_node, same_part, settled, stamp, without}
 use Rattle.str_base.specs.declared.names.Cause.{Cause}
 use Rattle.str_base.specs.declared.names.NodeId.{NodeId}

@@ -12,7 +12,7 @@ use Rattle.str_scene.specs.Scenes.{Here, Scene, nth}
 use Rattle.str_model.specs.Views.{Committed, Doing, Own, View, is_decided}
 use Rattle.str_model.proofs.Principle.SingleChanges.{Begins, NextPlace, is_first, is_next}
 use Rattle.str_model.proofs.Changes.AnswerChanges.{IsLastOf, TellStep, last_index-none, last_index-some, t_begins, t_decides, t_goes, t_rests}
-use Rattle.str_base.proofs.Lists.{get_pushed, got_push, got_set}
+use Rattle.str_base.proofs.Lists.{got_push, got_set}
 
 pub get_set_cases : {A : Type 0} (xs : List A) (i j : ℕ) (y z : A) → slice_get xs j ≡ Some z → ((j ≡ i) × (slice_get (slice_set xs i y) j ≡ Some y)) ⊎ ((j ≢ i) × (slice_get (slice_set xs i y) j ≡ Some z))
 get_set_cases [] i j y z e = absurd cc

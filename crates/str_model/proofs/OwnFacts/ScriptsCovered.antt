@@ -32,7 +32,7 @@ use Rattle.str_scene.specs.declared.names.Event.{Event}
 use Rattle.str_scene.specs.declared.names.Op.TheVariants.{Abort as Stop, Add, Del, Get, Need, Put, Puts}
 use Rattle.str_scene.specs.declared.names.Op.{Op}
 use Rattle.str_scene.specs.declared.names.TxPlace.{TxPlace}
-use Rattle.std.proofs.lemmas.Bool.{cases_eq, false_from_ne_true, not-true, or_cases, or_left, or_parts, or_right}
+use Rattle.std.proofs.lemmas.Bool.{cases_eq, not-true, or_cases, or_left, or_parts, or_right}
 use Rattle.str_base.proofs.Tests.{and_true_left, and_true_right}
 use Rattle.str_base.proofs.Lists.{got_push, got_set}
 
@@ -80,7 +80,7 @@ none_of w (u ∷ us) k e f =
     (λ t. rw f n.1) (λ t. rw n.0 (none_of w us k n.1 f))
 
 -- each key stands once after one more write
-set_once : (w : Write) (ws : List Write) → AreDistinct ws → AreDistinct (set_write w ws)
+pub set_once : (w : Write) (ws : List Write) → AreDistinct ws → AreDistinct (set_write w ws)
 set_once w [] d = refl
 set_once w (u ∷ us) d = by_test (same_key u.key w.key) refl (set_once w us (and_true_right (not (list_any (same_key u.key) (map (λ (z : Write). z.key) us))) _ d))
   where

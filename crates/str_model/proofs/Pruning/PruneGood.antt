@@ -1,5 +1,5 @@
 -- What a step over a pruned list needs of its view, and that each single change keeps it.
-use Rattle.std.proofs.Common.{Bool, List, Some, [], ap, append-nil, eq-eqb, eqb-true, false, filter, inl, inr, map, not, refl, slice_get, slice_set, sym, true, ℕ, ◌&&◌, ◌++◌, ◌==◌, ◌∙◌, ◌∷◌, ◌≡◌, ◌⊎◌}
+use Rattle.std.proofs.Common.{List, Some, [], ap, append-nil, eq-eqb, eqb-true, false, filter, inl, inr, map, not, refl, slice_get, slice_set, sym, true, ℕ, ◌&&◌, ◌++◌, ◌==◌, ◌∙◌, ◌∷◌, ◌≡◌, ◌⊎◌}
 use Rattle.std.specs.List.{list_any}
 use Rattle.std.proofs.lemmas.List.Folds.{list_any-append}
 use Rattle.str_base.specs.declared.names.PartId.{PartId}
@@ -13,7 +13,7 @@ use Rattle.str_model.specs.declared.messages.Input.{Input}
 use Rattle.str_model.specs.Proposals.{is_done, is_pair, proposed}
 use Rattle.str_model.specs.Views.{Doing, Own, View, is_decided, name_of}
 use Rattle.str_model.proofs.Principle.SingleChanges.{Act, Where, act_abort, act_abort_came, act_accept, act_ack, act_ask, act_begin, act_certify, act_close, act_commit, act_commit_came, act_mark, act_put, act_refuse, act_reply, act_request, act_take, act_unwait, act_wait}
-use Rattle.str_model.proofs.Changes.OwnChanges.{Becomes, OwnStep, aborts, certifies, closes, commits, goes_on, own_step, rests, starts_one, turns_one}
+use Rattle.str_model.proofs.Changes.OwnChanges.{OwnStep, own_step, rests, starts_one, turns_one}
 use Rattle.std.proofs.lemmas.Bool.{and_from, and_parts, cases_eq, not-true, or_left, or_right}
 use Rattle.str_base.proofs.Lists.{get_push, get_set, get_set_other}
 use Rattle.str_base.proofs.Members.{in_filter, in_insert_all, in_map, in_without}

@@ -74,11 +74,8 @@ module _ (here : Here) (ok : IsScene here.scene) (exists : has_node here here.no
       node_exists : Exists here.node.0 8
       node_exists =
           let a = ltb-true 0 here.node.0 (and_true_left (nat_lt 0 here.node.0) (nat_le here.node.0 here.scene.nodes) exists) in
-          let b = le_of here.node.0 here.scene.nodes (and_true_right (nat_lt 0 here.node.0) (nat_le here.node.0 here.scene.nodes) exists) in
+          let b = leb-true here.node.0 here.scene.nodes (and_true_right (nat_lt 0 here.node.0) (nat_le here.node.0 here.scene.nodes) exists) in
           (omega (arith, a), omega (arith, b, ok.nodes.1))
-        where
-          le_of : (m n : ℕ) → nat_le m n ≡ true → m ≤ n
-          le_of m n e = leb-true m n e
 
   -- at most 7 other replicas
   pub others_seven : (p : PartId) → length (others here.node (replicas here.scene p)) ≤ 7

@@ -2,7 +2,6 @@
 use Rattle.std.proofs.Common.{Bool, List, None, Option, Some, [], ap, arith, eqb-true, false, if◌then◌else◌, length, not, refl, slice_get, subst, suc, true, zero, ℕ, ◌&&◌, ◌+◌, ◌<◌, ◌==◌, ◌∙◌, ◌∷◌, ◌≡◌, ◌≤◌}
 use Rattle.std.proofs.lemmas.Option.{slice_get_within}
 use Rattle.std.specs.List.{list_any}
-use Rattle.str_base.specs.declared.names.Kind.TheVariants.{Final, Local as LocalKind, Pre}
 use Rattle.str_base.specs.declared.names.NodeId.{NodeId}
 use Rattle.str_base.specs.declared.names.TxId.{TxId}
 use Rattle.str_base.specs.declared.names.Version.{Version}
@@ -20,6 +19,7 @@ use Rattle.str_model.proofs.OwnFacts.FewOwn.{is_open, open_few}
 use Rattle.str_model.proofs.Changes.PairWords.{any_has}
 use Rattle.str_base.proofs.Tests.{and_true_left, and_true_right}
 use Rattle.str_base.specs.Members.{In}
+use Rattle.str_model.proofs.KindTests.{local_kind}
 
 -- ---- evictions
 
@@ -59,20 +59,12 @@ opens_within [] n = let r = opens_none n in omega (arith, r)
 opens_within (x ∷ xs) zero = omega arith
 opens_within (x ∷ xs) (suc n) = let r = opens_within xs n in let s = opens_shift x xs n in omega (arith, r, s)
 
-local_is : (u : Version) → is_local u.kind ≡ true → u.kind ≡ LocalKind
-local_is u f = by_kind u.kind f
-  where
-    by_kind : (k : _) → is_local k ≡ true → k ≡ LocalKind
-    by_kind LocalKind f = refl
-    by_kind Pre f = absurd cc
-    by_kind Final f = absurd cc
-
 module _ (here : Here) (v : View) (h : MomentFacts here v) (vs : List Version) (some_of : (u : Version) → In u vs → In u v.versions) where
   -- who has a Local version is undecided
   there_open : (n : ℕ) → list_any (is_local_of (named here.node (suc n))) vs ≡ true → is_there (slice_get v.own n) ≡ true
   there_open n e =
       let r = any_has (is_local_of (named here.node (suc n))) vs e in
-      let o = h.base.locals r.0 (some_of r.0 r.1) (local_is r.0 (and_true_right (of_tx (named here.node (suc n)) r.0) (is_local r.0.kind) r.2)) in
+      let o = h.base.locals r.0 (some_of r.0 r.1) (local_kind r.0.kind (and_true_right (of_tx (named here.node (suc n)) r.0) (is_local r.0.kind) r.2)) in
       let s : r.0.tx.seq ≡ suc n = eqb-true r.0.tx.seq (suc n) (and_true_right (same_node r.0.tx.node here.node) (r.0.tx.seq == suc n) (and_true_left (of_tx (named here.node (suc n)) r.0) (is_local r.0.kind) r.2)) in
       let own : slice_get v.own n ≡ Some o.owner = subst (λ m. slice_get v.own m ≡ Some o.owner) (omega (arith, s, o.seq)) o.owns in
       ap is_there own ∙ ap not o.open_

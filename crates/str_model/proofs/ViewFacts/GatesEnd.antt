@@ -1,5 +1,5 @@
 -- The gate of a certified transaction is looked at often enough: once for each partition that may be asked, and once for the commit.
-use Rattle.std.proofs.Common.{Bool, List, None, Option, Some, [], ap, arith, eq-eqb, eqb-true, false, find, if◌then◌else◌, inl, inr, is_some, length, map, not, refl, slice_get, slice_set, subst, suc, sym, true, zero, ℕ, ◌&&◌, ◌+◌, ◌∙◌, ◌∷◌, ◌≡◌, ◌≤◌, ◌||◌}
+use Rattle.std.proofs.Common.{Bool, List, None, Option, Some, [], ap, arith, eq-eqb, eqb-true, false, find, inl, inr, is_some, length, map, not, refl, slice_get, slice_set, subst, suc, sym, true, zero, ℕ, ◌&&◌, ◌+◌, ◌∙◌, ◌∷◌, ◌≡◌, ◌≤◌, ◌||◌}
 use Rattle.std.proofs.lemmas.List.FromFn.{length-map-range_with_len}
 use Rattle.std.specs.List.{list_any}
 use Rattle.partition_map.specs.declared.rows.Asked.{Asked}
@@ -120,7 +120,7 @@ asked_of scene p parts o b h =
     subst (λ q. In q (all_parts scene)) (ap (λ (z : Asked). z.part) r.2) (o r.0 r.1)
 
 -- the participant for which the gate asks
-gate_open : (snap : Snap) (lc : ℕ) (parts : List Asked) (wrote : List DepParts) (p : PartId) → gate_turn snap lc parts wrote ≡ Ask p → (a : Asked) × In a parts × (a.part ≡ p) × (a.asked ≡ false)
+pub gate_open : (snap : Snap) (lc : ℕ) (parts : List Asked) (wrote : List DepParts) (p : PartId) → gate_turn snap lc parts wrote ≡ Ask p → (a : Asked) × In a parts × (a.part ≡ p) × (a.asked ≡ false)
 unfolding gate_turn
 gate_open snap lc parts wrote p e = by_ask (find (may_ask wrote) parts) refl e
   where

@@ -1,8 +1,8 @@
 -- Marks of keys: they only rise, and who has read a key at home or waits for it has left its mark there.
-use Rattle.std.proofs.Common.{List, None, Option, Some, [], ap, arith, eqb-true, length, length-set, max, refl, slice_get, slice_index, slice_set, subst, suc, true, zero, ℕ, ◌+◌, ◌<◌, ◌∙◌, ◌∷◌, ◌≡◌, ◌≤◌, ◌⊎◌}
+use Rattle.std.proofs.Common.{List, None, Option, Some, [], ap, arith, length, length-set, max, refl, slice_get, slice_index, slice_set, subst, suc, true, zero, ℕ, ◌+◌, ◌<◌, ◌∙◌, ◌∷◌, ◌≡◌, ◌≤◌, ◌⊎◌}
 use Rattle.str_base.specs.declared.names.KeyId.{KeyId}
 use Rattle.str_base.specs.declared.names.Value.{Value}
-use Rattle.str_base.specs.Versions.{mark_of, raised, same_key}
+use Rattle.str_base.specs.Versions.{mark_of, raised}
 use Rattle.str_scene.specs.declared.names.Op.{Op}
 use Rattle.str_scene.specs.declared.names.Op.TheVariants.{Abort as Stop, Add, Del, Get, Need, Put, Puts}
 use Rattle.str_scene.specs.declared.names.TxPlace.{TxPlace}
@@ -17,7 +17,6 @@ use Rattle.str_model.specs.Views.{Active, Closing, Own, View}
 use Rattle.str_model.proofs.Principle.SingleChanges.{JustMarked, Needs}
 use Rattle.str_model.proofs.Changes.SnapshotsGain.{if_elim}
 use Rattle.str_model.specs.Owned.{WaitsFor}
-use Rattle.str_base.proofs.SameNames.{same_key-is}
 use Rattle.str_base.specs.Members.{In}
 
 -- ---- lists of marks

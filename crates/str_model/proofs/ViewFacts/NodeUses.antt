@@ -1,9 +1,9 @@
 -- What the facts of a view give where a step reads, certifies, places and takes out.
-use Rattle.std.proofs.Common.{Bool, List, None, Some, add-sub_cancel, ap, arith, eq-eqb, eqb-true, false, inr, length, ltb-true, refl, slice_get, subst, sym, true, ℕ, ◌&&◌, ◌+◌, ◌-◌, ◌<◌, ◌==◌, ◌∙◌, ◌≡◌, ◌≤◌}
+use Rattle.std.proofs.Common.{List, None, Some, add-sub_cancel, ap, arith, eq-eqb, eqb-true, false, inr, length, ltb-true, refl, slice_get, subst, sym, true, ℕ, ◌&&◌, ◌+◌, ◌-◌, ◌<◌, ◌==◌, ◌∙◌, ◌≡◌, ◌≤◌}
 use Rattle.std.proofs.lemmas.Option.{slice_get_within}
 use Rattle.std.specs.List.{list_any}
 use Rattle.dependency_set.specs.declared.names.Dep.{Dep}
-use Rattle.str_base.specs.declared.names.Kind.TheVariants.{Final, Local as LocalKind, Pre}
+use Rattle.str_base.specs.declared.names.Kind.TheVariants.{Local as LocalKind}
 use Rattle.str_base.specs.declared.names.PartId.{PartId}
 use Rattle.str_base.specs.declared.names.TxId.{TxId}
 use Rattle.str_base.specs.declared.names.Version.{Version}
@@ -34,6 +34,7 @@ use Rattle.str_base.proofs.SameNames.{same_part-is}
 use Rattle.str_base.proofs.Tests.{and_true_left, and_true_right}
 use Rattle.str_base.proofs.Lists.{found_passes}
 use Rattle.str_base.specs.Members.{In}
+use Rattle.str_model.proofs.KindTests.{local_kind}
 
 -- ---- whom a read and a certification are told of
 
@@ -151,14 +152,6 @@ module _ (here : Here) (v : View) (h : MomentFacts here v) where
       let t = found_passes (λ (w : Write). list_any (λ u. same_key u.key w.key && (of_tx tx u && is_local u.kind)) v.versions) ws w e in
       let r = any_has (λ (u : Version). same_key u.key w.key && (of_tx tx u && is_local u.kind)) v.versions t in
       let both = and_true_right (same_key r.0.key w.key) (of_tx tx r.0 && is_local r.0.kind) r.2 in
-      let o = h.base.locals r.0 r.1 (local_is r.0 (and_true_right (of_tx tx r.0) (is_local r.0.kind) both)) in
+      let o = h.base.locals r.0 r.1 (local_kind r.0.kind (and_true_right (of_tx tx r.0) (is_local r.0.kind) both)) in
       let s : r.0.tx.seq ≡ q = eqb-true r.0.tx.seq q (and_true_right (same_node r.0.tx.node here.node) (r.0.tx.seq == q) (and_true_left (of_tx tx r.0) (is_local r.0.kind) both)) in
       record { place = o.place; owner = o.owner; number = sym s ∙ o.seq; owns = o.owns; open_ = o.open_; lc = r.0.ts.0; is_lc = o.lc }
-    where
-      local_is : (u : Version) → is_local u.kind ≡ true → u.kind ≡ LocalKind
-      local_is u f = by_kind u.kind f
-        where
-          by_kind : (k : _) → is_local k ≡ true → k ≡ LocalKind
-          by_kind LocalKind f = refl
-          by_kind Pre f = absurd cc
-          by_kind Final f = absurd cc

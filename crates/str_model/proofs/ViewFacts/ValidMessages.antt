@@ -1,5 +1,5 @@
 -- What a message that is not strange names: each exists, and its times are below the limit.
-use Rattle.std.proofs.Common.{Bool, List, [], inl, inr, ltb-true, map, subst, true, ◌&&◌, ◌<◌, ◌∷◌, ◌≡◌}
+use Rattle.std.proofs.Common.{List, [], ltb-true, map, subst, true, ◌&&◌, ◌<◌, ◌∷◌, ◌≡◌}
 use Rattle.std.specs.List.{list_all}
 use Rattle.str_base.specs.declared.names.KeyId.{KeyId}
 use Rattle.str_base.specs.declared.names.NodeId.{NodeId}

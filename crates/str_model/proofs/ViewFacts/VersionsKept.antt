@@ -1,5 +1,5 @@
 -- The versions of a node at each change: where they stand, and that those of an own transaction are of its writes.
-use Rattle.std.proofs.Common.{Bool, List, Some, [], ap, eq-eqb, false, filter, inl, inr, length, lt-ltb, map, refl, slice_get, slice_set, subst, sym, true, ℕ, ◌<◌, ◌∙◌, ◌∷◌, ◌≡◌, ◌≢◌, ◌||◌}
+use Rattle.std.proofs.Common.{List, Some, [], ap, eq-eqb, false, filter, inl, inr, length, lt-ltb, map, refl, slice_get, slice_set, subst, sym, true, ℕ, ◌<◌, ◌∙◌, ◌∷◌, ◌≡◌, ◌≢◌}
 use Rattle.std.specs.List.{list_any}
 use Rattle.str_base.specs.declared.names.KeyId.{KeyId}
 use Rattle.str_base.specs.declared.names.NodeId.{NodeId}

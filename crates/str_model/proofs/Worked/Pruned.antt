@@ -2,10 +2,9 @@
 use Rattle.std.proofs.Common.{List, [], length, map, refl, ℕ, ◌∷◌, ◌≡◌, false}
 use Rattle.std.specs.Prelude.{codes, pos}
 use Rattle.str_scene.specs.Scenes.{Scene}
-use Rattle.str_model.specs.Drains.{cluster_events}
 use Rattle.str_model.specs.PrunedRuns.{PrunedWorld, pruned_happens, pruned_run}
 use Rattle.str_model.specs.Views.{View}
-use Rattle.str_model.proofs.Worked.Words.{add, c, d, everything, get, key, node, put, session, words}
+use Rattle.str_model.proofs.Worked.Words.{c, d, everything, get, key, node, put, session, words}
 
 kept_at : PrunedWorld → List ℕ
 kept_at p = map (λ (v : View). length v.versions) p.world.nodes

@@ -15,8 +15,8 @@ returns-then-not-all_hex-clause-none c = λ none.
     let other : list_all is_hex c.in_ok-digits.digits.now ≡ false = grind (arith, common_steps) in
     other_none c.args.text.now c.in_ok-digits.digits.now c.in_ok-digits.ensures.rest other
 
-pub returns-then-digits-gt128-clause-bytes : goal.returns-then-digits-gt128-clause-bytes
-returns-then-digits-gt128-clause-bytes c =
+pub returns-then-digits-clause-bytes : goal.returns-then-digits-clause-bytes
+returns-then-digits-clause-bytes c =
     let all : list_all is_hex c.in_ok-digits.digits.now ≡ true = grind (arith, common_steps) in
     bytes_too_many c.args.text.now c.in_ok-digits.digits.now c.in_ok-digits.ensures.rest all (omega arith) (omega arith)
 

@@ -1,4 +1,5 @@
-use Rattle.scene_text.proofs.Spelling.NumbersRead.{minus_none, minus_number, minus_zero, not_is_false, plain_number, true_not}
+use Rattle.scene_text.proofs.Spelling.NumbersRead.{minus_none, minus_number, minus_zero, plain_number, true_not}
+use Rattle.std.proofs.lemmas.Bool.{not-false}
 use Rattle.scene_text.proofs.numbers.is_signed_decimal.Goals as goal
 
 pub returns-then-is_decimal-clause-yes : goal.returns-then-is_decimal-clause-yes
@@ -7,7 +8,7 @@ returns-then-is_decimal-clause-yes c = λ t.
 
 pub returns-then-is_decimal-clause-no : goal.returns-then-is_decimal-clause-no
 returns-then-is_decimal-clause-no c = λ e.
-    minus_zero c.args.text.now c.in-Some.digits.now (c.is_same.ensures.0 (not_is_false c.is_same.result e)) c.in-Some.ensures.rest
+    minus_zero c.args.text.now c.in-Some.digits.now (c.is_same.ensures.0 (not-false c.is_same.result e)) c.in-Some.ensures.rest
 
 pub returns-else-is_decimal-clause-no : goal.returns-else-is_decimal-clause-no
 returns-else-is_decimal-clause-no c = λ e.

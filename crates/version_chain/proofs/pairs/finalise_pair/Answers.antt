@@ -76,7 +76,7 @@ slots-smaller-then-is_of c =
     let h : is_in s ts ≡ true = subst (λ (o : Option Slot). IsPlace (number_of o) ts) c.in-Some.is c.slots.invariant.place in
     let q : number_of c.next_in_tx-slot.result ≡ next_of s ts = c.next_in_tx-slot.ensures v e ∙ ap (λ (t : TxId). next_of s (tx_list a t)) (tx_is a l c.args.tx s v h e) in
     let w = rest_is ts us s (number_of c.slots.slot) (number_of c.next_in_tx-slot.result) (ap (λ (o : Option Slot). number_of o) c.in-Some.is) h q
-        (ap (λ (ws : List ℕ). from_slot (next_of s ts) ws) (c.settle.ensures.tx_list c.args.tx) ∙ from_next s ts (l.once_in_tx c.args.tx)) in
+    (ap (λ (ws : List ℕ). from_slot (next_of s ts) ws) (c.settle.ensures.tx_list c.args.tx) ∙ from_next s ts (l.once_in_tx c.args.tx)) in
     one_less (from_slot (number_of c.slots.slot) ts) (from_slot (number_of c.next_in_tx-slot.result) us) s w
 
 pub slots-preserved-then-is_of : goal.slots-preserved-then-is_of
@@ -94,7 +94,7 @@ slots-preserved-then-is_of c =
     let h : is_in s ts ≡ true = subst (λ (o : Option Slot). IsPlace (number_of o) ts) c.in-Some.is i.place in
     let q : number_of c.next_in_tx-slot.result ≡ next_of s ts = c.next_in_tx-slot.ensures v e ∙ ap (λ (t : TxId). next_of s (tx_list a t)) (tx_is a l c.args.tx s v h e) in
     let w = rest_is ts us s (number_of c.slots.slot) (number_of c.next_in_tx-slot.result) (ap (λ (o : Option Slot). number_of o) c.in-Some.is) h q
-        (ap (λ (ws : List ℕ). from_slot (next_of s ts) ws) (c.settle.ensures.tx_list c.args.tx) ∙ from_next s ts (l.once_in_tx c.args.tx)) in
+    (ap (λ (ws : List ℕ). from_slot (next_of s ts) ws) (c.settle.ensures.tx_list c.args.tx) ∙ from_next s ts (l.once_in_tx c.args.tx)) in
     let test = of_pair c.args.tx c.args.part in
     let u = c.settle.ensures in
     record {

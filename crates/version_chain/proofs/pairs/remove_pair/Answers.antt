@@ -77,7 +77,7 @@ slots-smaller-then-is_of c =
     let q : number_of c.next_in_tx-slot.result ≡ next_of s ts = c.next_in_tx-slot.ensures v e ∙ ap (λ (t : TxId). next_of s (tx_list a t)) (tx_is a l c.args.tx s v h e) in
     let r : us ≡ taken s ts = one_list c.args.tx c.unlink.result (taken s ts) ts us (tx_is a l c.args.tx s c.unlink.result h (sym c.unlink.ensures.value)) (c.unlink.ensures.tx_list c.args.tx) in
     let w = rest_is ts us s (number_of c.slots.slot) (number_of c.next_in_tx-slot.result) (ap (λ (o : Option Slot). number_of o) c.in-Some.is) h q
-        (ap (λ (ws : List ℕ). from_slot (next_of s ts) ws) r ∙ from_taken s ts (l.once_in_tx c.args.tx)) in
+    (ap (λ (ws : List ℕ). from_slot (next_of s ts) ws) r ∙ from_taken s ts (l.once_in_tx c.args.tx)) in
     one_less (from_slot (number_of c.slots.slot) ts) (from_slot (number_of c.next_in_tx-slot.result) us) s w
 
 pub slots-preserved-then-is_of : goal.slots-preserved-then-is_of
@@ -96,7 +96,7 @@ slots-preserved-then-is_of c =
     let q : number_of c.next_in_tx-slot.result ≡ next_of s ts = c.next_in_tx-slot.ensures v e ∙ ap (λ (t : TxId). next_of s (tx_list a t)) (tx_is a l c.args.tx s v h e) in
     let r : us ≡ taken s ts = one_list c.args.tx c.unlink.result (taken s ts) ts us (tx_is a l c.args.tx s c.unlink.result h f) (c.unlink.ensures.tx_list c.args.tx) in
     let w = rest_is ts us s (number_of c.slots.slot) (number_of c.next_in_tx-slot.result) (ap (λ (o : Option Slot). number_of o) c.in-Some.is) h q
-        (ap (λ (ws : List ℕ). from_slot (next_of s ts) ws) r ∙ from_taken s ts (l.once_in_tx c.args.tx)) in
+    (ap (λ (ws : List ℕ). from_slot (next_of s ts) ws) r ∙ from_taken s ts (l.once_in_tx c.args.tx)) in
     let test = of_pair c.args.tx c.args.part in
     let same : v ≡ c.unlink.result = cc (sym e ∙ f) in
     let fits : test c.unlink.result ≡ true = sym (ap test same) ∙ sym c.is_of.ensures ∙ c.if-is_of.true in
