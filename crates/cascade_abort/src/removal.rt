@@ -1,17 +1,18 @@
 //! The removal of what an aborted transaction wrote.
 ghost use Rattle.cache_partition.specs.CacheLists.{IsCache, StaysHere as CacheStays};
 ghost use Rattle.cascade_abort.specs.Removal.{AllWritten};
-ghost use Rattle.partition_map.specs.Maps.{HasKey};
+ghost use Rattle.partition_map.specs.Maps.{HasKey, is_written, part_of};
 ghost use Rattle.replica_store.specs.StoreLists.{IsStore, StaysHere as StoreStays};
 ghost use Rattle.std.specs.Prelude.{◌≡◌, ◌≤◌, ◌∷◌, [], ℕ, Some, slice_get};
+ghost use Rattle.str_base.specs.declared.names.PartId.{PartId as Part};
 ghost use Rattle.str_base.specs.declared.names.Write.{Write as AWrite};
 ghost use Rattle.str_base.specs.Versions.{of_pair, of_tx, without};
-ghost use Rattle.version_chain.specs.ChainLists.{Apart, Each, merged};
+ghost use Rattle.version_chain.specs.ChainLists.{Apart, Each, is_among, merged};
 
 use cache_partition::CachePartition;
 use partition_map::PartitionMap;
 use replica_store::ReplicaStore;
-use str_base::{PartId, TxId, Writes};
+use str_base::{PartId, ShortList, TxId, Writes};
 
 /// Takes all versions of a transaction out of a node's store and cache. Each lies in the partition of one of its writes.
 pub fn drop_all(
@@ -33,11 +34,37 @@ pub fn drop_all(
     ensures store_spare { store.old.spare ≤ store.new.spare }
     ensures cache_spare { cache.old.spare ≤ cache.new.spare }
 {
+    for part in written(writes, map).as_slice() {
+        drop_stored(tx, *part, store);
+        drop_cached(tx, *part, cache);
+    }
+}
+
+/// The partitions of the written keys, each once.
+fn written(writes: &Writes, map: &PartitionMap) -> ShortList<PartId, 16>
+    requires { (i : ℕ) (w : AWrite) → slice_get writes.now i ≡ Some w → HasKey map.now w.key }
+    ensures { (p : Part) → is_among result p ≡ is_written (part_of map.now) writes.now p }
+{
+    let mut parts: ShortList<PartId, 16> = ShortList::new();
     for write in writes.as_slice() {
         let part = map.part_of(write.key);
-        drop_stored(tx, part, store);
-        drop_cached(tx, part, cache);
+        if !is_among(&parts, part) {
+            parts.push(part);
+        }
     }
+    parts
+}
+
+/// Whether a partition is one of these.
+fn is_among(parts: &ShortList<PartId, 16>, part: PartId) -> bool
+    ensures { result ≡ is_among parts.now part }
+{
+    for other in parts.as_slice() {
+        if *other == part {
+            return true;
+        }
+    }
+    false
 }
 
 /// Takes the versions of a transaction in a partition out of a store.
@@ -69,7 +96,7 @@ mod tests {
     use super::*;
     use partition_map::PartRow;
     use std::test::Fail;
-    use str_base::{KeyId, Kind, NodeId, ShortList, Ts, Value, Version, Write};
+    use str_base::{KeyId, Kind, NodeId, Ts, Value, Version, Write};
 
     fn row(node: u8) -> PartRow
         ensures { result ≡ record { 0 = node } ∷ [] }

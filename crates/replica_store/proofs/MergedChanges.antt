@@ -1,5 +1,6 @@
 -- What is inserted into, taken out of and committed in a cache and a store together is so in the one which holds it.
 use Rattle.std.proofs.Common.{Bool, List, [], ap, eqb-true, false, filter, if◌then◌else◌, map, not, refl, true, ℕ, ◌&&◌, ◌∙◌, ◌∷◌, ◌≡◌}
+use Rattle.str_base.proofs.Order.{apart_back}
 use Rattle.str_base.specs.declared.names.KeyId.{KeyId}
 use Rattle.str_base.specs.declared.names.PartId.{PartId}
 use Rattle.str_base.specs.declared.names.TxId.{TxId}
@@ -10,7 +11,6 @@ use Rattle.str_scene.specs.Scenes.{Here, hosts}
 use Rattle.version_chain.specs.ChainLists.{Apart, Each, IsOrdered, merged}
 use Rattle.version_chain.proofs.Each.{each_always, each_both, each_finalise, each_insert, each_kept, each_map, each_so}
 use Rattle.version_chain.proofs.Keeping.{AllApart, apart_filter, apart_others, apart_settled, ordered_apart}
-use Rattle.version_chain.proofs.Ordered.{apart_back}
 use Rattle.replica_store.proofs.Commuting.{insert_among, insert_early}
 use Rattle.replica_store.proofs.Merging.{ListsApart, merged_seen, merged_unseen}
 

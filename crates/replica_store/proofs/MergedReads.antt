@@ -1,5 +1,6 @@
 -- A look-up of a key in a cache and a store together is that of the one which holds the key.
 use Rattle.std.proofs.Common.{Bool, List, None, [], ap, eqb-true, false, filter, nat_le, refl, sym, true, ℕ, ◌&&◌, ◌∙◌, ◌∷◌, ◌≡◌}
+use Rattle.str_base.proofs.Tests.{and_true_left}
 use Rattle.std.specs.List.{last_or}
 use Rattle.str_base.specs.declared.names.KeyId.{KeyId}
 use Rattle.str_base.specs.declared.names.Version.{Version}
@@ -13,11 +14,6 @@ use Rattle.replica_store.proofs.Merging.{OfKeys, lists_apart, merged_seen, merge
 -- what passes the test is of the key
 abbrev pub IsOfKey : KeyId → (Version → Bool) → Type 0
 IsOfKey k test = (v : Version) → test v ≡ true → same_key v.key k ≡ true
-
--- what passes two tests passes the first
-pub first_of_two : (p q : Bool) → (p && q) ≡ true → p ≡ true
-first_of_two true q e = refl
-first_of_two false q e = absurd cc
 
 -- a version of another kind of key fails the test
 fails_of_key : (hosted : KeyId → Bool) (b : Bool) (k : KeyId) (test : Version → Bool) (v : Version) → IsOfKey k test → hosted v.key ≡ b → (hosted k ≡ b → ⊥) → test v ≡ false
@@ -58,16 +54,16 @@ module _ (hosted : KeyId → Bool) (k : KeyId) (cache store : List Version) (c :
 
   -- its visible version
   pub visible_in_store : (r : ℕ) → visible (merged cache store) k r ≡ visible store k r
-  visible_in_store r = ap (λ vs. last_or None vs) (seen_in_store hosted k (λ v. same_key v.key k && nat_le v.ts.0 r) cache store c h (λ v e. first_of_two _ _ e))
+  visible_in_store r = ap (λ vs. last_or None vs) (seen_in_store hosted k (λ v. same_key v.key k && nat_le v.ts.0 r) cache store c h (λ v e. and_true_left _ _ e))
 
   -- its last Pre version
   pub pre_in_store : (r : ℕ) → last_pre (merged cache store) k r ≡ last_pre store k r
-  pre_in_store r = ap (λ vs. last_or None vs) (seen_in_store hosted k (λ v. same_key v.key k && (nat_le v.ts.0 r && is_pre v.kind)) cache store c h (λ v e. first_of_two _ _ e))
+  pre_in_store r = ap (λ vs. last_or None vs) (seen_in_store hosted k (λ v. same_key v.key k && (nat_le v.ts.0 r && is_pre v.kind)) cache store c h (λ v e. and_true_left _ _ e))
 
   -- its last Pre or Local version
   pub undecided_in_store : (r : ℕ) → last_undecided (merged cache store) k r ≡ last_undecided store k r
   undecided_in_store r =
-      ap (λ vs. last_or None vs) (seen_in_store hosted k (λ v. same_key v.key k && (nat_le v.ts.0 r && is_undecided v.kind)) cache store c h (λ v e. first_of_two _ _ e))
+      ap (λ vs. last_or None vs) (seen_in_store hosted k (λ v. same_key v.key k && (nat_le v.ts.0 r && is_undecided v.kind)) cache store c h (λ v e. and_true_left _ _ e))
 
   -- the last of those that a flag chooses
   pub held_in_store : (b : Bool) (r : ℕ) → last_held b (merged cache store) k r ≡ last_held b store k r
@@ -88,17 +84,17 @@ module _ (hosted : KeyId → Bool) (k : KeyId) (cache store : List Version) (o :
 
   -- its visible version
   pub visible_in_cache : (r : ℕ) → visible (merged cache store) k r ≡ visible cache k r
-  visible_in_cache r = ap (λ vs. last_or None vs) (seen_in_cache hosted k (λ v. same_key v.key k && nat_le v.ts.0 r) cache store o p c s h (λ v e. first_of_two _ _ e))
+  visible_in_cache r = ap (λ vs. last_or None vs) (seen_in_cache hosted k (λ v. same_key v.key k && nat_le v.ts.0 r) cache store o p c s h (λ v e. and_true_left _ _ e))
 
   -- its last Pre version
   pub pre_in_cache : (r : ℕ) → last_pre (merged cache store) k r ≡ last_pre cache k r
   pre_in_cache r =
-      ap (λ vs. last_or None vs) (seen_in_cache hosted k (λ v. same_key v.key k && (nat_le v.ts.0 r && is_pre v.kind)) cache store o p c s h (λ v e. first_of_two _ _ e))
+      ap (λ vs. last_or None vs) (seen_in_cache hosted k (λ v. same_key v.key k && (nat_le v.ts.0 r && is_pre v.kind)) cache store o p c s h (λ v e. and_true_left _ _ e))
 
   -- its last Pre or Local version
   pub undecided_in_cache : (r : ℕ) → last_undecided (merged cache store) k r ≡ last_undecided cache k r
   undecided_in_cache r =
-      ap (λ vs. last_or None vs) (seen_in_cache hosted k (λ v. same_key v.key k && (nat_le v.ts.0 r && is_undecided v.kind)) cache store o p c s h (λ v e. first_of_two _ _ e))
+      ap (λ vs. last_or None vs) (seen_in_cache hosted k (λ v. same_key v.key k && (nat_le v.ts.0 r && is_undecided v.kind)) cache store o p c s h (λ v e. and_true_left _ _ e))
 
   -- the last of those that a flag chooses
   pub held_in_cache : (b : Bool) (r : ℕ) → last_held b (merged cache store) k r ≡ last_held b cache k r

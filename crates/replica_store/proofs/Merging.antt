@@ -1,13 +1,12 @@
 -- A cache and a store in one list: what a test lets through, and the order.
 use Rattle.std.proofs.Common.{Bool, List, [], ap, false, filter, if◌then◌else◌, refl, sym, true, ℕ, ◌∙◌, ◌∷◌, ◌≡◌}
+use Rattle.str_base.proofs.Order.{apart_back, before_trans, filter-insert_other, insert_after, insert_before}
 use Rattle.str_base.specs.declared.names.KeyId.{KeyId}
 use Rattle.str_base.specs.declared.names.Version.{Version}
 use Rattle.str_base.specs.Versions.{insert_version, is_before}
 use Rattle.version_chain.specs.ChainLists.{Apart, Each, IsOrdered, Precedes, merged}
 use Rattle.version_chain.proofs.Each.{each_both, each_insert, each_kept, each_so}
 use Rattle.version_chain.proofs.Keeping.{AllApart, ordered_apart, ordered_insert, ordered_insert_all}
-use Rattle.version_chain.proofs.Ordered.{apart_back, before_trans}
-use Rattle.replica_store.proofs.Commuting.{insert_after, insert_before}
 
 -- any two of two lists are apart
 abbrev pub ListsApart : List Version → List Version → Type 0
@@ -39,15 +38,6 @@ merged_ordered cache store o p a = ordered_insert_all cache store (ordered_apart
 
 -- ---- tests
 
--- what fails a test is not seen
-pub insert_unseen : (test : Version → Bool) (v : Version) (vs : List Version) → test v ≡ false → filter test (insert_version v vs) ≡ filter test vs
-insert_unseen test v [] e = rw e refl
-insert_unseen test v (w ∷ ws) e = by_before (is_before v w) (insert_unseen test v ws e)
-  where
-    by_before : (b : Bool) → filter test (insert_version v ws) ≡ filter test ws → filter test (if b then v ∷ w ∷ ws else w ∷ insert_version v ws) ≡ filter test (w ∷ ws)
-    by_before true rec = rw e refl
-    by_before false rec = rw rec refl
-
 -- a version that stands before all is put first
 insert_first : (v : Version) (vs : List Version) → Each (λ w. is_before v w ≡ true) vs → insert_version v vs ≡ v ∷ vs
 insert_first v [] e = refl
@@ -78,7 +68,7 @@ insert_seen test v (w ∷ ws) o e = by_before (is_before v w) refl (insert_seen 
 -- a cache none of which passes a test is not seen
 pub merged_unseen : (test : Version → Bool) (cache store : List Version) → Each (λ v. test v ≡ false) cache → filter test (merged cache store) ≡ filter test store
 merged_unseen test [] store e = refl
-merged_unseen test (v ∷ cache) store e = merged_unseen test cache (insert_version v store) e.1 ∙ insert_unseen test v store e.0
+merged_unseen test (v ∷ cache) store e = merged_unseen test cache (insert_version v store) e.1 ∙ filter-insert_other test v store e.0
 
 -- what passes a test of both is what passes it of each
 pub merged_seen : (test : Version → Bool) (cache store : List Version) → AllApart cache → IsOrdered store → ListsApart cache store
@@ -92,4 +82,4 @@ merged_seen test (v ∷ cache) store c o a =
     by_test : (b : Bool) → test v ≡ b → filter test (merged cache (insert_version v store)) ≡ merged (filter test cache) (filter test (insert_version v store))
         → filter test (merged cache (insert_version v store)) ≡ merged (if b then v ∷ filter test cache else filter test cache) (filter test store)
     by_test true e rec = rec ∙ ap (λ ws. merged (filter test cache) ws) (insert_seen test v store o e)
-    by_test false e rec = rec ∙ ap (λ ws. merged (filter test cache) ws) (insert_unseen test v store e)
+    by_test false e rec = rec ∙ ap (λ ws. merged (filter test cache) ws) (filter-insert_other test v store e)

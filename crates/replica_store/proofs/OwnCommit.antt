@@ -1,5 +1,6 @@
 -- The commit of an own transaction in the store is its commit in one partition after the other.
-use Rattle.std.proofs.Common.{Bool, List, [], ap, eq-eqb, false, filter, if◌then◌else◌, inl, inr, map, not, refl, subst, sym, true, ℕ, ◌&&◌, ◌∙◌, ◌∷◌, ◌≡◌, ◌||◌, ◌⊎◌}
+use Rattle.std.proofs.Common.{Bool, List, [], ap, false, filter, inl, inr, map, not, refl, subst, sym, true, ℕ, ◌&&◌, ◌∙◌, ◌∷◌, ◌≡◌, ◌||◌, ◌⊎◌}
+use Rattle.str_base.proofs.Order.{before_not, not_before_self}
 use Rattle.std.specs.List.{list_any}
 use Rattle.str_base.specs.declared.names.PartId.{PartId}
 use Rattle.str_base.specs.declared.names.TxId.{TxId}
@@ -7,13 +8,10 @@ use Rattle.str_base.specs.declared.names.Version.{Version}
 use Rattle.str_base.specs.Versions.{finalise, insert_all, is_before, of_pair, of_tx, same_part, settled, without}
 use Rattle.str_model.specs.Acts.{decided_versions, is_hosted_of}
 use Rattle.str_scene.specs.Scenes.{Here, hosts}
-use Rattle.str_model.proofs.Changes.PairWords.{keep_without, pair-is}
-use Rattle.version_chain.specs.ChainLists.{Apart, Each, IsOrdered, Precedes}
+use Rattle.str_model.proofs.Changes.PairWords.{keep_without}
+use Rattle.version_chain.specs.ChainLists.{Each, IsOrdered, Precedes}
 use Rattle.version_chain.proofs.Keeping.{ordered_finalise}
-use Rattle.version_chain.proofs.Ordered.{before_one, not_before_self}
-use Rattle.std.proofs.lemmas.Bool.{false_from_ne_true}
-use Rattle.str_base.proofs.SameNames.{same_part-is}
-use Rattle.str_base.proofs.Tests.{and_true_left, and_true_right}
+use Rattle.std.proofs.lemmas.Bool.{not-true}
 use Rattle.str_base.proofs.Members.{filter_in, in_all_new, in_all_old, in_filter, in_insert_all, in_map, map_in}
 use Rattle.str_base.specs.Members.{In}
 
@@ -40,7 +38,7 @@ one_order (x ∷ xs) (y ∷ ys) o p f g =
     by_heads (inr h) (inl e) = e
     by_heads (inr h) (inr k) =
         let a : is_before y x ≡ true = before-all y ys x p.0 h in
-        let b : is_before x y ≡ true = before-all x xs y o.0 k in absurd (cc (before_one x y b, a))
+        let b : is_before x y ≡ true = before-all x xs y o.0 k in absurd (cc (before_not x y b, a))
 
     heads : x ≡ y
     heads = by_heads (f x (inl refl)) (g y (inl refl))
@@ -60,15 +58,11 @@ pub data Settled (test : Version → Bool) (fc : ℕ) (vs : List Version) (u : V
   s_new : (q : Version) → In q vs → test q ≡ true → settled fc q ≡ u → Settled test fc vs u
   s_old : In u vs → test u ≡ false → Settled test fc vs u
 
-not-is : (b : Bool) → not b ≡ true → b ≡ false
-not-is true e = absurd cc
-not-is false e = refl
-
 pub finalise-in : (test : Version → Bool) (fc : ℕ) (vs : List Version) (u : Version) → In u (finalise test fc vs) → Settled test fc vs u
 finalise-in test fc vs u h =
     elim (in_insert_all (map (settled fc) (filter test vs)) (without test vs) u h) [
       | inl j ↦ (let r = in_map (settled fc) (filter test vs) u j in let f = in_filter test vs r.0 r.1 in s_new r.0 f.0 f.1 r.2)
-      | inr j ↦ (let f = in_filter (λ v. not (test v)) vs u j in s_old f.0 (not-is (test u) f.1))
+      | inr j ↦ (let f = in_filter (λ v. not (test v)) vs u j in s_old f.0 (not-true (test u) f.1))
     ]
 
 pub in-finalise : (test : Version → Bool) (fc : ℕ) (vs : List Version) (u : Version) → Settled test fc vs u → In u (finalise test fc vs)

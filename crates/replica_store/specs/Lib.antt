@@ -1,1 +1,2 @@
 pub mod StoreLists
+pub mod DoneIndex

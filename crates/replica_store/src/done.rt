@@ -3,24 +3,34 @@ ghost use Rattle.std.specs.List.{list_any};
 ghost use Rattle.std.specs.Prelude.{◌≡◌, ◌<◌, ◌≤◌, ◌+◌, ◌++◌, ◌∷◌, [], OnErr, OnOk};
 ghost use Rattle.str_model.specs.Proposals.{is_pair};
 
+use indexmap::IndexSet;
 use std::alloc::{AllocError, Global};
 use std::marker::{Model, Send, Sync};
 use str_base::{PartId, TxId};
 
+/// The numbers of a pair: of its node, its transaction and its partition.
+type Numbers = (u8, u32, u8);
+
 /// Pairs of a transaction and a partition in the order in which they were added, and room for more that takes no memory.
-/// They are seen as the list of the pairs and the number `spare` of those that still have room.
+/// They are seen as the list of the pairs and the number `spare` of those that still have room. A pair is found by its hash.
 #[derive(Drop)]
 pub struct DoneList {
     items: Vec<(TxId, PartId)>,
+    index: IndexSet<Numbers>,
+    spare: usize,
 }
 
 impl Model for DoneList {
-    ghost use Rattle.std.specs.Prelude.{◌-◌, vec_len, vec_capacity};
+    ghost use Rattle.indexmap.specs.IndexSet.{spare as places_left};
+    ghost use Rattle.std.specs.Prelude.{◌+◌, ◌≤◌, vec_capacity, vec_len};
+    ghost use Rattle.replica_store.specs.DoneIndex.{Indexes};
     ghost use Rattle.replica_store.specs.StoreLists.{DonePairs};
 
     ghost Value = { DonePairs };
 
-    ghost view = { λ d. record { pairs = d.items.items; spare = vec_capacity d.items - vec_len d.items } };
+    ghost view = { λ d. record { pairs = d.items.items; spare = d.spare } };
+
+    ghost invariant = { λ d. Indexes d.index.keys d.items.items × (vec_len d.items + d.spare ≤ vec_capacity d.items) × (d.spare ≤ places_left d.index) };
 }
 
 impl DoneList {
@@ -30,6 +40,8 @@ impl DoneList {
     {
         DoneList {
             items: Vec::new(alloc),
+            index: IndexSet::new(alloc),
+            spare: 0,
         }
     }
 
@@ -40,19 +52,19 @@ impl DoneList {
         ensures kept { self.old.spare ≤ self.new.spare }
         ensures err { OnErr result (self.new ≡ self.old) }
     {
-        self.items.reserve(n)
+        if self.spare < n {
+            self.items.reserve(n)?;
+            self.index.reserve(n)?;
+            self.spare = n;
+        }
+        Ok(())
     }
 
     /// Whether a pair is in the list.
     pub fn has(&self, tx: TxId, part: PartId) -> bool
         ensures { result ≡ list_any (is_pair tx part) self.now.pairs }
     {
-        for pair in self.items.as_slice() {
-            if pair.0 == tx && pair.1 == part {
-                return true;
-            }
-        }
-        false
+        self.index.contains(&numbers(tx, part))
     }
 
     /// Appends a pair. There is room.
@@ -62,7 +74,18 @@ impl DoneList {
         ensures spare { self.old.spare ≤ self.new.spare + 1 }
     {
         self.items.push_reserved((tx, part));
+        match self.index.insert(numbers(tx, part)) {
+            Ok(_) => self.spare -= 1,
+            Err(_) => unreachable!(),
+        }
     }
+}
+
+/// The numbers of a pair.
+fn numbers(tx: TxId, part: PartId) -> Numbers
+    ensures { result ≡ (tx.node.0, tx.seq, part.0) }
+{
+    (tx.node.0, tx.seq, part.0)
 }
 
 fn sendable<T: Send + Sync>(_: &T) {}
@@ -80,13 +103,14 @@ mod tests {
     #[test]
     fn pairs_that_were_added(rt: HostRuntime) -> Result<(), Fail> {
         let mut done = DoneList::new(rt.alloc());
-        done.reserve(2)?;
+        done.reserve(3)?;
         let tx = TxId {
             node: NodeId(2),
             seq: 1,
         };
         done.add(tx, PartId(1));
         done.add(tx, PartId(3));
+        done.add(tx, PartId(1));
         let cases = [(1, true), (2, false), (3, true)];
         for (part, has) in cases {
             assert_eq!(rt; done.has(tx, PartId(part)), has);

@@ -1,14 +1,12 @@
 -- A read and a certification may be called by a node that keeps the facts of its view: what it tells them of suffices.
 use Rattle.std.proofs.Common.{Bool, List, Some, [], ap, arith, eq-eqb, eqb-true, false, find, if◌then◌else◌, inl, inr, is_some, length, not, option_map, refl, slice_get, subst, suc, sym, true, zero, ℕ, ◌&&◌, ◌+◌, ◌-◌, ◌==◌, ◌∙◌, ◌∷◌, ◌≡◌, ◌≤◌}
+use Rattle.str_model.proofs.KindTests.{local_kind}
 use Rattle.dependency_set.specs.declared.names.Dep.{Dep}
 use Rattle.dependency_set.specs.declared.snaps.OwnSnap.{OwnSnap}
 use Rattle.dependency_set.specs.Snapshots.{Snap}
 pub use Rattle.snapshot_read.specs.Shown.{told_from}
 use Rattle.snapshot_read.specs.Shown.{Agree, AreNamed, AreTold, IsNamed, IsTold, told}
-use Rattle.str_base.specs.declared.names.Kind.{Kind}
-use Rattle.str_base.specs.declared.names.Kind.TheVariants.{Final, Local as LocalKind, Pre}
 use Rattle.str_base.specs.declared.names.Version.{Version}
-use Rattle.str_base.specs.Versions.{is_local}
 use Rattle.str_model.specs.NodeFacts.{how_many, one_if}
 use Rattle.str_model.specs.Views.{Own, View}
 use Rattle.str_scene.specs.Scenes.{Here}
@@ -98,11 +96,6 @@ pub each-of : {P : Version → Type 0} (vs : List Version) → ((u : Version) �
 each-of [] h = tt
 each-of (v ∷ vs) h = (h v (inl refl), each-of vs (λ u k. h u (inr k)))
 
-local-is : (k : Kind) → is_local k ≡ true → k ≡ LocalKind
-local-is LocalKind e = refl
-local-is Pre e = absurd cc
-local-is Final e = absurd cc
-
 -- what is asked of the transactions that a read is told of
 pub record MayRead (own : List OwnSnap) (snap : Snap) (store cache : List Version) : Type 0 where
   pub few : length own ≤ 15
@@ -119,8 +112,8 @@ may_read here v x store cache r e =
   where
     one : (u : Version) → In u v.versions → IsTold (told_from 0 v.own) x.snap.rs u
     one u m = record {
-      origin = λ k. certain-told v u.tx.seq (r.origins u m (local-is u.kind k));
+      origin = λ k. certain-told v u.tx.seq (r.origins u m (local_kind u.kind k));
       others = λ k le of f. (let t = told-there 0 u.tx.seq v.own of f in
           let at : slice_get v.own (u.tx.seq - 1) ≡ Some t.own = ap (λ n. slice_get v.own n) (omega (arith, t.number)) ∙ t.at in
-          named-all v of.deps (λ dep j. r.others u m (local-is u.kind k) le t.own at dep (subst (λ (s : Snap). In dep s.deps) (sym t.snap) j)));
+          named-all v of.deps (λ dep j. r.others u m (local_kind u.kind k) le t.own at dep (subst (λ (s : Snap). In dep s.deps) (sym t.snap) j)));
     }

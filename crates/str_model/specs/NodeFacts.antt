@@ -61,7 +61,7 @@ pub record IsMasters (here : Here) (a : Arrived) : Type 0 where
 abbrev pub AreDistinct : List Write → Type 0
 AreDistinct ws = Strange.distinct_keys (map (λ (w : Write). w.key) ws) ≡ true
 
--- a Local version's transaction is an own one, with the version's timestamp for its local commit timestamp
+-- a Local version's transaction is an own undecided one, with the version's timestamp for its local commit timestamp
 pub record LocalOwner (here : Here) (v : View) (u : Version) : Type 0 where
   pub place : ℕ
   pub owner : Own
@@ -119,7 +119,7 @@ WritesKey _ k = ⊥
 abbrev pub WrittenIn : List Op → KeyId → Type 0
 WrittenIn ops k = (j : ℕ) × (op : Op) × (slice_get ops j ≡ Some op) × WritesKey op k
 
--- the operations before the next one have their keys in the buffer; where it asks to commit or was certified there is no next one;
+-- the operations before the next one have their keys in the buffer; where it waits for certification or was certified there is no next one;
 -- and each key of the buffer is one of the script, and stands once
 pub record ScriptGood (here : Here) (x : Own) : Type 0 where
   pub covers : (j : ℕ) (op : Op) (k : KeyId) → j < x.next → slice_get (script_at here.scene x.place) j ≡ Some op → WritesKey op k → wrote_key k x.writes ≡ true
@@ -202,7 +202,7 @@ pub record ViewBelow (b : ℕ) (v : View) : Type 0 where
   pub own : (x : Own) → In x v.own → OwnBelow b x
   pub waiters : (r : Waiter) → In r v.waiters → WaiterBelow b r
 
--- every dependency of an own transaction below n is of an undecided one
+-- no dependency of an own undecided transaction below n has aborted, or committed with a final timestamp
 abbrev pub OpenTo : View → ℕ → Type 0
 OpenTo v n = (i : ℕ) (x : Own) (dep : Dep) → i < n → Owns v i x → is_decided x.phase ≡ false → In dep x.snap.deps → own_fate (slice_get v.own (dep.seq - 1)) ≡ Turns.Open
 

@@ -74,6 +74,7 @@ unfoldable pub pruned_happens : Scene → PrunedWorld → Event → PrunedWorld
 pruned_happens scene p e =
     let w = happens scene p.world e in pruned_after p w e (taken_by scene p.world e) (last_or None w.journal)
 
+-- all these events, one after the other
 abbrev pub pruned_from : Scene → PrunedWorld → List Event → PrunedWorld
 pruned_from scene p [] = p
 pruned_from scene p (e ∷ es) = pruned_from scene (pruned_happens scene p e) es

@@ -18,8 +18,10 @@ use Rattle.version_chain.specs.Walks.{with_version}
 use Rattle.version_chain.proofs.Each.{each_so}
 use Rattle.version_chain.proofs.Flats.{flat_found, flat_has, flat_ordered, picked_found, picked_has, there}
 use Rattle.version_chain.proofs.Keeping.{ordered_filter, ordered_finalise, ordered_insert}
-use Rattle.version_chain.proofs.Members.{Comes, In, each_from, each_in, fails, filter_in, finalise_keeps, finalise_settles, in_filter, in_finalise, ordered_tells}
-use Rattle.version_chain.proofs.Ordered.{apart_back, before_trans}
+use Rattle.std.proofs.lemmas.Bool.{not-true}
+use Rattle.str_base.proofs.Members.{In, filter_in, in_filter}
+use Rattle.version_chain.proofs.Telling.{Comes, each_from, each_in, finalise_keeps, finalise_settles, in_finalise, ordered_tells}
+use Rattle.str_base.proofs.Order.{apart_back, before_trans}
 use Rattle.version_chain.proofs.Spots.{deeper, here, picked_alike, put_picked, spot_in}
 
 -- ---- a list without a slot
@@ -131,7 +133,7 @@ module _ (a b : ArenaView) (s : ℕ) (w : Version) (c : IsChains a) (l : AreList
   without_same test h =
       ordered_tells (without test (flat b)) (without test (flat a)) (ordered_filter (λ v. not (test v)) (flat b) (flat_ordered b unlinked_chains)) (ordered_filter (λ v. not (test v)) (flat a) (flat_ordered a c))
       (λ v i. let p = in_filter (λ x. not (test x)) (flat b) v i in let r = flat_found b v p.0 in filter_in (λ x. not (test x)) (flat a) v (was v r.0 r.1 (r.0 == s) refl) p.1)
-      (λ v i. let p = in_filter (λ x. not (test x)) (flat a) v i in let r = flat_found a v p.0 in filter_in (λ x. not (test x)) (flat b) v (flat_has b l r.0 v (stays r.0 (other v r.0 r.1 (fails (test v) p.1) (r.0 == s) refl) ∙ r.1)) p.1)
+      (λ v i. let p = in_filter (λ x. not (test x)) (flat a) v i in let r = flat_found a v p.0 in filter_in (λ x. not (test x)) (flat b) v (flat_has b l r.0 v (stays r.0 (other v r.0 r.1 (not-true (test v) p.1) (r.0 == s) refl) ∙ r.1)) p.1)
     where
       was : (v : Version) (u : ℕ) → at b u ≡ Some v → (t : Bool) → (u == s) ≡ t → In v (flat a)
       was v u q true d = let r : u ≡ s = grind (arith, nat_tests) in let z = sym q ∙ ap (at b) r ∙ gone in absurd (cc)

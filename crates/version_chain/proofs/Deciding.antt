@@ -13,8 +13,10 @@ use Rattle.version_chain.specs.Walks.{IsSettled, precedes}
 use Rattle.version_chain.proofs.Each.{each_kept}
 use Rattle.version_chain.proofs.Keeping.{ordered_filter, ordered_finalise, ordered_insert}
 use Rattle.version_chain.proofs.Lists.{filter_alike, filter_twice}
-use Rattle.version_chain.proofs.Members.{Comes, In, each_from, each_in, fails, filter_in, finalise_keeps, in_either, in_filter, in_finalise, in_insert, insert_in, ordered_tells}
-use Rattle.version_chain.proofs.Ordered.{before_one, before_trans, not_before_self, time_of_before}
+use Rattle.std.proofs.lemmas.Bool.{not-true}
+use Rattle.str_base.proofs.Members.{In, filter_in, in_append, in_filter, in_insert, in_left}
+use Rattle.version_chain.proofs.Telling.{Comes, each_from, each_in, finalise_keeps, in_finalise, insert_in, ordered_tells}
+use Rattle.str_base.proofs.Order.{before_not, before_time, before_trans, not_before_self}
 
 -- the test
 abbrev pub held_test : Version → Bool
@@ -31,7 +33,7 @@ insert_undecided v vs o a = by_test (is_undecided v.kind) refl
     by_test true e =
         ordered_tells (insert_version v (undecided_of vs)) (undecided_of (insert_version v vs)) (ordered_insert v (undecided_of vs) (ordered_filter held_test vs o) (each_kept held_test (Apart v) vs a)) after
         (λ w i. elim (in_insert v (undecided_of vs) w i) [
-          | inl q ↦ filter_in held_test (insert_version v vs) w (insert_in v vs w (inl q)) (ap held_test q ∙ e)
+          | inl q ↦ filter_in held_test (insert_version v vs) w (insert_in v vs w (inl q)) (sym (ap held_test q) ∙ e)
           | inr j ↦ let p = in_filter held_test vs w j in filter_in held_test (insert_version v vs) w (insert_in v vs w (inr p.0)) p.1
         ])
         (λ w i. let p = in_filter held_test (insert_version v vs) w i in elim (in_insert v vs w p.0) [
@@ -42,7 +44,7 @@ insert_undecided v vs o a = by_test (is_undecided v.kind) refl
         ordered_tells (undecided_of vs) (undecided_of (insert_version v vs)) (ordered_filter held_test vs o) after
         (λ w i. let p = in_filter held_test vs w i in filter_in held_test (insert_version v vs) w (insert_in v vs w (inr p.0)) p.1)
         (λ w i. let p = in_filter held_test (insert_version v vs) w i in elim (in_insert v vs w p.0) [
-          | inl q ↦ (let r = sym (ap held_test q) ∙ p.1 in absurd (cc))
+          | inl q ↦ (let r = ap held_test q ∙ p.1 in absurd (cc))
           | inr j ↦ filter_in held_test vs w j p.1
         ])
 
@@ -54,7 +56,7 @@ finalise_undecided test fc vs o =
     (λ w i.
     let p = in_filter (λ v. not (test v)) (undecided_of vs) w i in
     let q = in_filter held_test vs w p.0 in
-    filter_in held_test (finalise test fc vs) w (finalise_keeps test fc vs w q.0 (fails (test w) p.1)) q.1)
+    filter_in held_test (finalise test fc vs) w (finalise_keeps test fc vs w q.0 (not-true (test w) p.1)) q.1)
     (λ w i. let p = in_filter held_test (finalise test fc vs) w i in elim (in_finalise test fc vs w p.0) [
       | inl q ↦ filter_in (λ v. not (test v)) (undecided_of vs) w (filter_in held_test vs w q.0 p.1) (ap not q.1)
       | inr q ↦ (let r = sym (ap held_test q.is) ∙ p.1 in absurd (cc))
@@ -99,7 +101,7 @@ last_undecided_of false vs k r =
 
 front_before : (xs ys : List Version) (v w : Version) → IsOrdered ((xs ++ v ∷ []) ++ ys) → In w xs → is_before w v ≡ true
 front_before [] ys v w o i = absurd i
-front_before (x ∷ xs) ys v w o (inl e) = subst (λ y. is_before y v ≡ true) (sym e) (each_in (Precedes x) ((xs ++ v ∷ []) ++ ys) v o.0 (last_in xs ys v)).0
+front_before (x ∷ xs) ys v w o (inl e) = subst (λ y. is_before y v ≡ true) e (each_in (Precedes x) ((xs ++ v ∷ []) ++ ys) v o.0 (last_in xs ys v)).0
   where
     last_in : (us zs : List Version) (u : Version) → In u ((us ++ u ∷ []) ++ zs)
     last_in [] zs u = inl refl
@@ -109,16 +111,11 @@ front_before (x ∷ xs) ys v w o (inr i) = front_before xs ys v w o.1 i
 -- the first of an ordered list is at or before each
 before_each : (v w : Version) (xs : List Version) → IsOrdered xs → precedes v (slice_get xs 0) ≡ true → In w xs → is_before v w ≡ true
 before_each v w [] o h i = absurd i
-before_each v w (x ∷ xs) o h (inl e) = subst (λ y. is_before v y ≡ true) (sym e) h
+before_each v w (x ∷ xs) o h (inl e) = subst (λ y. is_before v y ≡ true) e h
 before_each v w (x ∷ xs) o h (inr i) = before_trans v x w h (each_in (Precedes x) xs w o.0 i).0
 
 in_chain : (k : KeyId) (vs us : List Version) (w : Version) → chain k vs ≡ us → In w us → In w vs × (same_key w.key k ≡ true)
 in_chain k vs us w e i = in_filter (λ v. same_key v.key k) vs w (subst (λ (xs : List Version). In w xs) (sym e) i)
-
-front_in : (xs ys : List Version) (w : Version) → In w xs → In w (xs ++ ys)
-front_in [] ys w i = absurd i
-front_in (x ∷ xs) ys w (inl e) = inl e
-front_in (x ∷ xs) ys w (inr i) = inr (front_in xs ys w i)
 
 module _ (k : KeyId) (r : ℕ) (vs few : List Version) (o : IsOrdered vs) (u : few ≡ undecided_of vs) (v : Version) (xs ys : List Version) (e : chain k vs ≡ (xs ++ v ∷ []) ++ ys) (low : v.ts.0 ≤ r)
     (h : precedes v (slice_get (chain k few) 0) ≡ true) where
@@ -126,13 +123,13 @@ module _ (k : KeyId) (r : ℕ) (vs few : List Version) (o : IsOrdered vs) (u : f
   in_row = subst IsOrdered e (ordered_filter (λ w. same_key w.key k) vs o)
 
   at_or_before : (w : Version) → In w (xs ++ v ∷ []) → (w ≡ v) ⊎ (is_before w v ≡ true)
-  at_or_before w i = elim (in_either xs (v ∷ []) w i) [
+  at_or_before w i = elim (in_append xs (v ∷ []) w i) [
     | inl a ↦ inr (front_before xs ys v w in_row a)
-    | inr b ↦ (elim b [ inl q ↦ inl q | inr n ↦ absurd n ])
+    | inr b ↦ (elim b [ inl q ↦ inl (sym q) | inr n ↦ absurd n ])
   ]
 
   key_is : (w : Version) → In w (xs ++ v ∷ []) → w.key.0 ≡ k.0
-  key_is w i = let t = (in_chain k vs ((xs ++ v ∷ []) ++ ys) w e (front_in (xs ++ v ∷ []) ys w i)).1 in same_number w.key.0 k.0 t
+  key_is w i = let t = (in_chain k vs ((xs ++ v ∷ []) ++ ys) w e (in_left (xs ++ v ∷ []) ys w i)).1 in same_number w.key.0 k.0 t
     where
       same_number : (m n : ℕ) → (m == n) ≡ true → m ≡ n
       same_number m n t = grind (arith, nat_tests)
@@ -147,18 +144,18 @@ module _ (k : KeyId) (r : ℕ) (vs few : List Version) (o : IsOrdered vs) (u : f
   low_time : (w : Version) → In w (xs ++ v ∷ []) → w.ts.0 ≤ r
   low_time w i = elim (at_or_before w i) [
     | inl q ↦ subst (λ (x : Version). x.ts.0 ≤ r) (sym q) low
-    | inr b ↦ (let t = time_of_before w v (key_is w i ∙ sym (key_is v v_in)) b in omega (arith, t, low))
+    | inr b ↦ (let t = before_time w v (key_is w i ∙ sym (key_is v v_in)) (before_not w v b) in omega (arith, t, low))
   ]
 
   none_held : (w : Version) → In w (xs ++ v ∷ []) → is_undecided w.kind ≡ true → ⊥
   none_held w i q =
-      let p = in_chain k vs ((xs ++ v ∷ []) ++ ys) w e (front_in (xs ++ v ∷ []) ys w i) in
+      let p = in_chain k vs ((xs ++ v ∷ []) ++ ys) w e (in_left (xs ++ v ∷ []) ys w i) in
       let j = filter_in (λ x. same_key x.key k) few w (subst (λ (ws : List Version). In w ws) (sym u) (filter_in held_test vs w p.0 q)) p.1 in
       let f = subst IsOrdered (sym (ap (λ (ws : List Version). chain k ws) u)) (ordered_filter (λ x. same_key x.key k) (undecided_of vs) (ordered_filter held_test vs o)) in
       let b = before_each v w (chain k few) f h j in
       elim (at_or_before w i) [
         | inl t ↦ not_before_self v (subst (λ x. is_before v x ≡ true) t b)
-        | inr t ↦ (let z = before_one w v t in absurd (cc))
+        | inr t ↦ (let z = before_not w v t in absurd (cc))
       ]
 
   final : (w : Version) → In w (xs ++ v ∷ []) → w.kind ≡ Final

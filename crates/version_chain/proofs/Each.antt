@@ -53,19 +53,6 @@ pub each_map : (f : Version → Version) (P : Version → Type 0) (vs : List Ver
 each_map f P [] e = tt
 each_map f P (v ∷ vs) e = (e.0, each_map f P vs e.1)
 
--- one of them
-pub each_at : (P : Version → Type 0) (vs : List Version) (k : ℕ) (d : Version) → Each P vs → k < length vs → P (slice_index_or vs k d)
-each_at P [] k d e l = absurd (omega arith)
-each_at P (v ∷ vs) zero d e l = e.0
-each_at P (v ∷ vs) (suc k) d e l = each_at P vs k d e.1 (omega arith)
-
--- those of a front
-pub each_front : (P : Version → Type 0) (vs : List Version) (n : ℕ) → Each P vs → Each P (take n vs)
-each_front P [] zero e = tt
-each_front P [] (suc n) e = tt
-each_front P (v ∷ vs) zero e = tt
-each_front P (v ∷ vs) (suc n) e = (e.0, each_front P vs n e.1)
-
 -- what a commit keeps of each
 pub each_finalise : (P : Version → Type 0) (test : Version → Bool) (fc : ℕ) (vs : List Version) → ((v : Version) → P v → P (settled fc v)) → Each P vs → Each P (finalise test fc vs)
 each_finalise P test fc vs f e =

@@ -1,9 +1,8 @@
 pub mod Each
 pub mod Lists
-pub mod Ordered
 pub mod OfKey
 pub mod Keeping
-pub mod Members
+pub mod Telling
 pub mod Flats
 pub mod Spots
 pub mod Walking

@@ -12,8 +12,8 @@ use Rattle.link_arena.specs.Rows.{IsPlace, Once, first_or, is_in, taken}
 use Rattle.link_arena.proofs.ArenaLemmas.{has_tx}
 use Rattle.version_chain.specs.Flat.{beyond, flat, from_slot}
 use Rattle.version_chain.proofs.Flats.{flat_found}
-use Rattle.version_chain.proofs.Members.{In}
-use Rattle.version_chain.proofs.Ordered.{and_cases}
+use Rattle.str_base.proofs.Members.{In}
+use Rattle.std.proofs.lemmas.Bool.{and_parts}
 use Rattle.version_chain.proofs.Spots.{deeper, differs, here}
 
 -- each version that fits is in one of these slots, or is done with
@@ -112,7 +112,7 @@ module _ (Done : Version → Type 0) where
   pub pending_first : (a : ArenaView) (t : TxId) (p : PartId) (o : Option ℕ) → AreLists a → o ≡ first_or None (tx_list a t) → IsPending (at a) (of_pair t p) Done (from_slot o (tx_list a t))
   pending_first a t p o l e = record {
     each = λ u v q h.
-        let own : of_tx t v ≡ true = (and_cases (same_tx v.tx t) (same_part v.part p) h).0 in
+        let own : of_tx t v ≡ true = (and_parts (same_tx v.tx t) (same_part v.part p) h).0 in
         let listed : is_in u (tx_list a t) ≡ true = l.in_tx t u ∙ ap (λ x. is_named of_tx t x) q ∙ own in
         inl (subst (λ (ws : List ℕ). is_in u ws ≡ true) (sym (ap (λ x. from_slot x (tx_list a t)) e ∙ from_first (tx_list a t))) listed);
   }

@@ -58,7 +58,7 @@ module _ (here : Here) (input : Input) (k : TxId × PartId) where
   step_in v None p h = h
   step_in v (Some d) p h = step-keeps here input IsIn keeps_in (starts v) d p h
 
-not_decides : (h f dn : Bool) → h ≡ true → f ≡ false → (h && (not f && not dn)) ≡ false → dn ≡ true
+pub not_decides : (h f dn : Bool) → h ≡ true → f ≡ false → (h && (not f && not dn)) ≡ false → dn ≡ true
 not_decides true false true a b e = refl
 not_decides true false false a b e = absurd (cc e)
 not_decides true true dn a b e = absurd (cc b)

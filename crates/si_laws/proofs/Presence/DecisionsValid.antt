@@ -56,9 +56,9 @@ bounded_from b scene ok events t h =
     below_ : (t p : ℕ) → t < 2 ^ 62 + p → p ≤ 1024 * 113 → t < ts_limit
     below_ t p l r = omega (arith, l, r)
 
-pub all_in : {A : Type 0} (test : A → Bool) (xs : List A) → ((x : A) → In x xs → test x ≡ true) → list_all test xs ≡ true
-all_in test [] f = refl
-all_in test (x ∷ xs) f = and_from (test x) (list_all test xs) (f x (inl refl)) (all_in test xs (λ y h. f y (inr h)))
+pub all_from : {A : Type 0} (test : A → Bool) (xs : List A) → ((x : A) → In x xs → test x ≡ true) → list_all test xs ≡ true
+all_from test [] f = refl
+all_from test (x ∷ xs) f = and_from (test x) (list_all test xs) (f x (inl refl)) (all_from test xs (λ y h. f y (inr h)))
 
 -- what is left of distinct keys is distinct
 any_less : (k : KeyId) (test : Write → Bool) (ws : List Write) → list_any (same_key k) (map (λ (w : Write). w.key) ws) ≡ false
@@ -103,7 +103,7 @@ module _ (bound : Bounded) (scene : Scene) (ok : IsScene scene) (events : List E
       let g : ScriptGood (at_place scene dec.n) x = scripts_after scene ok events dec.n dec.view dec.there dec.i x dec.own in
       let size : length here.scene.keys.names ≡ length scene.keys.names = ap (λ (z : Scene). length z.keys.names) same in
       and_from (Strange.distinct_keys (map (λ (w : Write). w.key) (filter (in_part scene p) x.writes))) _ (filter_distinct (in_part scene p) x.writes g.once)
-      (all_in _ (map (λ (w : Write). w.key) (filter (in_part scene p) x.writes)) (λ k h.
+      (all_from _ (map (λ (w : Write). w.key) (filter (in_part scene p) x.writes)) (λ k h.
       let r = in_map (λ (w : Write). w.key) (filter (in_part scene p) x.writes) k h in
       let f = in_filter (in_part scene p) x.writes r.0 r.1 in
       let own : wrote_key k x.writes ≡ true = any_in (λ (w : Write). same_key w.key k) x.writes r.0 f.0 (eq-eqb r.0.key.0 k.0 (ap (λ (z : KeyId). z.0) r.2)) in
@@ -141,7 +141,7 @@ module _ (bound : Bounded) (scene : Scene) (ok : IsScene scene) (events : List E
           let part : Strange.has_part (at_place scene n) q ≡ true = part_is (at_place scene n) refl (at_place scene n).node q (subst (λ (y : PartId). hosts scene (at_place scene n).node y ≡ true) (sym x.1) s.0) in
           let times : (z : Ts) → In z.0 (body_times (Commit t q fc ms)) → Strange.below_limit z ≡ true = λ z k. sent_below m z h (subst (λ (y : Body). In z.0 (body_times y)) (sym e) k) in
           let keys : Strange.keys_in (at_place scene n) q (map (λ (y : KeyMark). y.key) ms) ≡ true = subst (λ (ks : List KeyId). Strange.keys_in (at_place scene n) q ks ≡ true) (sym r.5) (keys_good (at_place scene n) refl t r.0 q r.1) in
-          let marks : list_all (λ (y : KeyMark). Strange.below_limit y.mark) ms ≡ true = all_in (λ (y : KeyMark). Strange.below_limit y.mark) ms (λ y k. times y.mark (inr (map_in (λ (u : KeyMark). u.mark.0) ms y k))) in
+          let marks : list_all (λ (y : KeyMark). Strange.below_limit y.mark) ms ≡ true = all_from (λ (y : KeyMark). Strange.below_limit y.mark) ms (λ y k. times y.mark (inr (map_in (λ (u : KeyMark). u.mark.0) ms y k))) in
           let named : Strange.has_named (at_place scene n) (Commit t q fc ms) ≡ true =
           and_from _ _ has (and_from _ _ part (and_from _ _ (times fc (inl refl)) (and_from _ _ keys marks))) in
           (and_from _ _ receiver_ (and_from _ _ (subst (λ (y : NodeId). Strange.has_node (at_place scene n) y ≡ true) (sym r.4) has) (subst (λ (z : Body). Strange.has_named (at_place scene n) z ≡ true) (sym e) named)), s.0, s.1)

@@ -43,6 +43,7 @@ use Rattle.str_base.proofs.Members.{any_in, filter_in, in_append, in_filter, in_
 use Rattle.str_base.proofs.Tests.{and_true_right}
 use Rattle.str_base.proofs.Lists.{get_push, get_set, got_replicate, got_set}
 use Rattle.str_base.specs.Members.{In}
+use Rattle.std.proofs.lemmas.Bool.{or_left}
 
 -- a version is of a certified transaction that wrote its key
 pub record OfWriter (scene : Scene) (s : Stage) (q : Version) : Type 0 where
@@ -87,7 +88,7 @@ asks_same (Commit tx r fc ms) t u p q a b = absurd a
 asks_same (Abort tx r) t u p q a b = absurd a
 
 -- who asks is certified
-pub asks_certified : (scene : Scene) (s : Stage) (from to : NodeId) (b : Body) (tx : TxId) (p : PartId) → Asks tx p b → Told scene s from to b → (rs : ℕ) × (lc : ℕ) × (all : List Write) × IsCertified scene s tx rs lc all
+asks_certified : (scene : Scene) (s : Stage) (from to : NodeId) (b : Body) (tx : TxId) (p : PartId) → Asks tx p b → Told scene s from to b → (rs : ℕ) × (lc : ℕ) × (all : List Write) × IsCertified scene s tx rs lc all
 asks_certified scene s from to (Prepare t r rs lc ws) tx p a k = (rs.0, lc.0, k.0, subst (λ (z : TxId). IsCertified scene s z rs.0 lc.0 k.0) a.0 k.1)
 asks_certified scene s from to (Replicate t r rs lc ws) tx p a k = (rs.0, lc.0, k.0, subst (λ (z : TxId). IsCertified scene s z rs.0 lc.0 k.0) a.0 k.1)
 asks_certified scene s from to (ReadReq t k rs) tx p a z = absurd a
@@ -147,10 +148,6 @@ module _ (here : Here) where
   abbrev KeptFlag : Own → Asked → Type 0
   KeptFlag x a = (b : Asked) × In b x.parts × (b.part ≡ a.part) × (b.asked ≡ true → a.asked ≡ true)
 
-  or_kept : (b c : Bool) → b ≡ true → (b || c) ≡ true
-  or_kept true c e = refl
-  or_kept false c e = absurd (cc e)
-
   same_flag : (x y : Own) (a : Asked) → x ≡ y → In a y.parts → KeptFlag x a
   same_flag x y a e m = (a, subst (λ (z : Own). In a z.parts) (sym e) m, refl, λ t. t)
 
@@ -173,7 +170,7 @@ module _ (here : Here) where
   kept_flag input d e (o_asks i c p x' own f t q) k lc x y a ox l oy m =
       set_flag d.own i k x' (record x' { parts = with_asked p x'.parts; phase = Global c }) x y a own ox (subst (λ (xs : List Own). slice_get xs k ≡ Some y) q oy) m
       (λ s n. let r = in_map {A = Asked} {B = Asked} (λ (b : Asked). record b { asked = b.asked || same_part b.part p }) x'.parts a n in
-      (r.0, r.1, ap (λ (z : Asked). z.part) r.2, λ t. ap (λ (z : Asked). z.asked) (sym r.2) ∙ or_kept r.0.asked (same_part r.0.part p) t))
+      (r.0, r.1, ap (λ (z : Asked). z.part) r.2, λ t. ap (λ (z : Asked). z.asked) (sym r.2) ∙ or_left r.0.asked (same_part r.0.part p) t))
   kept_flag input d e (o_acks i c from tx p ts parts x' own cm g b q) k lc x y a ox l oy m =
       set_flag d.own i k x' (record x' { parts = parts }) x y a own ox (subst (λ (xs : List Own). slice_get xs k ≡ Some y) q oy) m
       (λ s n. by_step x' ((acked_parts x'.parts p from ts.0 parts b.parts_are).each a n))

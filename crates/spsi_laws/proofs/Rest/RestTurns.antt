@@ -44,13 +44,15 @@ use Rattle.str_model.proofs.Changes.VersionChanges.{Placed, by_master, by_slave,
 use Rattle.str_model.proofs.Changes.PairWords.{any_has}
 use Rattle.str_model.proofs.OwnFacts.LocalOwners.{Depends}
 use Rattle.str_model.proofs.OwnFacts.EarlierDependencies.{depends-act, earlier}
-use Rattle.str_model.proofs.ListCounts.{how_many, one_if}
+use Rattle.str_model.proofs.ListCounts.{how_many}
 use Rattle.std.proofs.lemmas.List.FromFn.{length-range_with_len}
 use Rattle.str_base.proofs.Members.{any_in, find_none, in_filter, in_flat_map, in_map, in_right, map_in}
 use Rattle.str_base.proofs.Tests.{and_true_right, or_false_right}
 use Rattle.str_base.proofs.Lists.{get_set, get_set_other}
 use Rattle.str_base.specs.Members.{In}
-use Rattle.str_model.proofs.ViewFacts.GatesEnd.{gate_open}
+use Rattle.str_model.proofs.ViewFacts.GatesEnd.{gate_open, many_less, many_within}
+use Rattle.str_model.proofs.KindTests.{pre_kind}
+use Rattle.std.proofs.lemmas.Bool.{and_from, or_from}
 
 -- it waits at its own node
 abbrev pub IsStuck : Phase → Type 0
@@ -84,11 +86,6 @@ decided_rests v i x d = record { closing = λ b e n. cc (ap is_decided e, d); st
     by _ e s = s
 
 -- ---- what is known at each moment
-
-pre_kind : (k : Kind) → is_pre k ≡ true → k ≡ Pre
-pre_kind Pre e = refl
-pre_kind LocalKind e = absurd (cc e)
-pre_kind Final e = absurd (cc e)
 
 module _ (here : Here) where
   abbrev pub PreForeign : View → Type 0
@@ -299,10 +296,6 @@ module _ (here : Here) where
       none_wrote : wrote ≡ []
       none_wrote = ap (map (dep_parts here v.own)) nd
 
-      not_so : (b : Bool) → (b ≡ true → ⊥) → b ≡ false
-      not_so true f = absurd (f refl)
-      not_so false f = refl
-
       no_ack : (o : Option Rattle.str_base.specs.declared.names.Ts.Ts) → not (is_some o) ≡ true → o ≡ None
       no_ack None q = refl
       no_ack (Some z) q = absurd (cc q)
@@ -333,39 +326,10 @@ module _ (here : Here) where
   unasked_in : Own → ℕ
   unasked_in x = how_many (open_part x.parts) (all_parts here.scene)
 
-  many_most : {A : Type 0} (p : A → Bool) (xs : List A) → how_many p xs ≤ length xs
-  many_most p [] = omega arith
-  many_most p (x ∷ xs) = let r = many_most p xs in let o = one_most (p x) in omega (arith, r, o)
-    where
-      one_most : (b : Bool) → one_if b ≤ 1
-      one_most true = omega arith
-      one_most false = omega arith
-
-  many_fewer : {A : Type 0} (p q : A → Bool) (xs : List A) → ((x : A) → p x ≡ true → q x ≡ true) → how_many p xs ≤ how_many q xs
-  many_fewer p q [] h = omega arith
-  many_fewer p q (x ∷ xs) h = let r = many_fewer p q xs h in let o = one_fewer (p x) (q x) (h x) in omega (arith, r, o)
-    where
-      one_fewer : (a b : Bool) → (a ≡ true → b ≡ true) → one_if a ≤ one_if b
-      one_fewer true b f = let e : one_if b ≡ 1 = ap one_if (f refl) in omega (arith, e)
-      one_fewer false b f = omega arith
-
-  many_one_fewer : {A : Type 0} (p q : A → Bool) (xs : List A) (y : A) → ((x : A) → p x ≡ true → q x ≡ true) → In y xs → q y ≡ true → p y ≡ false → how_many p xs < how_many q xs
-  many_one_fewer p q [] y h m a b = absurd m
-  many_one_fewer p q (x ∷ xs) y h (inl e) a b =
-      let r = many_fewer p q xs h in
-      let one : one_if (q x) ≡ 1 = ap (λ z. one_if (q z)) e ∙ ap one_if a in
-      let none : one_if (p x) ≡ 0 = ap (λ z. one_if (p z)) e ∙ ap one_if b in
-      omega (arith, r, one, none)
-  many_one_fewer p q (x ∷ xs) y h (inr m) a b = let r = many_one_fewer p q xs y h m a b in let o = one_fewer (p x) (q x) (h x) in omega (arith, r, o)
-    where
-      one_fewer : (a b : Bool) → (a ≡ true → b ≡ true) → one_if a ≤ one_if b
-      one_fewer true b f = let e : one_if b ≡ 1 = ap one_if (f refl) in omega (arith, e)
-      one_fewer false b f = omega arith
-
   unasked_most : (x : Own) → unasked_in x < suc (length here.scene.parts)
   unfolding unasked_in
   unasked_most x =
-      let a = many_most (open_part x.parts) (all_parts here.scene) in
+      let a = many_within (open_part x.parts) (all_parts here.scene) in
       let b : length (all_parts here.scene) ≡ length (range_with_len 1 (length here.scene.parts)) = map_length (λ (n : ℕ). record { 0 = n }) (range_with_len 1 (length here.scene.parts)) in
       let c = length-range_with_len 1 (length here.scene.parts) in
       omega (arith, a, b, c)
@@ -379,14 +343,10 @@ module _ (here : Here) where
       let ex = part_exists here.scene r.0.node r.0.part seat.hosted in
       let p0 : r.0.part.0 ≡ p.0 = ap (λ (y : PartId). y.0) r.2 in
       let inall : In p (all_parts here.scene) = map_in (λ (n : ℕ). record { 0 = n }) (range_with_len 1 (length here.scene.parts)) p.0 (range_in 1 (length here.scene.parts) p.0 (omega (arith, ex.0, p0)) (omega (arith, ex.1, p0))) in
-      many_one_fewer (open_part (with_asked p x.parts)) (open_part x.parts) (all_parts here.scene) p (λ q t. fewer q t) inall
-      (any_in (λ (a : Asked). same_part a.part p && not a.asked) x.parts r.0 r.1 (and_both (same_part r.0.part p) (not r.0.asked) (eq-eqb r.0.part.0 p.0 p0) (ap not r.3)))
-      (none_now x.parts)
+      let l = many_less (open_part (with_asked p x.parts)) (open_part x.parts) (all_parts here.scene) p (λ q t. fewer q t) inall (none_now x.parts)
+      (any_in (λ (a : Asked). same_part a.part p && not a.asked) x.parts r.0 r.1 (and_from (same_part r.0.part p) (not r.0.asked) (eq-eqb r.0.part.0 p.0 p0) (ap not r.3))) in
+      omega (arith, l)
     where
-      and_both : (a b : Bool) → a ≡ true → b ≡ true → (a && b) ≡ true
-      and_both true b q r = r
-      and_both false b q r = absurd (cc q)
-
       was_open : (a b c : Bool) → (a && not (b || c)) ≡ true → (a && not b) ≡ true
       was_open true true c q = absurd (cc q)
       was_open true false c q = refl
@@ -407,11 +367,7 @@ module _ (here : Here) where
 
       none_now : (parts : List Asked) → list_any (λ (a : Asked). same_part a.part p && not a.asked) (with_asked p parts) ≡ false
       none_now [] = refl
-      none_now (a ∷ parts) = or_both (same_part a.part p && not (a.asked || same_part a.part p)) (list_any (λ (a : Asked). same_part a.part p && not a.asked) (with_asked p parts)) (closed_one a.asked (same_part a.part p)) (none_now parts)
-        where
-          or_both : (b c : Bool) → b ≡ false → c ≡ false → (b || c) ≡ false
-          or_both true c q r = absurd (cc q)
-          or_both false c q r = r
+      none_now (a ∷ parts) = or_from (same_part a.part p && not (a.asked || same_part a.part p)) (list_any (λ (a : Asked). same_part a.part p && not a.asked) (with_asked p parts)) (closed_one a.asked (same_part a.part p)) (none_now parts)
 
   -- one that is put and decided rests
   put_rests : (v e : View) (i : ℕ) (x y : Own) → Owns v i x → e.own ≡ slice_set v.own i y → is_decided y.phase ≡ true → DoneAt e i

@@ -24,7 +24,8 @@ use Rattle.str_scene.specs.SceneLimits.{IsScene}
 use Rattle.str_scene.specs.Scenes.{Here, Scene, nth}
 use Rattle.str_scene.specs.declared.names.Event.{Event}
 use Rattle.str_scene.specs.declared.names.Event.TheVariants.{Deliver as DeliverEvent}
-use Rattle.str_base.proofs.Lists.{get_set, get_set_other, got_set, slice_get_there}
+use Rattle.str_base.proofs.Lists.{get_append_left, get_set, get_set_other, got_set, slice_get_there}
+use Rattle.std.proofs.lemmas.Option.{slice_get_within}
 
 -- the event by which the j-th message was given to the n-th node, both counted from 0
 pub record Given (scene : Scene) (es : List Event) (j : ℕ) (m : Message) (n : ℕ) : Type 0 where
@@ -35,14 +36,9 @@ pub record Given (scene : Scene) (es : List Event) (j : ℕ) (m : Message) (n : 
   pub late : List Event
   pub final_ : run scene es ≡ run_from scene (Runs.stepped (DeliverEvent (j + 1)) n (give (j + 1) (run scene early)) (step (at_place scene n) (Deliver m) view)) late
 
-get_left : {A : Type 0} (xs ys : List A) (j : ℕ) (x : A) → slice_get xs j ≡ Some x → slice_get (xs ++ ys) j ≡ Some x
-get_left [] ys j x e = absurd (cc e)
-get_left (z ∷ xs) ys zero x e = e
-get_left (z ∷ xs) ys (suc j) x e = get_left xs ys j x e
-
 -- what was sent stays
 sent_stays : (scene : Scene) (w : World) (es : List Event) (j : ℕ) (m : Message) → slice_get w.sent j ≡ Some m → slice_get (run_from scene w es).sent j ≡ Some m
-sent_stays scene w es j m h = by_steps scene (λ s. slice_get s.sent j ≡ Some m) (λ s i v input e is seen q k. get_left s.sent e.sent j m k) w es h
+sent_stays scene w es j m h = by_steps scene (λ s. slice_get s.sent j ≡ Some m) (λ s i v input e is seen q k. get_append_left s.sent e.sent j (slice_get_within s.sent j m k) ∙ k) w es h
 
 -- the event is a step at the receiver
 event_is : (scene : Scene) (w : World) (j n : ℕ) (m : Message) (v : View) → slice_get w.sent j ≡ Some m → m.receiver ≡ record { 0 = n + 1 } → slice_get w.nodes n ≡ Some v

@@ -60,12 +60,13 @@ use Rattle.str_scene.specs.SceneLimits.{IsScene}
 use Rattle.str_scene.specs.Scenes.{Here, Scene, hosts, hosts_key, in_part, is_master, nth, part_of}
 use Rattle.str_scene.specs.declared.names.Event.{Event}
 use Rattle.str_scene.specs.declared.names.Event.TheVariants.{Deliver as DeliverEvent}
-use Rattle.std.proofs.lemmas.Bool.{and_from, false_from_ne_true}
+use Rattle.std.proofs.lemmas.Bool.{and_from, false_from_ne_true, or_cases}
 use Rattle.str_base.proofs.Members.{any_in, in_all_new, in_append, in_at, in_filter, in_right, in_without, map_in}
 use Rattle.str_base.proofs.SameNames.{same_part-is, same_tx-is}
 use Rattle.str_base.proofs.Tests.{and_true_left, and_true_right}
 use Rattle.str_base.proofs.Lists.{get_set}
 use Rattle.str_base.specs.Members.{In}
+use Rattle.si_laws.proofs.Presence.DecisionsDone.{not_decides}
 
 -- a Prepare of the pair was judged: the pair is done, or stands, or the Prepare is parked
 abbrev pub HasJudged : TxId → PartId → View → Type 0
@@ -77,22 +78,12 @@ HasTaken tx p v = Has (is_pair tx p) v.done ⊎ Has (of_pair tx p) v.versions
 
 -- ---- tests
 
-last_of_three : (a b c : Bool) → a ≡ true → b ≡ false → (a && (not b && not c)) ≡ false → c ≡ true
-last_of_three true false true x y e = refl
-last_of_three true false false x y e = absurd (cc e)
-last_of_three true true c x y e = absurd (cc y)
-last_of_three false b c x y e = absurd (cc x)
-
 last_of_four : (a b c d : Bool) → a ≡ true → b ≡ false → c ≡ false → (a && (not b && (not c && not d))) ≡ false → d ≡ true
 last_of_four true false false true x y z e = refl
 last_of_four true false false false x y z e = absurd (cc e)
 last_of_four true false true d x y z e = absurd (cc z)
 last_of_four true true c d x y z e = absurd (cc y)
 last_of_four false b c d x y z e = absurd (cc x)
-
-one_of_two : (a b : Bool) → (a || b) ≡ true → (a ≡ true) ⊎ (b ≡ true)
-one_of_two true b e = inl refl
-one_of_two false b e = inr e
 
 other_node : (n m : NodeId) → n.0 ≢ m.0 → same_node n m ≡ false
 other_node n m f = false_from_ne_true (same_node n m) (λ q. f (eqb-true n.0 m.0 q))
@@ -110,7 +101,7 @@ module _ (here : Here) (m : Message) (v : View) (P : View → Type 0) where
 -- ---- a Prepare
 
 known_cases : (v : View) (tx : TxId) (p : PartId) → is_known v tx p ≡ true → Has (is_pair tx p) v.done ⊎ Has (of_pair tx p) v.versions
-known_cases v tx p e = elim (one_of_two (list_any (is_pair tx p) v.done) (list_any (of_pair tx p) v.versions) e) [ inl q ↦ inl (any_has (is_pair tx p) v.done q) | inr q ↦ inr (any_has (of_pair tx p) v.versions q) ]
+known_cases v tx p e = elim (or_cases (list_any (is_pair tx p) v.done) (list_any (of_pair tx p) v.versions) e) [ inl q ↦ inl (any_has (is_pair tx p) v.done q) | inr q ↦ inr (any_has (of_pair tx p) v.versions q) ]
 
 pre_stands : (a : Arrived) (ts : ℕ) (vs : List Version) → ((w : Write) × In w a.writes) → Has (of_pair a.tx a.part) (insert_all (map (pre_version a ts) a.writes) vs)
 pre_stands a ts vs w =
@@ -143,7 +134,7 @@ module _ (here : Here) (v : View) (a : Arrived) (some : SomeWrites v) (wr : (w :
       (λ t. by_turn (master_turn v a) refl)
       (λ t. (
         some,
-        elim (one_of_two (is_known v a.tx a.part) (is_parked v a.tx a.part) (last_of_three (is_master here.scene here.node a.part) (same_node a.tx.node here.node) (is_known v a.tx a.part || is_parked v a.tx a.part) ms f t)) [
+        elim (or_cases (is_known v a.tx a.part) (is_parked v a.tx a.part) (not_decides (is_master here.scene here.node a.part) (same_node a.tx.node here.node) (is_known v a.tx a.part || is_parked v a.tx a.part) ms f t)) [
           | inl q ↦ (elim (known_cases v a.tx a.part q) [ inl z ↦ inl z | inr z ↦ inr (inl z) ])
           | inr q ↦ inr (inr (any_has (holds_pair a.tx a.part) v.waiters q))
         ],
@@ -327,7 +318,7 @@ module _ (here : Here) (v : View) (tx : TxId) (k : KeyId) where
   request_leaves rs hs f =
       if_elim ReadLeaves (hosts_key here k && (not (same_node tx.node here.node) && not (list_any (Arrivals.waits_read tx k) v.waiters)))
       (Some (Arrivals.serve_done here tx k rs (serve_turn v.versions k rs) (marked k rs (starts v)))) None (λ t. served rs (serve_turn v.versions k rs))
-      (λ t. let w = any_has (Arrivals.waits_read tx k) v.waiters (last_of_three (hosts_key here k) (same_node tx.node here.node) (list_any (Arrivals.waits_read tx k) v.waiters) hs f t) in is_waiting w.0 w.2 w.1)
+      (λ t. let w = any_has (Arrivals.waits_read tx k) v.waiters (not_decides (hosts_key here k) (same_node tx.node here.node) (list_any (Arrivals.waits_read tx k) v.waiters) hs f t) in is_waiting w.0 w.2 w.1)
 
 -- ---- over every run
 

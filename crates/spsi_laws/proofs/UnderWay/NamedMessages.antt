@@ -7,7 +7,7 @@ use Rattle.str_base.specs.declared.names.Kind.{Kind}
 use Rattle.str_base.specs.declared.names.Kind.TheVariants.{Final, Local as LocalKind, Pre}
 use Rattle.dependency_set.specs.Snapshots.{Snap, accept_final, holds}
 use Rattle.partition_map.specs.declared.rows.Asked.{Asked}
-use Rattle.si_laws.proofs.Presence.DecisionsValid.{all_in, filter_distinct}
+use Rattle.si_laws.proofs.Presence.DecisionsValid.{all_from, filter_distinct}
 use Rattle.si_laws.proofs.Stages.ParticipantSeats.{own_seat, part_exists}
 use Rattle.spsi_laws.proofs.Rest.RestStages.{find_is}
 use Rattle.spsi_laws.proofs.UnderWay.NewMessages.{Post, p_ack, p_copy, p_decision, p_prepare, p_refuse, p_replicate, p_reply, p_request, writes_in}
@@ -260,14 +260,14 @@ module _ (here : Here) (ok : IsScene here.scene) (exists : has_node here here.no
       let some : (w : Write) × In w (writes_in here p x) = (wr.0, filter_in (in_part here.scene p) x.writes wr.0 wr.1 (subst (λ (q : PartId). in_part here.scene q wr.0 ≡ true) a.2 wr.2)) in
       let keys : keys_in here p (map (λ (w : Write). w.key) (writes_in here p x)) ≡ true =
       and_from (Strange.distinct_keys (map (λ (w : Write). w.key) (writes_in here p x))) _ (filter_distinct (in_part here.scene p) x.writes good.once)
-      (all_in _ (map (λ (w : Write). w.key) (writes_in here p x)) (λ k m.
+      (all_from _ (map (λ (w : Write). w.key) (writes_in here p x)) (λ k m.
       let r = in_map (λ (w : Write). w.key) (writes_in here p x) k m in
       let f = in_filter (in_part here.scene p) x.writes r.0 r.1 in
       subst (λ (z : KeyId). (has_key here z && same_part (part_of here.scene z) p) ≡ true) r.2 (and_from (has_key here r.0.key) (in_part here.scene p r.0) (write_key here ok x good r.0 f.0) f.1))) in (
         exists,
         subst (λ (q : PartId). has_part here q ≡ true) a.2 (part_there here a.0.node a.0.part seat.hosted),
         some_keys here p (writes_in here p x) some keys,
-        all_in (λ (w : Write). has_value here w.value) (writes_in here p x) (λ w m. (h.values i x own).writes w (in_filter (in_part here.scene p) x.writes w m).0),
+        all_from (λ (w : Write). has_value here w.value) (writes_in here p x) (λ w m. (h.values i x own).writes w (in_filter (in_part here.scene p) x.writes w m).0),
       )
 
   asked_names : (tx : TxId) (k : KeyId) (rs : ℕ) → IsAsked here input d tx k rs → (has_node here tx.node ≡ true) × (has_key here k ≡ true)

@@ -1,5 +1,5 @@
 -- What was sent for a partition that is asked, for versions that are placed, and for a pair that is done.
-use Rattle.std.proofs.Common.{Bool, None, Some, [], ap, false, filter, inl, inr, map, refl, slice_get, slice_set, subst, subst₂, sym, true, ℕ, ◌++◌, ◌||◌, ◌∙◌, ◌∷◌, ◌≡◌, ◌⊎◌}
+use Rattle.std.proofs.Common.{Bool, None, Some, [], ap, false, filter, inl, inr, map, refl, slice_get, slice_set, subst, subst₂, sym, true, ℕ, ◌++◌, ◌||◌, ◌∙◌, ◌∷◌, ◌≡◌}
 use Rattle.partition_map.specs.declared.rows.Asked.{Asked}
 use Rattle.si_laws.specs.Laws.Presence.{Decides}
 use Rattle.str_base.specs.Versions.{of_pair, of_tx, same_part, settled, stamp, without}
@@ -27,6 +27,7 @@ use Rattle.str_base.proofs.SameNames.{same_part-is}
 use Rattle.str_base.proofs.Lists.{got_push, got_set}
 use Rattle.str_base.proofs.Members.{in_append, in_filter, in_insert_all, in_map, in_right, in_without, map_in}
 use Rattle.str_base.specs.Members.{In}
+use Rattle.std.proofs.lemmas.Bool.{or_cases}
 
 -- ---- partitions that are asked
 
@@ -35,10 +36,6 @@ pub data AskedFrom (here : Here) (d e : Doing) (k : ℕ) (a : Asked) : Type 0 wh
   asked_before : (x : Own) (b : Asked) → Owns d.view k x → In b x.parts → b.part ≡ a.part → b.node ≡ a.node → b.asked ≡ true → AskedFrom here d e k a
   asked_now : (lc : ℕ) (x : Own) (b : Asked) → Owns d.view k x → In b x.parts → b.part ≡ a.part → b.node ≡ a.node
       → ((m : Message) → In m (Acts.ask_letters here k lc x a.part (replicas here.scene a.part)) → In m e.sent) → AskedFrom here d e k a
-
-or_parts : (b c : Bool) → (b || c) ≡ true → (b ≡ true) ⊎ (c ≡ true)
-or_parts true c e = inl refl
-or_parts false c e = inr e
 
 module _ (here : Here) (input : Input) (w : Where) where
   same_asked : (d e : Doing) (k : ℕ) (x : Own) (a : Asked) → Owns d.view k x → In a x.parts → a.asked ≡ true → AskedFrom here d e k a
@@ -73,7 +70,7 @@ module _ (here : Here) (input : Input) (w : Where) where
       let ok : Owns d'.view k x' = ap (λ (n : ℕ). slice_get d'.view.own n) s ∙ own.0 in
       let part : r.0.part ≡ a.part = ap (λ (z : Asked). z.part) r.2 in
       let node : r.0.node ≡ a.node = ap (λ (z : Asked). z.node) r.2 in
-      elim (or_parts r.0.asked (same_part r.0.part p) (ap (λ (z : Asked). z.asked) r.2 ∙ t)) [
+      elim (or_cases r.0.asked (same_part r.0.part p) (ap (λ (z : Asked). z.asked) r.2 ∙ t)) [
         | inl b ↦ asked_before x' r.0 ok r.1 part node b
         | inr b ↦ (let same : p ≡ a.part = sym (same_part-is r.0.part p b) ∙ part in
             asked_now c x' r.0 ok r.1 part node (λ l z. in_right d'.sent (Acts.ask_letters here i c x' p (replicas here.scene p)) l

@@ -24,6 +24,7 @@ pub record FollowsRule (scene : Scene) (w : World) : Type 0 where
   pub on : (e : Event) → next_event scene w ≡ Some e → drain_from scene w ≡ e ∷ drain_from scene (happens scene w e)
   pub stop : next_event scene w ≡ None → drain_from scene w ≡ []
 
+-- the drain's events follow the rule
 abbrev pub DrainFollows : Type 0
 DrainFollows = OfEachState (λ scene w. FollowsRule scene w)
 
@@ -32,5 +33,6 @@ pub record StopsAtRest (scene : Scene) (w : World) : Type 0 where
   pub rest : next_event scene w ≡ None → AtRest scene w
   pub stop : AtRest scene w → next_event scene w ≡ None
 
+-- the drain stops exactly at rest
 abbrev pub DrainRests : Type 0
 DrainRests = OfEachState (λ scene w. StopsAtRest scene w)

@@ -6,6 +6,6 @@ use Rattle.si_laws.specs.SpeculativeIsolation.{OfEachOpen, PairsOrdered, PairsOr
 abbrev pub PairsHold : Type 0
 PairsHold = OfEachState (λ scene w. OfEachOpen w (λ n v x. PairsOrdered w n x))
 
--- the same of what its dependencies rest on
+-- the same of all that it or one of its dependencies rests on
 abbrev pub PairsHoldFurther : Type 0
 PairsHoldFurther = OfEachState (λ scene w. OfEachOpen w (λ n v x. PairsOrderedFurther w n x))

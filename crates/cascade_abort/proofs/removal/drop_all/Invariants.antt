@@ -1,14 +1,14 @@
 use Rattle.std.proofs.Common.{drop, ◌≡◌, ◌≤◌}
 use Rattle.cache_partition.specs.CacheLists.{StaysHere as CacheStays}
-use Rattle.cascade_abort.specs.Removal.{AllWritten}
+use Rattle.cascade_abort.proofs.Dropping.{AllIn}
 use Rattle.replica_store.specs.StoreLists.{StaysHere as StoreStays}
 use Rattle.str_base.specs.Versions.{of_tx, without}
 use Rattle.cascade_abort.proofs.removal.drop_all.Given as goal
 
-abbrev pub invariant-loop-write : goal.invariant-loop-write
-invariant-loop-write l = record {
-  stored : AllWritten l.map (drop l.write-index l.write-items) l.tx l.store.versions;
-  cached : AllWritten l.map (drop l.write-index l.write-items) l.tx l.cache.versions;
+abbrev pub invariant-loop-part : goal.invariant-loop-part
+invariant-loop-part l = record {
+  stored : AllIn (drop l.part-index l.part-items) l.tx l.store.versions;
+  cached : AllIn (drop l.part-index l.part-items) l.tx l.cache.versions;
   store : without (of_tx l.tx) l.store.versions ≡ without (of_tx l.tx) l.fn.store.versions;
   cache : without (of_tx l.tx) l.cache.versions ≡ without (of_tx l.tx) l.fn.cache.versions;
   store_here : StoreStays l.fn.store l.store;

@@ -9,7 +9,8 @@ use Rattle.link_arena.specs.Rows.{IsPlace, is_in, taken}
 use Rattle.version_chain.specs.Flat.{beyond, flat, from_slot}
 use Rattle.version_chain.proofs.Changed.{finalise_none, finalise_same, gone, settled_chains, stays, unlinked_chains, without_same}
 use Rattle.version_chain.proofs.Flats.{flat_has, flat_ordered}
-use Rattle.version_chain.proofs.Members.{any_none, any_one, without_none}
+use Rattle.str_base.proofs.Members.{any_in}
+use Rattle.version_chain.proofs.Telling.{any_none, without_none}
 use Rattle.version_chain.proofs.Pending.{unfit, IsPending, all_done, from_next, from_taken, next_place, next_place_taken, none_fits, one_less, pending_first, pending_step, rest_is, first_place, tx_is, tx_there}
 use Rattle.version_chain.proofs.pairs.has_pair.Goals as goal
 
@@ -30,7 +31,7 @@ pub returns-then-is_of : goal.returns-then-is_of
 returns-then-is_of c =
     let a = c.args.arena.now in
     let v = c.get.result in
-    sym (any_one (of_pair c.args.tx c.args.part) (flat a) v (flat_has a c.requires.lists c.in-Some.here.0 v (sym c.get.ensures.value)) (sym c.is_of.ensures ∙ c.if-is_of.true))
+    sym (any_in (of_pair c.args.tx c.args.part) (flat a) v (flat_has a c.requires.lists c.in-Some.here.0 v (sym c.get.ensures.value)) (sym c.is_of.ensures ∙ c.if-is_of.true))
 
 pub slots-smaller : goal.slots-smaller
 slots-smaller c =

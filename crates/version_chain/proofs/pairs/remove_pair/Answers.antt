@@ -9,7 +9,8 @@ use Rattle.link_arena.specs.Rows.{IsPlace, is_in, taken}
 use Rattle.version_chain.specs.Flat.{beyond, flat, from_slot}
 use Rattle.version_chain.proofs.Changed.{finalise_none, finalise_same, gone, settled_chains, stays, unlinked_chains, without_same}
 use Rattle.version_chain.proofs.Flats.{flat_has, flat_ordered}
-use Rattle.version_chain.proofs.Members.{any_none, any_one, without_none}
+use Rattle.str_base.proofs.Members.{any_in}
+use Rattle.version_chain.proofs.Telling.{any_none, without_none}
 use Rattle.version_chain.proofs.Pending.{one_list, unfit, vacant_at, IsPending, all_done, from_next, from_taken, next_place, next_place_taken, none_fits, one_less, pending_first, pending_step, rest_is, first_place, tx_is, tx_there}
 use Rattle.version_chain.proofs.pairs.remove_pair.Goals as goal
 
