@@ -4,10 +4,11 @@ use Rattle.std.specs.List.{last_or}
 use Rattle.cache_partition.specs.CacheLists.{CacheList, IsCache, IsCached}
 use Rattle.dependency_set.specs.declared.snaps.OwnSnap.{OwnSnap}
 use Rattle.partition_map.specs.Maps as maps
-use Rattle.replica_store.proofs.MergedReads.{IsOfKey, chain_in_cache, chain_in_store, first_of_two, newest_in_cache, newest_in_store, pre_in_cache, pre_in_store, visible_in_cache, visible_in_store}
+use Rattle.replica_store.proofs.MergedReads.{IsOfKey, chain_in_cache, chain_in_store, newest_in_cache, newest_in_store, pre_in_cache, pre_in_store, visible_in_cache, visible_in_store}
 use Rattle.replica_store.proofs.Merging.{OfKeys, merged_unseen}
 use Rattle.replica_store.specs.StoreLists.{IsStore, LiesIn, StoreList}
 use Rattle.snapshot_read.specs.Shown.{IsPlaced, Shows, ShowsHosted, StandAt, of_key}
+use Rattle.str_base.proofs.Tests.{and_true_left}
 use Rattle.str_base.specs.declared.names.KeyId.{KeyId}
 use Rattle.str_base.specs.declared.names.Kind.TheVariants.{Pre}
 use Rattle.str_base.specs.declared.names.NodeId.{NodeId}
@@ -97,8 +98,8 @@ unseen_elsewhere k test cached store e t =
 pub served_seen : (view : View) (store : List Version) (k : KeyId) (r : ℕ) → ShowsHosted view store k → serve_turn store k r ≡ serve_turn view.versions k r
 unfolding serve_turn
 served_seen view store k r s =
-    let undecided = ap (λ vs. last_or None vs) (unseen_elsewhere k (λ v. same_key v.key k && (nat_le v.ts.0 r && is_undecided v.kind)) s.cached store s.elsewhere (λ v e. first_of_two _ _ e)) in
-    let seen = ap (λ vs. last_or None vs) (unseen_elsewhere k (λ v. same_key v.key k && nat_le v.ts.0 r) s.cached store s.elsewhere (λ v e. first_of_two _ _ e)) in
+    let undecided = ap (λ vs. last_or None vs) (unseen_elsewhere k (λ v. same_key v.key k && (nat_le v.ts.0 r && is_undecided v.kind)) s.cached store s.elsewhere (λ v e. and_true_left _ _ e)) in
+    let seen = ap (λ vs. last_or None vs) (unseen_elsewhere k (λ v. same_key v.key k && nat_le v.ts.0 r) s.cached store s.elsewhere (λ v e. and_true_left _ _ e)) in
     ap (λ o. serve_after store k r o) (sym undecided) ∙ by_last (last_undecided (merged s.cached store) k r) seen ∙ ap (λ vs. serve_after vs k r (last_undecided vs k r)) (sym s.versions)
   where
     by_last : (o : Option Version) → visible (merged s.cached store) k r ≡ visible store k r → serve_after store k r o ≡ serve_after (merged s.cached store) k r o
