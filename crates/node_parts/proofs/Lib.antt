@@ -1,0 +1,4 @@
+pub mod Naming
+pub mod Posting
+pub mod Mapping
+pub mod Committing

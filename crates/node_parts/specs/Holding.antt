@@ -2,8 +2,13 @@
 use Rattle.std.specs.Prelude.{List, ℕ, ◌≡◌, ◌≤◌}
 use Rattle.node_parts.specs.declared.held.Held.{Held}
 use Rattle.snapshot_read.specs.Shown.{StandAt}
+use Rattle.str_base.specs.declared.names.Kind.TheVariants.{Local}
+use Rattle.str_base.specs.declared.names.Ts.{Ts}
+use Rattle.str_base.specs.declared.names.TxId.{TxId}
+use Rattle.str_base.specs.declared.names.Version.{Version}
+use Rattle.str_base.specs.declared.names.Write.{Write}
 use Rattle.str_model.specs.Views.{Own, View}
-use Rattle.str_scene.specs.Scenes.{Here, map_of}
+use Rattle.str_scene.specs.Scenes.{Here, map_of, part_of}
 use Rattle.version_chain.specs.ChainLists.{merged}
 
 -- both stores are of the node, with the partitions that it hosts
@@ -35,3 +40,7 @@ pub record SameHeld (old new : Held) : Type 0 where
   pub done : new.done.pairs ≡ old.done.pairs
   pub waiters : new.parked.waiters ≡ old.parked.waiters
   pub room : (n : ℕ) → HasRoom n old → HasRoom n new
+
+-- the Local version that a write of the transaction becomes
+abbrev pub own_version : Here → TxId → Ts → Write → Version
+own_version here tx lc w = record { key = w.key; part = part_of here.scene w.key; tx = tx; ts = lc; value = w.value; kind = Local }

@@ -1,19 +1,19 @@
 //! The messages that a node sends.
 
 ghost use Rattle.partition_map.specs.Maps.{HasKey, HasPart};
-ghost use Rattle.node_parts.specs.Letters.{Sends};
+ghost use Rattle.node_parts.specs.Letters.{Sends, marks_by};
 ghost use Rattle.std.specs.Prelude.{◌≡◌, ◌<◌, ◌≤◌, ◌+◌, ◌∷◌, [], ℕ, Some, filter, length, slice_get};
 ghost use Rattle.str_base.specs.declared.names.Write.{Write as AWrite};
-ghost use Rattle.str_base.specs.Versions.{stamp};
-ghost use Rattle.str_model.specs.Acts.{abort_letters, ask_letters, asked_ones, commit_letters, copies, marks_in};
+ghost use Rattle.str_base.specs.Versions.{same_part, stamp};
+ghost use Rattle.str_model.specs.Acts.{abort_letters, ask_letters, asked_ones, commit_letters, copies};
 ghost use Rattle.str_model.specs.Views.{Own, View, letter, name_of};
-ghost use Rattle.str_scene.specs.Scenes.{Here, in_part, map_of, replicas};
+ghost use Rattle.str_scene.specs.Scenes.{Here, in_part, map_of, part_of, replicas};
 
 use crate::sending::Sending;
 use crate::sites::Site;
 use last_reader::Marks;
 use partition_map::Participants;
-use str_base::{NodeId, PartId, Ts, TxId, Writes};
+use str_base::{KeyId, NodeId, PartId, Ts, TxId, Writes};
 use str_model::{Arrived, Body, KeyMark, KeyMarks, Message};
 
 /// Sends a message of the node.
@@ -41,6 +41,14 @@ pub fn send_aborts(site: &Site, tx: TxId, parts: &Participants, out: &mut Sendin
     }
 }
 
+/// Whether a key is of a partition.
+fn is_in(site: &Site, part: PartId, key: KeyId) -> bool
+    requires { HasKey (map_of site.now.scene) key }
+    ensures { result ≡ same_part (part_of site.now.scene key) part }
+{
+    site.map().part_of(key) == part
+}
+
 /// The writes of a partition, in order of first write.
 fn writes_in(site: &Site, part: PartId, writes: &Writes) -> Writes
     requires { (i : ℕ) (w : AWrite) → slice_get writes.now i ≡ Some w → HasKey (map_of site.now.scene) w.key }
@@ -48,7 +56,7 @@ fn writes_in(site: &Site, part: PartId, writes: &Writes) -> Writes
 {
     let mut list = Writes::new();
     for write in writes.as_slice() {
-        if site.map().part_of(write.key) == part {
+        if is_in(site, part, write.key) {
             list.push(*write);
         }
     }
@@ -59,11 +67,11 @@ fn writes_in(site: &Site, part: PartId, writes: &Writes) -> Writes
 fn marks_in(site: &Site, marks: &Marks, part: PartId, writes: &Writes) -> KeyMarks
     requires keys { (i : ℕ) (w : AWrite) → slice_get writes.now i ≡ Some w → HasKey (map_of site.now.scene) w.key }
     requires marked { (i : ℕ) (w : AWrite) → slice_get writes.now i ≡ Some w → w.key.0 < length marks.now }
-    ensures { (view : View) → view.marks ≡ marks.now → result ≡ marks_in site.now view part writes.now }
+    ensures { result ≡ marks_by site.now marks.now part writes.now }
 {
     let mut list = KeyMarks::new();
     for write in writes.as_slice() {
-        if site.map().part_of(write.key) == part {
+        if is_in(site, part, write.key) {
             list.push(KeyMark {
                 key: write.key,
                 mark: marks.mark(write.key),

@@ -1,6 +1,7 @@
 //! What a step sends and releases.
 ghost use Rattle.node_parts.specs.Sending.{OutState, Outgoing};
-ghost use Rattle.std.specs.Prelude.{◌≡◌, ◌<◌, ◌≤◌, ◌+◌, ◌++◌, ◌∷◌, [], length};
+ghost use Rattle.std.specs.Prelude.{◌≡◌, ◌<◌, ◌≤◌, ◌+◌, ◌++◌, ◌∷◌, [], drop, length, take};
+ghost use Rattle.std.specs.List.{insert};
 ghost use Rattle.str_model.specs.Views.{release as released};
 
 use crate::outbox::Outbox;
@@ -91,18 +92,26 @@ impl Sending {
         ensures stays { (self.new.earlier ≡ self.old.earlier) × (self.new.answered ≡ self.old.answered) × (self.new.sent ≡ self.old.sent) }
         ensures space { self.old.space ≤ self.new.space + 1 }
     {
-        let mut k = self.released_from;
-        while k < self.answers.len() {
-            if answer.tx.seq < self.answers[k].tx.seq {
-                break;
-            }
-            k += 1;
-        }
+        let k = place_of(&self.answers, self.released_from, &answer);
         match self.answers.insert(k, answer) {
             Ok(()) => {}
             Err(_) => unreachable!(),
         }
     }
+}
+
+/// The place of an answer among those from `first` on: before the first of a greater number.
+fn place_of(answers: &[Answer], first: usize, answer: &Answer) -> usize
+    requires { first ≤ length answers.now }
+    ensures within { result ≤ length answers.now }
+    ensures place { insert answers.now result answer.now ≡ take first answers.now ++ released answer.now (drop first answers.now) }
+{
+    for k in first..answers.len() {
+        if answer.tx.seq < answers[k].tx.seq {
+            return k;
+        }
+    }
+    answers.len()
 }
 
 fn sendable<T: Send + Sync>(_: &T) {}

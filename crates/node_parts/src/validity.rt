@@ -170,7 +170,7 @@ fn is_written_in(writes: &[Write], key: KeyId) -> bool
     ensures { result ≡ list_any (same_key key) (map (λ (w : AWrite). w.key) writes.now) }
 {
     for write in writes {
-        if write.key == key {
+        if key == write.key {
             return true;
         }
     }
@@ -199,9 +199,165 @@ fn is_marked_in(marks: &[KeyMark], key: KeyId) -> bool
     ensures { result ≡ list_any (same_key key) (map (λ (m : AMark). m.key) marks.now) }
 {
     for mark in marks {
-        if mark.key == key {
+        if key == mark.key {
             return true;
         }
     }
     false
+}
+
+#[cfg(test)]
+mod tests {
+    use super::*;
+    use partition_map::PartRow;
+    use std::alloc::Global;
+    use std::test::Fail;
+    use str_base::TextId;
+    use str_scene::{Op, OpList, Scene, SceneBuild, SceneFault};
+
+    /// Nodes 1 and 2, with a partition each: key 0 is of partition 1, and key 1 of partition 2. There is one byte string.
+    fn two_nodes(alloc: Global) -> Result<Scene, SceneFault> {
+        let mut build = SceneBuild::new(alloc, 2);
+        build.nodes(2)?;
+        for node in [1, 2] {
+            let mut row = PartRow::new();
+            row.push(NodeId(node));
+            build.part(row)?;
+        }
+        build.session(NodeId(1))?;
+        let first = build.key(b"a", PartId(1))?;
+        let second = build.key(b"b", PartId(2))?;
+        let text = build.text(b"x")?;
+        for op in [Op::Put(first, 5), Op::Puts(second, text)] {
+            let mut ops = OpList::new();
+            ops.push(op);
+            build.tx(ops)?;
+        }
+        build.drain()?;
+        build.finish()
+    }
+
+    fn tx(node: u8) -> TxId {
+        TxId {
+            node: NodeId(node),
+            seq: 3,
+        }
+    }
+
+    fn request(node: u8, key: u32, rs: u64) -> Body {
+        Body::ReadReq {
+            tx: tx(node),
+            key: KeyId(key),
+            rs: Ts(rs),
+        }
+    }
+
+    fn reply(value: Value, by: Option<TxId>) -> Body {
+        Body::ReadReply {
+            tx: tx(1),
+            key: KeyId(0),
+            value,
+            by,
+            fc: Ts(7),
+        }
+    }
+
+    fn prepare(part: u8, keys: &[u32], value: Value) -> Body {
+        let mut writes = Writes::new();
+        for key in keys {
+            if writes.len() < 16 {
+                let key = KeyId(*key);
+                writes.push(Write { key, value });
+            }
+        }
+        Body::Prepare {
+            tx: tx(2),
+            part: PartId(part),
+            rs: Ts(7),
+            lc: Ts(8),
+            writes,
+        }
+    }
+
+    fn refuse(part: u8, by: u8, key: u32) -> Body {
+        Body::Refuse {
+            tx: tx(1),
+            part: PartId(part),
+            by: tx(by),
+            key: KeyId(key),
+        }
+    }
+
+    fn commit(part: u8, keys: &[u32], mark: u64) -> Body {
+        let mut marks = KeyMarks::new();
+        for key in keys {
+            if marks.len() < 16 {
+                marks.push(KeyMark {
+                    key: KeyId(*key),
+                    mark: Ts(mark),
+                });
+            }
+        }
+        Body::Commit {
+            tx: tx(2),
+            part: PartId(part),
+            fc: Ts(7),
+            marks,
+        }
+    }
+
+    fn ack(part: u8, ts: u64) -> Body {
+        Body::Ack {
+            tx: tx(1),
+            part: PartId(part),
+            ts: Ts(ts),
+        }
+    }
+
+    #[test]
+    fn strange_messages_are_told(rt: HostRuntime) -> Result<(), Fail> {
+        let scene = two_nodes(rt.alloc())?;
+        if scene.nodes() == 0 {
+            return Err("a node".into());
+        }
+        let site = Site::new(rt.alloc(), NodeId(1), &scene)?;
+        let text = Value::Text(TextId(0));
+        let cases = [
+            (request(2, 1, 7), true),
+            (request(3, 1, 7), false),
+            (request(2, 2, 7), false),
+            (request(2, 1, TS_LIMIT), false),
+            (reply(text, Some(tx(2))), true),
+            (reply(Value::Text(TextId(1)), None), false),
+            (reply(Value::Absent, Some(tx(0))), false),
+            (prepare(1, &[0], text), true),
+            (prepare(1, &[], text), false),
+            (prepare(1, &[1], text), false),
+            (prepare(1, &[0, 0], text), false),
+            (prepare(3, &[0], text), false),
+            (refuse(2, 2, 1), true),
+            (refuse(2, 3, 1), false),
+            (commit(2, &[1], 9), true),
+            (commit(2, &[], 9), true),
+            (commit(2, &[1, 1], 9), false),
+            (commit(2, &[1], TS_LIMIT), false),
+            (ack(2, TS_LIMIT - 1), true),
+            (ack(0, 9), false),
+        ];
+        for (body, want) in cases {
+            let message = Message {
+                sender: NodeId(2),
+                receiver: NodeId(1),
+                body,
+            };
+            assert_eq!(rt; is_valid(&site, &message), want);
+        }
+        let message = Message {
+            sender: NodeId(2),
+            receiver: NodeId(2),
+            body: ack(2, 9),
+        };
+        assert!(rt; !is_valid(&site, &message));
+        Ok(())
+    }
 }
