@@ -52,20 +52,22 @@ or_right false b e = e
 -- a written partition that passes the test is among them
 pub among_where : (here : Here) (test : PartId → Bool) (ws : List Write) (q : PartId) → test q ≡ true → maps.is_written (maps.part_of (map_of here.scene)) ws q ≡ true → is_among (parts_where here test ws) q ≡ true
 among_where here test [] q t e = absurd (cc e)
-among_where here test (w ∷ ws) q t e = by_first (same_part p q) refl (ap (λ (r : PartId). same_part r q || maps.is_written (maps.part_of (map_of here.scene)) ws q) (sym (part-mapped here.scene w.key)) ∙ e)
+among_where here test (w ∷ ws) q t e =
+    by_first (same_part (part_of here.scene w.key) q) refl
+    (ap (λ (r : PartId). same_part r q || maps.is_written (maps.part_of (map_of here.scene)) ws q) (sym (part-mapped here.scene w.key)) ∙ e)
+    (λ h. among_where here test ws q t h)
   where
-    p : PartId
-    p = part_of here.scene w.key
-
-    by_kept : (a : Bool) → is_among (parts_where here test ws) q ≡ true → is_among (map (λ (u : Write). part_of here.scene u.key) (if a then w ∷ filter (λ (u : Write). test (part_of here.scene u.key)) ws else filter (λ (u : Write). test (part_of here.scene u.key)) ws)) q ≡ true
+    by_kept : (a : Bool) → is_among (parts_where here test ws) q ≡ true
+        → is_among (map (λ (u : Write). part_of here.scene u.key) (if a then w ∷ filter (λ (u : Write). test (part_of here.scene u.key)) ws else filter (λ (u : Write). test (part_of here.scene u.key)) ws)) q ≡ true
     by_kept true h = or_right (same_part (part_of here.scene w.key) q) _ h
     by_kept false h = h
 
-    by_first : (a : Bool) → same_part (part_of here.scene w.key) q ≡ a → (a || maps.is_written (maps.part_of (map_of here.scene)) ws q) ≡ true → is_among (parts_where here test (w ∷ ws)) q ≡ true
-    by_first true s h =
+    by_first : (a : Bool) → same_part (part_of here.scene w.key) q ≡ a → (a || maps.is_written (maps.part_of (map_of here.scene)) ws q) ≡ true
+        → (maps.is_written (maps.part_of (map_of here.scene)) ws q ≡ true → is_among (parts_where here test ws) q ≡ true) → is_among (parts_where here test (w ∷ ws)) q ≡ true
+    by_first true s h rec =
         let k : test (part_of here.scene w.key) ≡ true = ap (λ (n : ℕ). test (record { 0 = n })) (eqb-true (part_of here.scene w.key).0 q.0 s) ∙ t in
         rw (k, s) refl
-    by_first false s h = by_kept (test (part_of here.scene w.key)) (among_where here test ws q t h)
+    by_first false s h rec = by_kept (test (part_of here.scene w.key)) (rec h)
 
 -- ---- in the store
 
@@ -94,11 +96,12 @@ same_back m n e = search (rules, tests)
 
 turned : (q : PartId) (ps : List PartId) → is_among ps q ≡ true → list_any (λ p. same_part q p) ps ≡ true
 turned q [] e = absurd (cc e)
-turned q (p ∷ ps) e = by_first (same_part p q) refl e
+turned q (p ∷ ps) e = by_first (same_part p q) refl e (λ h. turned q ps h)
   where
-    by_first : (a : Bool) → same_part p q ≡ a → (a || is_among ps q) ≡ true → (same_part q p || list_any (λ r. same_part q r) ps) ≡ true
-    by_first true s h = rw (same_back p.0 q.0 s) refl
-    by_first false s h = or_right (same_part q p) _ (turned q ps h)
+    by_first : (a : Bool) → same_part p q ≡ a → (a || is_among ps q) ≡ true → (is_among ps q ≡ true → list_any (λ r. same_part q r) ps ≡ true)
+        → (same_part q p || list_any (λ r. same_part q r) ps) ≡ true
+    by_first true s h rec = rw (same_back p.0 q.0 s) refl
+    by_first false s h rec = or_right (same_part q p) _ (rec h)
 
 -- all at once
 pub stored_all : (here : Here) (tx : TxId) (fc : ℕ) (ws : List Write) (store : StoreList) → IsStore store → ((p : PartId) → is_among store.hosted p ≡ maps.hosts (map_of here.scene) here.node p)

@@ -3,6 +3,7 @@ use Rattle.std.proofs.Common.{List, [], ap, arith, cond, false, filter, if◌the
 use Rattle.std.proofs.lemmas.List.{length-map}
 use Rattle.node_parts.specs.Sending.{Outgoing}
 use Rattle.partition_map.specs.Maps.{first_or, leads, others}
+use Rattle.str_base.proofs.Lists.{length-filter-le}
 use Rattle.str_base.specs.declared.names.NodeId.{NodeId}
 use Rattle.str_base.specs.declared.names.PartId.{PartId}
 use Rattle.str_base.specs.declared.names.Ts.{Ts}
@@ -32,15 +33,6 @@ leads_row [] n m b f e =
     absurd (omega (arith, clash))
 leads_row (r ∷ rows) n m b f e = ap (λ (k : NodeId). same_node k n) (sym (f n)) ∙ e
 
--- a filter takes none in
-fewer : (test : NodeId → Bool) (rows : List NodeId) → length (filter test rows) ≤ length rows
-fewer test [] = omega arith
-fewer test (r ∷ rows) = by_test (test r) (fewer test rows)
-  where
-    by_test : (b : Bool) → length (filter test rows) ≤ length rows → length (if b then r ∷ filter test rows else filter test rows) ≤ length (r ∷ rows)
-    by_test true h = omega (arith, h)
-    by_test false h = omega (arith, h)
-
 -- a transaction whose writes are these
 abbrev writer : List Write → Own
 writer ws =
@@ -53,7 +45,7 @@ module _ (here : Here) (ws : List Write) (p : PartId) (lc n : ℕ) (rows : List 
       let all = rw e at (room 0 (writer ws) refl) in
       let some : length (copies here a rows) ≡ length (others a.tx.node (others here.node rows)) = length-map (others a.tx.node (others here.node rows)) _ in
       let fits : length (others here.node rows) ≤ n = rw length-map at all in
-      omega (arith, some, fits, fewer (λ r. not (same_node r a.tx.node)) (others here.node rows))
+      omega (arith, some, fits, length-filter-le (λ r. not (same_node r a.tx.node)) (others here.node rows))
 
   -- there is space for a Prepare
   pub prepare_room : leads here.node rows ≡ false → 1 ≤ n

@@ -1,4 +1,4 @@
-use Rattle.std.proofs.Common.{ap, arith, map, refl, sym, ◌∙◌}
+use Rattle.std.proofs.Common.{ap, arith, drop, map, refl, sym, ◌+◌, ◌∙◌}
 use Rattle.std.proofs.lemmas.List.{drop_all}
 use Rattle.node_parts.proofs.Committing.{cached_apart, distinct_apart, merged_step, next_version, none_apart, stored_apart}
 use Rattle.node_parts.specs.Holding.{own_version}
@@ -44,15 +44,16 @@ loop-write-preserved c =
     let was = c.loop-write.invariant in
     let done = c.insert_own.ensures in
     let next = next_version c.args.site.now c.args.tx c.args.lc c.as_slice-write-items.result.now c.loop-write.write-index _ c.local_version.result c.loop-write-test.true c.local_version.ensures in
+    let rest = map (own_version c.args.site.now c.args.tx c.args.lc) (drop (c.loop-write.write-index + 1) c.as_slice-write-items.result.now) in
     let apart = rw next at was.apart in
     let stored = rw next at was.stored in
     let cached = rw next at was.cached in
-    let rest = rw next at was.merged in
+    let both = rw next at was.merged in
     record {
       apart = apart.1;
-      stored = stored_apart c.local_version.result _ _ c.loop-write.store.versions _ done.store apart stored;
-      cached = cached_apart c.local_version.result _ _ c.loop-write.cache.versions _ done.cache apart cached;
-      merged = merged_step c.local_version.result _ _ c.loop-write.cache.versions c.loop-write.store.versions _ _ _ done.store done.cache cached.0 rest;
+      stored = stored_apart c.local_version.result rest _ c.loop-write.store.versions _ done.store apart stored;
+      cached = cached_apart c.local_version.result rest _ c.loop-write.cache.versions _ done.cache apart cached;
+      merged = merged_step c.local_version.result rest _ c.loop-write.cache.versions c.loop-write.store.versions _ _ _ done.store done.cache cached.0 both;
       store_here = (done.store_here.0 ∙ was.store_here.0, done.store_here.1 ∙ was.store_here.1);
       cache_here = (done.cache_here.0 ∙ was.cache_here.0, done.cache_here.1 ∙ was.cache_here.1);
       store_spare = omega (arith, done.store_spare, was.store_spare);
