@@ -50,13 +50,7 @@ pub fn commit_all(
 }
 
 /// Commits what a transaction wrote in a partition.
-fn commit_part(
-    tx: TxId,
-    part: PartId,
-    fc: Ts,
-    store: &mut ReplicaStore,
-    cache: &mut CachePartition,
-)
+fn commit_part(tx: TxId, part: PartId, fc: Ts, store: &mut ReplicaStore, cache: &mut CachePartition)
     ensures store { store.new.versions ≡ (if is_among store.old.hosted part then finalise (of_pair tx part) fc.0 store.old.versions else store.old.versions) }
     ensures cache { cache.new.versions ≡ (if is_among store.old.hosted part then cache.old.versions else without (of_pair tx part) cache.old.versions) }
     ensures store_here { StoreStays store.old store.new }
