@@ -9,36 +9,49 @@ ghost use Rattle.str_scene.specs.Scenes.{map_of, nth, script_at};
 use partition_map::{PartRow, PartitionMap};
 use std::alloc::{AllocError, Global};
 use std::marker::{Model, Send, Sync};
+use std::sync::Arc;
 use str_base::{KeyId, NodeId, PartId, SessionId};
 use str_scene::{OpList, Scene, TxPlace};
 
-/// A node's place in a scene: the scene, one of its nodes, and the map of its partitions. It is seen as the scene and the node.
+/// A node's place in a scene: the scene, one of its nodes, and the map of its partitions. It is seen as the scene and the node. Places that are
+/// made beside one another share the scene and the map.
 #[derive(Drop)]
 pub struct Site {
     id: NodeId,
-    scene: Scene,
-    map: PartitionMap,
+    scene: Arc<Scene, Global>,
+    map: Arc<PartitionMap, Global>,
 }
 
 impl Model for Site {
     ghost use Rattle.node_parts.specs.Sites.{IsSite};
+    ghost use Rattle.std.specs.Arc.{arc_value};
     ghost use Rattle.str_scene.specs.Scenes.{Here};
 
     ghost Value = { Here };
 
-    ghost view = { λ s. record { scene = s.scene; node = s.id } };
+    ghost view = { λ s. record { scene = arc_value s.scene; node = s.id } };
 
-    ghost invariant = { λ s. IsSite s.scene s.id s.map };
+    ghost invariant = { λ s. IsSite (arc_value s.scene) s.id (arc_value s.map) };
 }
 
 impl Site {
-    /// A node of a scene. It fails where memory runs out.
+    /// A node of a scene, which is copied. It fails where memory runs out.
     pub fn new(alloc: Global, id: NodeId, scene: &Scene) -> Result<Site, AllocError>
         requires { has_node (record { scene = scene.now; node = id }) id ≡ true }
         ensures { IfOk result (λ s. s ≡ record { scene = scene.now; node = id }) }
     {
-        let map = map_of(alloc, scene)?;
-        let scene = scene.copy(alloc)?;
+        let map = Arc::new(alloc, map_of(alloc, scene)?)?;
+        let scene = Arc::new(alloc, scene.copy(alloc)?)?;
+        Ok(Site { id, scene, map })
+    }
+
+    /// The place of another node in the same scene, which is shared and not copied. It fails where memory runs out.
+    pub fn beside(&self, id: NodeId) -> Result<Site, AllocError>
+        requires { has_node (record { scene = self.now.scene; node = id }) id ≡ true }
+        ensures { IfOk result (λ s. s ≡ record { scene = self.now.scene; node = id }) }
+    {
+        let map = Arc::try_clone(&self.map)?;
+        let scene = Arc::try_clone(&self.scene)?;
         Ok(Site { id, scene, map })
     }
 
