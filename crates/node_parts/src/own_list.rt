@@ -1,5 +1,5 @@
 //! A node's own transactions.
-ghost use Rattle.node_parts.specs.Owning.{IsFree, Looked, Named, OwnHas, is_told, open_from, told_again, told_also, told_no_more, turned};
+ghost use Rattle.node_parts.specs.Owning.{HasPlace, IsFree, Looked, Named, OwnHas, is_told, open_from, told_again, told_also, told_no_more, turned};
 ghost use Rattle.node_parts.specs.Phases.{number_if, phase_of};
 ghost use Rattle.snapshot_read.specs.Shown.{told_from};
 ghost use Rattle.std.specs.Prelude.{◌≡◌, ◌<◌, ◌≤◌, ◌+◌, ◌-◌, ◌^◌, ◌++◌, ◌∷◌, ◌==◌, ◌⊎◌, [], ℕ, IfOk, MatchOption, None, Some, false, filter, length, map, not, slice_get, slice_set, true, vec_capacity, vec_len};
@@ -162,7 +162,7 @@ impl OwnList {
 
     /// Does the next operation of the script of one that is Active.
     pub fn operate(&mut self, i: usize, ops: &OpList) -> Turn
-        requires { OwnHas (λ x. IsFree x × (length x.gets < 16)) i self.old.all }
+        requires { OwnHas (λ x. IsFree x × HasPlace ops.now x) i self.old.all }
         ensures turn { (x : Own) → slice_get self.old.all i ≡ Some x → result ≡ (turn_of ops.now (run_of x)).turn }
         ensures own { (x : Own) → slice_get self.old.all i ≡ Some x → self.new ≡ record self.old { all = slice_set self.old.all i (turned (turn_of ops.now (run_of x)) x) } }
     {

@@ -1,6 +1,6 @@
 //! An own transaction.
 ghost use Rattle.dependency_set.specs.Snapshots.{Snap as SnapValue};
-ghost use Rattle.node_parts.specs.Owning.{IsFree, Named, turned};
+ghost use Rattle.node_parts.specs.Owning.{HasPlace, IsFree, Named, turned};
 ghost use Rattle.node_parts.specs.Phases.{number_if, phase_of};
 ghost use Rattle.std.specs.Prelude.{◌≡◌, ◌<◌, ◌≤◌, ◌++◌, ◌∷◌, [], MatchOption, None, Some, false, length, true};
 ghost use Rattle.str_base.specs.Versions.{stamp};
@@ -112,7 +112,7 @@ impl OwnTx {
     /// with a wish.
     pub(crate) fn operate(&mut self, ops: &OpList) -> Turn
         requires free { IsFree self.old.own }
-        requires gets { length self.old.own.gets < 16 }
+        requires gets { HasPlace ops.now self.old.own }
         ensures turn { result ≡ (turn_of ops.now (run_of self.old.own)).turn }
         ensures own { self.new.own ≡ turned (turn_of ops.now (run_of self.old.own)) self.old.own }
         ensures tx { self.new.tx ≡ self.old.tx }
