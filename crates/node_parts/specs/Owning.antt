@@ -17,7 +17,7 @@ use Rattle.str_model.specs.Clients.{last_index, of_session}
 use Rattle.str_model.specs.declared.names.Got.{Got}
 use Rattle.str_model.specs.NodeFacts.{how_many}
 
-use Rattle.str_model.specs.Turns.{dep_turn, left_by}
+use Rattle.str_model.specs.Turns.{CommittedAt, Fate, Gone, Open, dep_turn, left_by}
 use Rattle.str_model.specs.Views.{Active, Closing, Own, is_decided, lc_of}
 use Rattle.str_scene.specs.declared.names.Op.{Op}
 use Rattle.str_scene.specs.declared.names.TxPlace.{TxPlace}
@@ -110,6 +110,12 @@ pub record IsOwnList (node : NodeId) (names : List Named) (open_ : List ℕ) (to
 -- there is such a transaction at the place
 abbrev pub OwnHas : (Own → Type 0) → ℕ → List Own → Type 0
 OwnHas P i own = (x : Own) × (slice_get own i ≡ Some x) × P x
+
+-- it has committed or aborted
+abbrev pub is_closed : Fate → Bool
+is_closed Open = false
+is_closed (CommittedAt fc) = true
+is_closed Gone = true
 
 -- the look at the dependencies of a transaction: what it came to, and the snapshot that it leaves
 pub record Looked (old new : List Own) (i : ℕ) (x : Own) (t : DepTurn) : Type 0 where

@@ -1,0 +1,1 @@
+-- What a turn of its script leaves of an own transaction.
