@@ -2,8 +2,8 @@
 ghost use Rattle.node_parts.specs.Owning.{HasPlace, IsFree, Looked, Named, OwnHas, is_closed, is_told, open_from, told_again, told_also, told_no_more, turned};
 ghost use Rattle.node_parts.specs.Phases.{number_if, phase_of};
 ghost use Rattle.snapshot_read.specs.Shown.{told_from};
-ghost use Rattle.std.specs.Prelude.{◌≡◌, ◌<◌, ◌≤◌, ◌+◌, ◌-◌, ◌^◌, ◌++◌, ◌∷◌, ◌==◌, ◌⊎◌, [], ℕ, IfOk, MatchOption, None, Some, false, filter, length, map, not, slice_get, slice_set, true, vec_capacity, vec_len};
-ghost use Rattle.std.specs.List.{list_any};
+ghost use Rattle.std.specs.Prelude.{◌≡◌, ◌<◌, ◌≤◌, ◌+◌, ◌-◌, ◌^◌, ◌++◌, ◌∷◌, ◌==◌, ◌⊎◌, [], ℕ, IfOk, MatchOption, None, Some, false, filter, length, map, nat_lt, not, slice_get, slice_set, true, vec_capacity, vec_len};
+ghost use Rattle.std.specs.List.{list_any, position_or_len};
 ghost use Rattle.str_base.specs.Versions.{stamp};
 ghost use Rattle.str_model.specs.Acts.{decided_as, fresh, in_phase, with_asked};
 ghost use Rattle.str_model.specs.Clients.{last_index, of_session};
@@ -203,7 +203,7 @@ impl OwnList {
         let fates = fates(self.all.as_slice(), deps);
         let own = &mut self.all[i];
         let turn = own.resolve(fates.as_slice());
-        tell_again(&mut self.told, i as u32 + 1, own.snap());
+        tell_again(&mut self.told, own.tx().seq, own.snap());
         turn
     }
 
@@ -214,7 +214,7 @@ impl OwnList {
         ensures { (x : Own) → slice_get self.old.all i ≡ Some x → self.new ≡ record self.old { all = slice_set self.old.all i (record x { snap = snap; parts = parts; phase = Views.Local lc.0 }) } }
     {
         let told = OwnSnap {
-            seq: i as u32 + 1,
+            seq: self.all[i].tx().seq,
             snap: snap.copy(),
         };
         tell(&mut self.told, told);
@@ -326,17 +326,23 @@ fn tell(told: &mut Vec<OwnSnap>, own: OwnSnap)
     ensures told { told.new.items ≡ told_also own told.old.items }
     ensures capacity { vec_capacity told.old ≤ vec_capacity told.new }
 {
-    let mut k = 0;
-    while k < told.len() {
-        if own.seq < told[k].seq {
-            break;
-        }
-        k += 1;
-    }
+    let k = place_above(told.as_slice(), own.seq);
     match told.insert(k, own) {
         Ok(()) => {}
         Err(_) => unreachable!(),
     }
+}
+
+/// The place of the first with a greater number, how many there are where there is none.
+fn place_above(told: &[OwnSnap], seq: u32) -> usize
+    ensures { result ≡ position_or_len (λ y. nat_lt seq y.seq) told.now }
+{
+    for k in 0..told.len() {
+        if seq < told[k].seq {
+            return k;
+        }
+    }
+    told.len()
 }
 
 /// Tells another snapshot of the one with this number, where it is told of.

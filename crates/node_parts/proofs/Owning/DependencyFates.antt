@@ -1,5 +1,5 @@
 -- What became of dependencies, as it is told, and the snapshot that a look at them leaves.
-use Rattle.std.proofs.Common.{Bool, List, None, Option, Some, [], ap, arith, eq-eqb, eqb-true, false, find, if◌then◌else◌, map, not, refl, slice_get, subst, suc, sym, true, zero, ℕ, ◌++◌, ◌+◌, ◌-◌, ◌==◌, ◌∙◌, ◌∷◌, ◌≡◌}
+use Rattle.std.proofs.Common.{Bool, List, None, Option, Some, [], ap, arith, eq-eqb, eqb-true, false, find, if◌then◌else◌, map, not, refl, slice_get, slice_set, subst, suc, sym, true, zero, ℕ, ◌++◌, ◌+◌, ◌-◌, ◌==◌, ◌∙◌, ◌∷◌, ◌≡◌}
 use Rattle.cascade_abort.specs.declared.fates.DepTurn.{DepTurn}
 use Rattle.cascade_abort.specs.declared.fates.DepTurn.TheVariants.{Keep, Late, Lost}
 use Rattle.cascade_abort.specs.declared.fates.Fate.{Fate}
@@ -7,11 +7,12 @@ use Rattle.cascade_abort.specs.Fates.{Names, fate_of, found_fate, kind_of, turn_
 use Rattle.dependency_set.specs.declared.names.Dep.{Dep}
 use Rattle.dependency_set.specs.Snapshots.{Snap}
 use Rattle.std.specs.List.{list_any}
+use Rattle.str_base.proofs.Lists.{set_got}
 use Rattle.str_base.proofs.Tests.{or_false_left, or_false_right}
 use Rattle.str_model.specs.Turns
 use Rattle.str_model.specs.Turns.{by_fate, dep_turn, deps_left, ffc_left, keep_also, left_by, own_fate, resolve_all}
 use Rattle.str_model.specs.Views.{Own}
-use Rattle.node_parts.specs.Owning.{is_closed}
+use Rattle.node_parts.specs.Owning.{Looked, is_closed}
 
 -- ---- fates
 
@@ -49,8 +50,12 @@ fates_name own (c ∷ ds) (f ∷ fs) h (suc i) d e = by_test (f.seq == d.seq) re
 
 -- ---- looks
 
+-- one of these dependencies is decided
+abbrev pub any_closed : List Own → List Dep → Bool
+any_closed own ds = list_any (λ (d : Dep). is_closed (own_fate (slice_get own (d.seq - 1)))) ds
+
 -- where none is decided, all stays
-all_open : (own : List Own) (rs : ℕ) (ds : List Dep) (ffc : ℕ) → list_any (λ (d : Dep). is_closed (own_fate (slice_get own (d.seq - 1)))) ds ≡ false
+all_open : (own : List Own) (rs : ℕ) (ds : List Dep) (ffc : ℕ) → any_closed own ds ≡ false
     → resolve_all own rs ds ffc ≡ Turns.Keep ffc ds
 all_open own rs [] ffc h = refl
 all_open own rs (d ∷ ds) ffc h = by_kind (own_fate (slice_get own (d.seq - 1))) (or_false_left _ _ h) (all_open own rs ds ffc (or_false_right _ _ h))
@@ -61,7 +66,7 @@ all_open own rs (d ∷ ds) ffc h = by_kind (own_fate (slice_get own (d.seq - 1))
     by_kind Turns.Gone e r = absurd (cc e)
     by_kind (Turns.CommittedAt fc) e r = absurd (cc e)
 
-pub look_open : (own : List Own) (snap : Snap) → list_any (λ (d : Dep). is_closed (own_fate (slice_get own (d.seq - 1)))) snap.deps ≡ false
+pub look_open : (own : List Own) (snap : Snap) → any_closed own snap.deps ≡ false
     → dep_turn own snap ≡ Turns.Keep snap.ffc snap.deps
 unfolding dep_turn
 look_open own snap h = all_open own snap.rs snap.deps snap.ffc h
@@ -83,3 +88,20 @@ left_is own t old new e r =
     let f : new.ffc ≡ ffc_left (dep_turn own old) = sym (told_ffc t new) ∙ ap ffc_left e in
     let d : new.deps ≡ deps_left (dep_turn own old) = sym (told_deps t new) ∙ ap deps_left e in
     λ i. record { rs = r i; ffc = f i; deps = d i }
+
+-- ---- what a look comes to
+
+-- where none is decided, nothing changes
+pub look_stays : (own : List Own) (i : ℕ) (x : Own) → slice_get own i ≡ Some x → any_closed own x.snap.deps ≡ false → Looked own own i x Keep
+look_stays own i x g h =
+    let e = look_open own x.snap h in
+    record {
+      turn = subst (λ (t : Turns.DepTurn). turn_of Keep (left_by t x.snap) ≡ t) (sym e) refl;
+      left = subst (λ (t : Turns.DepTurn). own ≡ slice_set own i (record x { snap = left_by t x.snap })) (sym e) (sym (set_got own i x g));
+    }
+
+-- else the snapshot is the one that is left
+pub look_changes : (own : List Own) (i : ℕ) (x : Own) (t : DepTurn) (new : Snap) → turn_of t new ≡ dep_turn own x.snap → new.rs ≡ x.snap.rs → Looked own (slice_set own i (record x { snap = new })) i x t
+look_changes own i x t new e r =
+    let s = left_is own t x.snap new e r in
+    record { turn = subst (λ (z : Snap). turn_of t z ≡ dep_turn own x.snap) s e; left = ap (λ (z : Snap). slice_set own i (record x { snap = z })) s }

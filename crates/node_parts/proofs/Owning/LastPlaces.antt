@@ -11,8 +11,7 @@ use Rattle.node_parts.specs.Owning.{AreLast, AreOfSessions, from_one}
 
 -- what is last of a list with one more in front
 abbrev last_step : Option ℕ → Bool → Option ℕ
-last_step (Some i) b = Some (suc i)
-last_step None b = if b then Some 0 else None
+last_step o b = elim o [ Some i ↦ Some (suc i) | None ↦ (if b then Some 0 else None) ]
 
 -- another one that passes as before
 pub last_same : {X : Type 0} (p : X → Bool) (xs : List X) (i : ℕ) (x y : X) → slice_get xs i ≡ Some x → p y ≡ p x → last_index p (slice_set xs i y) ≡ last_index p xs
@@ -42,6 +41,23 @@ last_within p (x ∷ xs) i e = by_rest (last_index p xs) (last_within p xs) e
     by_rest : (o : Option ℕ) → ((j : ℕ) → o ≡ Some j → j < length xs) → last_step o (p x) ≡ Some i → i < length (x ∷ xs)
     by_rest (Some j) h f = let z : suc j ≡ i = cc f in let l = h j refl in omega (arith, z, l)
     by_rest None h f = by_test (p x) f
+
+-- where none passes, there is none
+pub last_none : {X : Type 0} (p : X → Bool) (xs : List X) → ((i : ℕ) (x : X) → slice_get xs i ≡ Some x → p x ≡ false) → last_index p xs ≡ None
+last_none p [] h = refl
+last_none p (x ∷ xs) h = ap (λ o. last_step o (p x)) (last_none p xs (λ i y e. h (suc i) y e)) ∙ ap (last_step None) (h 0 x refl)
+
+-- none is of a session past the last one
+pub none_past : (n : ℕ) (own : List Own) (s : SessionId) → AreOfSessions n own → n ≤ s.0 → last_index (of_session s) own ≡ None
+none_past n own s h l = last_none (of_session s) own (λ i x e. ne_eqb x.place.session.0 s.0 (λ q. let k = h i x e in omega (arith, k, q, l)))
+
+-- a session with no place has no transaction
+pub none_at_zero : (last : List ℕ) (own : List Own) (s : SessionId) → AreLast last own → s.0 < length last → slice_index last s.0 ≡ 0 → last_index (of_session s) own ≡ None
+none_at_zero last own s h l e = by_last (last_index (of_session s) own) (sym (h s l) ∙ e)
+  where
+    by_last : (o : Option ℕ) → from_one o ≡ 0 → o ≡ None
+    by_last None q = refl
+    by_last (Some i) q = absurd (omega (arith, q))
 
 -- one of the same session
 pub are_last_set : (last : List ℕ) (own : List Own) (i : ℕ) (x y : Own) → AreLast last own → slice_get own i ≡ Some x → y.place ≡ x.place → AreLast last (slice_set own i y)

@@ -1,11 +1,12 @@
 -- What the type of a list of own transactions keeps, after each of its changes.
-use Rattle.std.proofs.Common.{Bool, List, None, Some, [], ap, arith, filter, length, length-append, map, not, refl, slice_get, slice_set, subst, sym, true, false, ℕ, ◌++◌, ◌+◌, ◌-◌, ◌<◌, ◌&&◌, ◌==◌, ◌^◌, ◌∙◌, ◌∷◌, ◌≡◌, ◌≤◌}
+use Rattle.std.proofs.Common.{Bool, List, None, Option, Some, [], ap, arith, filter, length, length-append, map, not, refl, slice_get, slice_set, subst, sym, true, false, ℕ, ◌++◌, ◌+◌, ◌-◌, ◌<◌, ◌&&◌, ◌==◌, ◌^◌, ◌∙◌, ◌∷◌, ◌≡◌, ◌≤◌}
+use Rattle.std.proofs.Math.Bool.{and-false}
 use Rattle.std.proofs.lemmas.List.{length-map, length-set, map-append, map-set}
 use Rattle.dependency_set.specs.declared.snaps.OwnSnap.{OwnSnap}
 use Rattle.snapshot_read.specs.Shown.{told_from}
 use Rattle.str_base.specs.declared.names.NodeId.{NodeId}
 use Rattle.str_model.specs.Views.{Own, is_decided, lc_of}
-use Rattle.node_parts.specs.Owning.{AreLast, AreOfSessions, IsOwnList, Named, is_told, open_from, told_again, told_also, told_no_more}
+use Rattle.node_parts.specs.Owning.{AreLast, AreOfSessions, IsFree, IsOwnList, Named, is_told, open_from, told_again, told_also, told_no_more}
 use Rattle.node_parts.proofs.Owning.LastPlaces.{are_last_push, are_last_set, of_sessions_push, of_sessions_set}
 use Rattle.node_parts.proofs.Owning.NamesKept.{numbered_push, numbered_set, owns, owns_at}
 use Rattle.node_parts.proofs.Owning.OpenPlaces.{open_less, open_push, open_same}
@@ -38,6 +39,18 @@ kept_same node names open_ told last i x y h e t p d s r =
     kept_set node names open_ open_ told told last i x y h e t p
     (h.open_is ∙ sym (open_same 0 (owns names) i x.own y.own g d))
     (h.told_is ∙ sym (told_same 0 (owns names) i x.own y.own g s r))
+
+-- one that was not certified is not told of
+pub free_untold : (x : Own) → IsFree x → is_told x ≡ false
+free_untold x h = ap (λ (o : Option ℕ). not (is_decided x.phase) && elim o [ None ↦ false | Some lc ↦ true ]) h.1 ∙ and-false (not (is_decided x.phase))
+
+-- one that was not certified is so as before
+pub kept_free : (node : NodeId) (names : List Named) (open_ : List ℕ) (told : List OwnSnap) (last : List ℕ) (i : ℕ) (x y : Named)
+    → IsOwnList node names open_ told last → slice_get names i ≡ Some x → y.tx ≡ x.tx → y.own.place ≡ x.own.place → IsFree x.own → IsFree y.own
+    → IsOwnList node (slice_set names i y) open_ told last
+kept_free node names open_ told last i x y h e t p f g =
+    let a = free_untold x.own f in
+    kept_same node names open_ told last i x y h e t p (g.0 ∙ sym f.0) (free_untold y.own g ∙ sym a) (λ q. absurd (cc (a, q)))
 
 -- one has another snapshot, and is as decided and told of as before
 pub kept_anew : (node : NodeId) (names : List Named) (open_ : List ℕ) (told : List OwnSnap) (last : List ℕ) (i q : ℕ) (x y : Named)
@@ -90,3 +103,9 @@ kept_push node names open_ told last y h t d s l f =
           subst (λ k. AreLast (slice_set last y.own.place.session.0 (k + 1)) (owns (names ++ y ∷ []))) n a);
       few = (let g = length-append names (y ∷ []) in omega (arith, f, g));
     }
+
+-- one that is undecided and was certified is told of
+pub certain_told : (x : Own) (lc : ℕ) → is_decided x.phase ≡ false → lc_of x.phase ≡ Some lc → is_told x ≡ true
+certain_told x lc d l =
+    ap (λ b. not b && elim (lc_of x.phase) [ None ↦ false | Some lc ↦ true ]) d
+    ∙ ap (λ (o : Option ℕ). elim o [ None ↦ false | Some lc ↦ true ]) l

@@ -1,6 +1,8 @@
 -- What is told of the certified undecided transactions, after one change of the list.
-use Rattle.std.proofs.Common.{Bool, List, None, Some, [], ap, arith, eq-eqb, false, filter, if◌then◌else◌, length, lt-ltb, map, nat_lt, not, refl, slice_get, slice_set, suc, sym, true, zero, ℕ, ◌&&◌, ◌++◌, ◌+◌, ◌<◌, ◌==◌, ◌∙◌, ◌∷◌, ◌≡◌, ◌≤◌}
+use Rattle.std.proofs.Common.{Bool, List, None, Some, [], ap, arith, drop, eq-eqb, false, filter, get_or, if◌then◌else◌, length, lt-ltb, map, nat_lt, not, refl, slice_get, slice_set, suc, sym, take, true, zero, ℕ, ◌&&◌, ◌++◌, ◌+◌, ◌<◌, ◌-◌, ◌==◌, ◌∙◌, ◌∷◌, ◌≡◌, ◌≤◌}
 use Rattle.std.proofs.lemmas.Bool.{le-ltb, ne_eqb}
+use Rattle.std.proofs.lemmas.Option.{slice_get_read}
+use Rattle.std.specs.List.{insert, position_or_len}
 use Rattle.dependency_set.specs.declared.snaps.OwnSnap.{OwnSnap}
 use Rattle.dependency_set.specs.Snapshots.{Snap}
 use Rattle.snapshot_read.specs.Shown.{told_from}
@@ -68,7 +70,7 @@ told_more n q (z ∷ xs) (suc i) x y p e f t = by_test (is_told z) (told_more (n
 -- ---- another snapshot is told
 
 -- one with the snapshot, where it has the number
-abbrev again : ℕ → Snap → OwnSnap → OwnSnap
+abbrev pub again : ℕ → Snap → OwnSnap → OwnSnap
 again q s y = if y.seq == q then record y { snap = s } else y
 
 -- of a number that all others pass nothing is told
@@ -139,3 +141,52 @@ told_less n q (z ∷ xs) (suc i) x y p e t = by_test (is_told z) (told_less (n +
         ap (λ l. record { seq = n + 1; snap = z.snap } ∷ l) r
         ∙ sym (ap (λ b. with_head (not b) n z.snap (told_no_more q (told_from (n + 1) xs))) (ne_eqb (n + 1) q (λ e. omega (arith, p, e))))
     by_test false r = r
+
+-- ---- in a list that is changed in place
+
+-- one more, from either side
+next : (n : ℕ) → suc n ≡ 1 + n
+next n = omega arith
+
+-- one more in order of number stands before the first with a greater one
+pub also_inserts : (x : OwnSnap) (ys : List OwnSnap) → told_also x ys ≡ insert ys (position_or_len (λ y. nat_lt x.seq y.seq) ys) x
+also_inserts x [] = refl
+also_inserts x (y ∷ ys) = by_test (nat_lt x.seq y.seq) (also_inserts x ys)
+  where
+    by_test : (b : Bool) → told_also x ys ≡ insert ys (position_or_len (λ y. nat_lt x.seq y.seq) ys) x
+        → (if b then x ∷ y ∷ ys else y ∷ told_also x ys) ≡ insert (y ∷ ys) (if not b then 1 + position_or_len (λ y. nat_lt x.seq y.seq) ys else 0) x
+    by_test true r = refl
+    by_test false r = ap (λ l. y ∷ l) r ∙ ap (λ n. insert (y ∷ ys) n x) (next (position_or_len (λ y. nat_lt x.seq y.seq) ys))
+
+-- that place is there
+pub place_fits : (p : OwnSnap → Bool) (ys : List OwnSnap) → position_or_len p ys ≤ length ys
+place_fits p [] = omega arith
+place_fits p (y ∷ ys) = by_test (p y) (place_fits p ys)
+  where
+    by_test : (b : Bool) → position_or_len p ys ≤ length ys → (if not b then 1 + position_or_len p ys else 0) ≤ length (y ∷ ys)
+    by_test true r = omega arith
+    by_test false r = omega (arith, r)
+
+-- the first k are changed, and the next one is
+pub mapped_next : {X : Type 0} (f : X → X) (xs : List X) (k : ℕ) (x y : X) → slice_get (take k (map f xs) ++ drop k xs) k ≡ Some x → y ≡ f x
+    → slice_set (take k (map f xs) ++ drop k xs) k y ≡ take (suc k) (map f xs) ++ drop (suc k) xs
+mapped_next f [] zero x y e t = absurd (cc e)
+mapped_next f [] (suc k) x y e t = absurd (cc e)
+mapped_next f (z ∷ xs) zero x y e t = let is : z ≡ x = cc e in ap (λ w. w ∷ xs) (t ∙ ap f (sym is))
+mapped_next f (z ∷ xs) (suc k) x y e t = ap (λ l. f z ∷ l) (mapped_next f xs k x y e t)
+
+-- the same of what is told, where one with the number has another snapshot
+pub again_next : (q : ℕ) (s : Snap) (xs now : List OwnSnap) (k : ℕ) (x y : OwnSnap) → now ≡ take k (told_again q s xs) ++ drop k xs → k < length now → x ≡ get_or now k x → y ≡ again q s x
+    → slice_set now k y ≡ take (k + 1) (told_again q s xs) ++ drop (k + 1) xs
+again_next q s xs now k x y n l v t =
+    let e : slice_get now k ≡ Some x = slice_get_read now (length now) k x refl l v in
+    let g : slice_get (take k (told_again q s xs) ++ drop k xs) k ≡ Some x = ap (λ l. slice_get l k) (sym n) ∙ e in
+    let m : suc k ≡ k + 1 = omega arith in
+    ap (λ l. slice_set l k y) n ∙ (mapped_next (again q s) xs k x y g t ∙ ap (λ m. take m (told_again q s xs) ++ drop m xs) m)
+
+-- the test of the number
+pub again_there : (q : ℕ) (s : Snap) (x : OwnSnap) → x.seq ≡ q → again q s x ≡ record x { snap = s }
+again_there q s x e = ap (λ b. if b then record x { snap = s } else x) (eq-eqb x.seq q e)
+
+pub again_other : (q : ℕ) (s : Snap) (x : OwnSnap) → (x.seq ≡ q → ⊥) → again q s x ≡ x
+again_other q s x n = ap (λ b. if b then record x { snap = s } else x) (ne_eqb x.seq q n)
