@@ -175,6 +175,12 @@ mapped_next f [] (suc k) x y e t = absurd (cc e)
 mapped_next f (z ∷ xs) zero x y e t = let is : z ≡ x = cc e in ap (λ w. w ∷ xs) (t ∙ ap f (sym is))
 mapped_next f (z ∷ xs) (suc k) x y e t = ap (λ l. f z ∷ l) (mapped_next f xs k x y e t)
 
+-- the next one is there
+pub within_next : {X : Type 0} (f : X → X) (xs : List X) (k : ℕ) → k < length xs → k < length (take k (map f xs) ++ drop k xs)
+within_next f [] k h = absurd (omega (arith, h))
+within_next f (x ∷ xs) zero h = omega arith
+within_next f (x ∷ xs) (suc k) h = let r = within_next f xs k (omega (arith, h)) in omega (arith, r)
+
 -- the same of what is told, where one with the number has another snapshot
 pub again_next : (q : ℕ) (s : Snap) (xs now : List OwnSnap) (k : ℕ) (x y : OwnSnap) → now ≡ take k (told_again q s xs) ++ drop k xs → k < length now → x ≡ get_or now k x → y ≡ again q s x
     → slice_set now k y ≡ take (k + 1) (told_again q s xs) ++ drop (k + 1) xs
