@@ -16,7 +16,6 @@ use Rattle.str_model.specs.Acts.{in_phase}
 use Rattle.str_model.specs.Clients.{last_index, of_session}
 use Rattle.str_model.specs.declared.names.Got.{Got}
 use Rattle.str_model.specs.NodeFacts.{how_many}
-
 use Rattle.str_model.specs.Turns.{CommittedAt, Fate, Gone, Open, dep_turn, left_by}
 use Rattle.str_model.specs.Views.{Active, Closing, Own, is_decided, lc_of}
 use Rattle.str_scene.specs.declared.names.Op.{Op}

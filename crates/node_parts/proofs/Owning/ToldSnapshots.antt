@@ -44,7 +44,7 @@ also_first q n s (x ∷ xs) l = by_test (is_told x) (also_first q (n + 1) s xs (
         → told_also (record { seq = q; snap = s }) (with_head b n x.snap (told_from (n + 1) xs)) ≡ record { seq = q; snap = s } ∷ with_head b n x.snap (told_from (n + 1) xs)
     by_test true r =
         ap (λ b. if b then record { seq = q; snap = s } ∷ record { seq = n + 1; snap = x.snap } ∷ told_from (n + 1) xs
-            else record { seq = n + 1; snap = x.snap } ∷ told_also (record { seq = q; snap = s }) (told_from (n + 1) xs)) (lt-ltb q (n + 1) (omega (arith, l)))
+        else record { seq = n + 1; snap = x.snap } ∷ told_also (record { seq = q; snap = s }) (told_from (n + 1) xs)) (lt-ltb q (n + 1) (omega (arith, l)))
     by_test false r = r
 
 -- one that was not told of is told of
@@ -64,7 +64,7 @@ told_more n q (z ∷ xs) (suc i) x y p e f t = by_test (is_told z) (told_more (n
     by_test true r =
         ap (λ l. record { seq = n + 1; snap = z.snap } ∷ l) r
         ∙ sym (ap (λ b. if b then record { seq = q; snap = y.snap } ∷ record { seq = n + 1; snap = z.snap } ∷ told_from (n + 1) xs
-            else record { seq = n + 1; snap = z.snap } ∷ told_also (record { seq = q; snap = y.snap }) (told_from (n + 1) xs)) (le-ltb q (n + 1) (omega (arith, p))))
+        else record { seq = n + 1; snap = z.snap } ∷ told_also (record { seq = q; snap = y.snap }) (told_from (n + 1) xs)) (le-ltb q (n + 1) (omega (arith, p))))
     by_test false r = r
 
 -- ---- another snapshot is told

@@ -18,10 +18,11 @@ invariant_of-self c =
     let r = c.requires in
     let l = lent in'.all.items c.args.i old c.args.self.now.all r.0 (ap (λ (v : OwnState). v.all) c.self.view_is) r.1 c.index_mut-own.ensures.value in
     let k = kept_decided in'.node in'.all.items in'.undecided in'.told.items in'.last.items c.args.i (c.args.i + 1) old new c.self.invariant.0 l.stands refl
-        (ap (λ (z : Named). z.tx) e) (ap (λ (z : Named). z.own.place) e) (ap (λ (z : Named). is_decided z.own.phase) e) in
-    (subst (λ (o : List ℕ). IsOwnList in'.node (slice_set in'.all.items c.args.i new) o c.forget.new.told.items in'.last.items) (sym c.without-self-inside.ensures)
-        (subst (λ (t : List OwnSnap). IsOwnList in'.node (slice_set in'.all.items c.args.i new) (filter (λ n. not (n == c.args.i)) in'.undecided) t in'.last.items) (sym c.forget.ensures.told) k),
-    omega (arith, c.self.invariant.1, c.forget.ensures.capacity))
+    (ap (λ (z : Named). z.tx) e) (ap (λ (z : Named). z.own.place) e) (ap (λ (z : Named). is_decided z.own.phase) e) in (
+      subst (λ (o : List ℕ). IsOwnList in'.node (slice_set in'.all.items c.args.i new) o c.forget.new.told.items in'.last.items) (sym c.without-self-inside.ensures)
+          (subst (λ (t : List OwnSnap). IsOwnList in'.node (slice_set in'.all.items c.args.i new) (filter (λ n. not (n == c.args.i)) in'.undecided) t in'.last.items) (sym c.forget.ensures.told) k),
+      omega (arith, c.self.invariant.1, c.forget.ensures.capacity),
+    )
 
 pub returns-clause-own : goal.returns-clause-own
 returns-clause-own c x e =

@@ -16,9 +16,11 @@ invariant_of-self c =
     let new = c.ack.new.self in
     let e = (acked_only _ c.ack.result old new c.ack.ensures).1 in
     let r = slice_get_there c.args.self.now.all c.args.i c.requires in
-    let l = lent in'.all.items c.args.i old c.args.self.now.all r.0 (ap (λ (v : OwnState). v.all) c.self.view_is) r.1 c.index_mut-own.ensures.value in
-    (kept_same _ _ _ _ _ c.args.i old new c.self.invariant.0 l.stands (ap (λ (z : Named). z.tx) e) (ap (λ (z : Named). z.own.place) e)
-        (ap (λ (z : Named). is_decided z.own.phase) e) (ap (λ (z : Named). is_told z.own) e) (λ t. ap (λ (z : Named). z.own.snap) e), c.self.invariant.1)
+    let l = lent in'.all.items c.args.i old c.args.self.now.all r.0 (ap (λ (v : OwnState). v.all) c.self.view_is) r.1 c.index_mut-own.ensures.value in (
+      kept_same _ _ _ _ _ c.args.i old new c.self.invariant.0 l.stands (ap (λ (z : Named). z.tx) e) (ap (λ (z : Named). z.own.place) e)
+          (ap (λ (z : Named). is_decided z.own.phase) e) (ap (λ (z : Named). is_told z.own) e) (λ t. ap (λ (z : Named). z.own.snap) e),
+      c.self.invariant.1,
+    )
 
 pub returns : goal.returns
 returns c x e =

@@ -17,11 +17,13 @@ invariant_of-self c =
     let l = lent in'.all.items c.args.i old c.args.self.now.all r.0 (ap (λ (v : OwnState). v.all) c.self.view_is) r.1 c.index_mut-own.ensures.value in
     let o = ap (λ (z : Own). is_decided z.phase) l.own ∙ r.2.0 in
     let n = ap (λ (z : Own). lc_of z.phase) l.own ∙ r.2.1 in
-    let p = ap (λ (z : Named). z.own.phase) e in
-    (kept_same _ _ _ _ _ c.args.i old new c.self.invariant.0 l.stands (ap (λ (z : Named). z.tx) e) (ap (λ (z : Named). z.own.place) e)
-        (ap is_decided p ∙ sym o)
-        (certain_told new.own c.args.lc.0 (ap is_decided p) (ap lc_of p) ∙ sym (certain_told old.own c.args.lc.0 o n))
-        (λ t. ap (λ (z : Named). z.own.snap) e), c.self.invariant.1)
+    let p = ap (λ (z : Named). z.own.phase) e in (
+      kept_same _ _ _ _ _ c.args.i old new c.self.invariant.0 l.stands (ap (λ (z : Named). z.tx) e) (ap (λ (z : Named). z.own.place) e)
+          (ap is_decided p ∙ sym o)
+          (certain_told new.own c.args.lc.0 (ap is_decided p) (ap lc_of p) ∙ sym (certain_told old.own c.args.lc.0 o n))
+          (λ t. ap (λ (z : Named). z.own.snap) e),
+      c.self.invariant.1,
+    )
 
 pub returns : goal.returns
 returns c x e =

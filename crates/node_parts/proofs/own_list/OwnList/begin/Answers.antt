@@ -18,8 +18,9 @@ invariant_of-self c =
     let b : c.push.new.self ≡ in'.undecided ++ length names ∷ [] = c.push.ensures ∙ ap (λ (m : ℕ). in'.undecided ++ m ∷ []) n in
     let there : s < length in'.last.items = omega (arith, ap (λ (v : OwnState). v.sessions) c.self.view_is, c.requires.session) in
     let few : length names < 2 ^ 32 - 2 = omega (arith, ap (λ (v : OwnState). length v.all) c.self.view_is, length-map names (λ (x : Named). x.own), c.requires.few) in
-    let k = kept_push in'.node names in'.undecided in'.told.items in'.last.items y c.self.invariant.0 refl refl refl there few in
-    (subst (λ (l : List Named). IsOwnList in'.node l c.push.new.self in'.told.items (slice_set in'.last.items s (c.len-i.result + 1))) (sym a)
-        (subst (λ (o : List ℕ). IsOwnList in'.node (names ++ y ∷ []) o in'.told.items (slice_set in'.last.items s (c.len-i.result + 1))) (sym b)
-            (subst (λ (m : ℕ). IsOwnList in'.node (names ++ y ∷ []) (in'.undecided ++ length names ∷ []) in'.told.items (slice_set in'.last.items s (m + 1))) (sym n) k)),
-    c.self.invariant.1)
+    let k = kept_push in'.node names in'.undecided in'.told.items in'.last.items y c.self.invariant.0 refl refl refl there few in (
+      subst (λ (l : List Named). IsOwnList in'.node l c.push.new.self in'.told.items (slice_set in'.last.items s (c.len-i.result + 1))) (sym a)
+          (subst (λ (o : List ℕ). IsOwnList in'.node (names ++ y ∷ []) o in'.told.items (slice_set in'.last.items s (c.len-i.result + 1))) (sym b)
+          (subst (λ (m : ℕ). IsOwnList in'.node (names ++ y ∷ []) (in'.undecided ++ length names ∷ []) in'.told.items (slice_set in'.last.items s (m + 1))) (sym n) k)),
+      c.self.invariant.1,
+    )

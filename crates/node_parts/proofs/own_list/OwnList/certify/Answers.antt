@@ -50,13 +50,14 @@ invariant_of-self c =
     let f : IsFree old.own = subst IsFree (sym l.own) r.2.0 in
     let p = ap (λ (z : Named). z.own.phase) e in
     let k = kept_told in'.node in'.all.items in'.undecided in'.told.items in'.last.items c.args.i (c.args.i + 1) old new c.self.invariant.0 l.stands refl
-        (ap (λ (z : Named). z.tx) e) (ap (λ (z : Named). z.own.place) e) (ap is_decided p ∙ sym f.0) (free_untold old.own f) (certain_told new.own c.args.lc.0 (ap is_decided p) (ap lc_of p)) in
+    (ap (λ (z : Named). z.tx) e) (ap (λ (z : Named). z.own.place) e) (ap is_decided p ∙ sym f.0) (free_untold old.own f) (certain_told new.own c.args.lc.0 (ap is_decided p) (ap lc_of p)) in
     let q = c.tx.ensures ∙ number_is in'.node in'.all.items c.args.i c.index.result.now c.self.invariant.0.numbered (at_place in'.all.items c.args.i c.index.result.now l.place c.index.ensures) in
     let w = c.copy.ensures ∙ sym (ap (λ (z : Named). z.own.snap) e) in
     let t : c.tell.new.told.items ≡ told_also (record { seq = c.args.i + 1; snap = new.own.snap }) in'.told.items =
-        c.tell.ensures.told ∙ (λ j. told_also (record { seq = (q j).seq; snap = w j }) in'.told.items) in
-    (subst (λ (o : List OwnSnap). IsOwnList in'.node (slice_set in'.all.items c.args.i new) in'.undecided o in'.last.items) (sym t) k,
-    omega (arith, c.self.invariant.1, c.tell.ensures.capacity))
+    c.tell.ensures.told ∙ (λ j. told_also (record { seq = (q j).seq; snap = w j }) in'.told.items) in (
+      subst (λ (o : List OwnSnap). IsOwnList in'.node (slice_set in'.all.items c.args.i new) in'.undecided o in'.last.items) (sym t) k,
+      omega (arith, c.self.invariant.1, c.tell.ensures.capacity),
+    )
 
 pub returns : goal.returns
 returns c x e =

@@ -21,7 +21,7 @@ returns-then-not-has_closed-clause-looked c x e =
     let deps : c.deps-deps.result.now ≡ x.snap.deps = c.deps-deps.ensures.value ∙ (ap (λ (z : Snap). z.deps) c.snap.ensures ∙ ap (λ (z : Own). z.snap.deps) l.own) in
     let same : owns c.as_slice.result.now ≡ now = ap owns c.as_slice.ensures.value ∙ all in
     let none : any_closed now x.snap.deps ≡ false =
-        sym (λ j. any_closed (same j) (deps j)) ∙ (sym c.has_closed.ensures ∙ c.if-not-has_closed.true) in
+    sym (λ j. any_closed (same j) (deps j)) ∙ (sym c.has_closed.ensures ∙ c.if-not-has_closed.true) in
     look_stays now c.args.i x e none
 
 pub index_mut-own-requires : goal.index_mut-own-requires
@@ -40,12 +40,13 @@ invariant_of-self c =
     let r = c.requires in
     let l = lent in'.all.items c.args.i old c.args.self.now.all r.0 (ap (λ (v : OwnState). v.all) c.self.view_is) r.1 c.index_mut-own.ensures.value in
     let k = kept_anew in'.node in'.all.items in'.undecided in'.told.items in'.last.items c.args.i (c.args.i + 1) old new c.self.invariant.0 l.stands refl
-        (ap (λ (z : Named). z.tx) e) (ap (λ (z : Named). z.own.place) e) (ap (λ (z : Named). is_decided z.own.phase) e) (ap (λ (z : Named). is_told z.own) e) in
+    (ap (λ (z : Named). z.tx) e) (ap (λ (z : Named). z.own.place) e) (ap (λ (z : Named). is_decided z.own.phase) e) (ap (λ (z : Named). is_told z.own) e) in
     let q = c.tx.ensures ∙ (ap (λ (z : Named). z.tx) e ∙ number_is in'.node in'.all.items c.args.i old c.self.invariant.0.numbered l.stands) in
     let t : c.tell_again.new.told.items ≡ told_again (c.args.i + 1) new.own.snap in'.told.items =
-        c.tell_again.ensures.told ∙ (λ j. told_again (q j).seq (c.snap-2.ensures j) in'.told.items) in
-    (subst (λ (o : List OwnSnap). IsOwnList in'.node (slice_set in'.all.items c.args.i new) in'.undecided o in'.last.items) (sym t) k,
-    omega (arith, c.self.invariant.1, c.tell_again.ensures.capacity))
+    c.tell_again.ensures.told ∙ (λ j. told_again (q j).seq (c.snap-2.ensures j) in'.told.items) in (
+      subst (λ (o : List OwnSnap). IsOwnList in'.node (slice_set in'.all.items c.args.i new) in'.undecided o in'.last.items) (sym t) k,
+      omega (arith, c.self.invariant.1, c.tell_again.ensures.capacity),
+    )
 
 pub returns-clause-looked : goal.returns-clause-looked
 returns-clause-looked c x e =
@@ -58,7 +59,7 @@ returns-clause-looked c x e =
     let f = lent in'.all.items c.args.i c.index.result.now now x all e c.index.ensures in
     let l = lent in'.all.items c.args.i old now x all e c.index_mut-own.ensures.value in
     let deps : c.deps-deps.result.now ≡ old.own.snap.deps =
-        c.deps-deps.ensures.value ∙ (ap (λ (z : Snap). z.deps) c.snap.ensures ∙ (ap (λ (z : Own). z.snap.deps) f.own ∙ sym (ap (λ (z : Own). z.snap.deps) l.own))) in
+    c.deps-deps.ensures.value ∙ (ap (λ (z : Snap). z.deps) c.snap.ensures ∙ (ap (λ (z : Own). z.snap.deps) f.own ∙ sym (ap (λ (z : Own). z.snap.deps) l.own))) in
     let same : owns c.as_slice-2.result.now ≡ now = ap owns c.as_slice-2.ensures.value ∙ all in
     let a : Names now c.deps-deps.result.now c.fates-fates.result.items = subst (λ (o : List Own). Names o c.deps-deps.result.now c.fates-fates.result.items) same c.fates-fates.ensures in
     let b : Names now old.own.snap.deps c.fates-fates.result.items = subst (λ (ds : List Dep). Names now ds c.fates-fates.result.items) deps a in
