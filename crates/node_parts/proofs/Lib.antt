@@ -1,3 +1,4 @@
+pub mod Owning
 pub mod Naming
 pub mod Posting
 pub mod Mapping

@@ -6,22 +6,24 @@ use Rattle.dependency_set.specs.declared.snaps.OwnSnap.{OwnSnap}
 use Rattle.dependency_set.specs.Snapshots.{Snap}
 use Rattle.held_answer.specs.Answers.{HeldAnswer}
 use Rattle.snapshot_read.specs.Shown.{told_from}
+use Rattle.str_base.specs.declared.names.KeyId.{KeyId}
 use Rattle.str_base.specs.declared.names.NodeId.{NodeId}
 use Rattle.str_base.specs.declared.names.SessionId.{SessionId}
 use Rattle.str_base.specs.declared.names.TxId.{TxId}
+use Rattle.str_base.specs.declared.names.Value.{Value}
 use Rattle.str_base.specs.Versions.{stamp}
 use Rattle.str_model.specs.Acts.{in_phase}
 use Rattle.str_model.specs.Clients.{last_index, of_session}
 use Rattle.str_model.specs.declared.names.Got.{Got}
 use Rattle.str_model.specs.NodeFacts.{how_many}
-
-use Rattle.str_model.specs.Turns.{dep_turn, left_by}
+use Rattle.str_model.specs.Turns.{CommittedAt, Fate, Gone, Open, dep_turn, left_by}
 use Rattle.str_model.specs.Views.{Active, Closing, Own, is_decided, lc_of}
+use Rattle.str_scene.specs.declared.names.Op.{Op}
 use Rattle.str_scene.specs.declared.names.TxPlace.{TxPlace}
 use Rattle.tx_script.specs.declared.turns.Turn.{Turn}
 use Rattle.tx_script.specs.declared.turns.Turn.TheVariants.{Ask, End, Got as GotIt, Moved, Unmet, Wished}
 use Rattle.tx_script.specs.Doing.{run_of, with_run}
-use Rattle.tx_script.specs.Turns.{Turned}
+use Rattle.tx_script.specs.Turns.{Turned, turn_of as script_turn}
 
 -- ---- one
 
@@ -58,6 +60,10 @@ turned t x = elim t.turn [
   | Wished ↦ x
   | End ↦ x
 ]
+
+-- where a turn of its script gives a get, there is room for it
+abbrev pub HasPlace : List Op → Own → Type 0
+HasPlace ops x = (k : KeyId) (v : Value) → (script_turn ops (run_of x)).turn ≡ GotIt k v → length x.gets < 16
 
 -- ---- all
 
@@ -103,6 +109,12 @@ pub record IsOwnList (node : NodeId) (names : List Named) (open_ : List ℕ) (to
 -- there is such a transaction at the place
 abbrev pub OwnHas : (Own → Type 0) → ℕ → List Own → Type 0
 OwnHas P i own = (x : Own) × (slice_get own i ≡ Some x) × P x
+
+-- it has committed or aborted
+abbrev pub is_closed : Fate → Bool
+is_closed Open = false
+is_closed (CommittedAt fc) = true
+is_closed Gone = true
 
 -- the look at the dependencies of a transaction: what it came to, and the snapshot that it leaves
 pub record Looked (old new : List Own) (i : ℕ) (x : Own) (t : DepTurn) : Type 0 where

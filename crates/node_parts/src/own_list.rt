@@ -1,8 +1,9 @@
 //! A node's own transactions.
-ghost use Rattle.node_parts.specs.Owning.{IsFree, Looked, Named, OwnHas, is_told, open_from, told_again, told_also, told_no_more, turned};
+ghost use Rattle.node_parts.specs.Owning.{HasPlace, IsFree, Looked, Named, OwnHas, is_closed, is_told, open_from, told_again, told_also, told_no_more, turned};
 ghost use Rattle.node_parts.specs.Phases.{number_if, phase_of};
 ghost use Rattle.snapshot_read.specs.Shown.{told_from};
-ghost use Rattle.std.specs.Prelude.{◌≡◌, ◌<◌, ◌≤◌, ◌+◌, ◌-◌, ◌^◌, ◌++◌, ◌∷◌, ◌==◌, ◌⊎◌, [], ℕ, IfOk, MatchOption, None, Some, false, filter, length, map, not, slice_get, slice_set, true, vec_capacity, vec_len};
+ghost use Rattle.std.specs.Prelude.{◌≡◌, ◌<◌, ◌≤◌, ◌+◌, ◌-◌, ◌^◌, ◌++◌, ◌∷◌, ◌==◌, ◌⊎◌, [], ℕ, IfOk, MatchOption, None, Some, false, filter, length, map, nat_lt, not, slice_get, slice_set, true, vec_capacity, vec_len};
+ghost use Rattle.std.specs.List.{list_any, position_or_len};
 ghost use Rattle.str_base.specs.Versions.{stamp};
 ghost use Rattle.str_model.specs.Acts.{decided_as, fresh, in_phase, with_asked};
 ghost use Rattle.str_model.specs.Clients.{last_index, of_session};
@@ -20,7 +21,7 @@ ghost use Rattle.tx_script.specs.Turns.{turn_of};
 use crate::own_tx::OwnTx;
 use crate::phases::Phase;
 use arrayvec::ArrayVec;
-use cascade_abort::{DepTurn, Fate, FateKind, resolve};
+use cascade_abort::{DepTurn, Fate, FateKind};
 use dependency_set::{Dep, OwnSnap, Snap};
 use partition_map::Participants;
 use std::alloc::{AllocError, Global};
@@ -162,7 +163,7 @@ impl OwnList {
 
     /// Does the next operation of the script of one that is Active.
     pub fn operate(&mut self, i: usize, ops: &OpList) -> Turn
-        requires { OwnHas (λ x. IsFree x × (length x.gets < 16)) i self.old.all }
+        requires { OwnHas (λ x. IsFree x × HasPlace ops.now x) i self.old.all }
         ensures turn { (x : Own) → slice_get self.old.all i ≡ Some x → result ≡ (turn_of ops.now (run_of x)).turn }
         ensures own { (x : Own) → slice_get self.old.all i ≡ Some x → self.new ≡ record self.old { all = slice_set self.old.all i (turned (turn_of ops.now (run_of x)) x) } }
     {
@@ -195,16 +196,14 @@ impl OwnList {
         ensures looked { (x : Own) → slice_get self.old.all i ≡ Some x → Looked self.old.all self.new.all i x result }
         ensures here { (self.new.node ≡ self.old.node) × (self.new.sessions ≡ self.old.sessions) × (self.old.spare ≤ self.new.spare) }
     {
-        let own = &self.all[i];
-        if own.snap().deps().is_empty() {
+        let deps = self.all[i].snap().deps();
+        if !has_closed(self.all.as_slice(), deps) {
             return DepTurn::Keep;
         }
-        let mut snap = own.snap().copy();
-        let fates = fates(self.all.as_slice(), snap.deps());
-        let turn = resolve(&mut snap, fates.as_slice());
-        tell_again(&mut self.told, i as u32 + 1, &snap);
+        let fates = fates(self.all.as_slice(), deps);
         let own = &mut self.all[i];
-        own.set_snap(snap);
+        let turn = own.resolve(fates.as_slice());
+        tell_again(&mut self.told, own.tx().seq, own.snap());
         turn
     }
 
@@ -215,7 +214,7 @@ impl OwnList {
         ensures { (x : Own) → slice_get self.old.all i ≡ Some x → self.new ≡ record self.old { all = slice_set self.old.all i (record x { snap = snap; parts = parts; phase = Views.Local lc.0 }) } }
     {
         let told = OwnSnap {
-            seq: i as u32 + 1,
+            seq: self.all[i].tx().seq,
             snap: snap.copy(),
         };
         tell(&mut self.told, told);
@@ -280,6 +279,18 @@ fn without(places: &OpenPlaces, i: u32) -> OpenPlaces
     list
 }
 
+/// Whether one of these dependencies has committed or aborted.
+fn has_closed(all: &[OwnTx], deps: &[Dep]) -> bool
+    ensures { result ≡ list_any (λ d. is_closed (own_fate (slice_get (map (λ (x : Named). x.own) all.now) (d.seq - 1)))) deps.now }
+{
+    for dep in deps {
+        if !matches!(fate_of(all, dep.seq), FateKind::Undecided) {
+            return true;
+        }
+    }
+    false
+}
+
 /// What became of these dependencies.
 fn fates(all: &[OwnTx], deps: &[Dep]) -> ArrayVec<Fate, 16>
     requires { length deps.now ≤ 16 }
@@ -315,17 +326,23 @@ fn tell(told: &mut Vec<OwnSnap>, own: OwnSnap)
     ensures told { told.new.items ≡ told_also own told.old.items }
     ensures capacity { vec_capacity told.old ≤ vec_capacity told.new }
 {
-    let mut k = 0;
-    while k < told.len() {
-        if own.seq < told[k].seq {
-            break;
-        }
-        k += 1;
-    }
+    let k = place_above(told.as_slice(), own.seq);
     match told.insert(k, own) {
         Ok(()) => {}
         Err(_) => unreachable!(),
     }
+}
+
+/// The place of the first with a greater number, how many there are where there is none.
+fn place_above(told: &[OwnSnap], seq: u32) -> usize
+    ensures { result ≡ position_or_len (λ y. nat_lt seq y.seq) told.now }
+{
+    for k in 0..told.len() {
+        if seq < told[k].seq {
+            return k;
+        }
+    }
+    told.len()
 }
 
 /// Tells another snapshot of the one with this number, where it is told of.

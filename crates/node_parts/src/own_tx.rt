@@ -1,20 +1,22 @@
 //! An own transaction.
-ghost use Rattle.dependency_set.specs.Snapshots.{Snap as SnapValue};
-ghost use Rattle.node_parts.specs.Owning.{IsFree, Named, turned};
+ghost use Rattle.cascade_abort.specs.Fates.{Names, left, turn_of as turn_of_look};
+ghost use Rattle.node_parts.specs.Owning.{HasPlace, IsFree, Named, turned};
 ghost use Rattle.node_parts.specs.Phases.{number_if, phase_of};
-ghost use Rattle.std.specs.Prelude.{◌≡◌, ◌<◌, ◌≤◌, ◌++◌, ◌∷◌, [], MatchOption, None, Some, false, length, true};
-ghost use Rattle.str_base.specs.Versions.{stamp};
+ghost use Rattle.std.specs.Prelude.{◌≡◌, ◌<◌, ◌≤◌, ◌++◌, ◌&&◌, ◌∷◌, [], List, MatchOption, None, Some, false, is_some, length, not, true};
+ghost use Rattle.str_base.specs.Versions.{same_node, same_part, stamp};
 ghost use Rattle.str_model.specs.Acts.{decided_as, fresh, in_phase, with_asked};
 ghost use Rattle.str_model.specs.declared.messages.Answer.{Answer as AnAnswer};
 ghost use Rattle.str_model.specs.declared.messages.Outcome.TheVariants.{Aborted as Aborts, Committed as Commits};
 ghost use Rattle.str_model.specs.Returns.{with_ack};
 ghost use Rattle.str_model.specs.Scripts.{noted};
+ghost use Rattle.str_model.specs.Turns.{dep_turn};
 ghost use Rattle.str_model.specs.Views;
-ghost use Rattle.str_model.specs.Views.{is_decided, lc_of};
+ghost use Rattle.str_model.specs.Views.{Own, is_decided, lc_of};
 ghost use Rattle.tx_script.specs.Doing.{run_of};
 ghost use Rattle.tx_script.specs.Turns.{turn_of};
 
 use crate::phases::Phase;
+use cascade_abort::{DepTurn, Fate, resolve};
 use dependency_set::{Deps, Snap};
 use held_answer::HeldAnswer;
 use partition_map::{Asked, Participants};
@@ -112,7 +114,7 @@ impl OwnTx {
     /// with a wish.
     pub(crate) fn operate(&mut self, ops: &OpList) -> Turn
         requires free { IsFree self.old.own }
-        requires gets { length self.old.own.gets < 16 }
+        requires gets { HasPlace ops.now self.old.own }
         ensures turn { result ≡ (turn_of ops.now (run_of self.old.own)).turn }
         ensures own { self.new.own ≡ turned (turn_of ops.now (run_of self.old.own)) self.old.own }
         ensures tx { self.new.tx ≡ self.old.tx }
@@ -145,12 +147,12 @@ impl OwnTx {
         self.phase = phase;
     }
 
-    /// It has this snapshot from now on, with the timestamp that it had.
-    pub(crate) fn set_snap(&mut self, snap: Snap)
-        requires { snap.rs ≡ self.old.own.snap.rs }
-        ensures { self.new ≡ record self.old { own = record (self.old.own) { snap = snap } } }
+    /// Looks at its dependencies. Those that were looked at and committed leave its snapshot.
+    pub(crate) fn resolve(&mut self, fates: &[Fate]) -> DepTurn
+        ensures turn { (own : List Own) → Names own self.old.own.snap.deps fates.now → turn_of_look result self.new.own.snap ≡ dep_turn own self.old.own.snap }
+        ensures own { self.new ≡ record self.old { own = record (self.old.own) { snap = left fates.now self.old.own.snap } } }
     {
-        self.snap = snap;
+        resolve(&mut self.snap, fates)
     }
 
     /// It is certified.
@@ -215,8 +217,12 @@ impl OwnTx {
         }
     }
 
-    /// Notes a get.
-    fn note(&mut self, key: KeyId, value: Value) {
+    /// Notes a get. It is Active.
+    fn note(&mut self, key: KeyId, value: Value)
+        requires free { is_decided self.old.own.phase ≡ false }
+        requires gets { length self.old.own.gets < 16 }
+        ensures { self.new ≡ record self.old { own = record (self.old.own) { gets = self.old.own.gets ++ record { key = key; value = value } ∷ []; phase = Views.Active } } }
+    {
         if let Some(held) = &mut self.held {
             held.note(key, value);
         }
@@ -257,7 +263,9 @@ fn with_ack(parts: &Participants, part: PartId, node: NodeId, ts: Ts) -> Option<
 }
 
 /// Whether it is this participant, was asked and has not answered.
-fn awaits(other: &Asked, part: PartId, node: NodeId) -> bool {
+fn awaits(other: &Asked, part: PartId, node: NodeId) -> bool
+    ensures { result ≡ (same_part other.now.part part && (same_node other.now.node node && (other.now.asked && not (is_some other.now.ack)))) }
+{
     other.part == part && other.node == node && other.asked && other.ack.is_none()
 }
 

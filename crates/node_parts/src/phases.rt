@@ -12,9 +12,13 @@ pub enum Phase {
     /// It is ready for a client step.
     Active,
     /// It waits for what another transaction has written here.
-    ReadWait { key: KeyId },
+    ReadWait {
+        key: KeyId,
+    },
     /// A read is under way to the master of its key.
-    Remote { key: KeyId },
+    Remote {
+        key: KeyId,
+    },
     /// The reply of a master has come, and waits for dependencies.
     Reply {
         key: KeyId,
@@ -25,15 +29,27 @@ pub enum Phase {
     /// Its certification waits for dependencies.
     CertWait,
     /// It has nothing to certify, or a need that is not met, and waits for its dependencies. With a wish it aborts then.
-    Closing { wish: bool },
+    Closing {
+        wish: bool,
+    },
     /// It is certified, and has asked no partition yet.
-    Local { lc: Ts },
+    Local {
+        lc: Ts,
+    },
     /// It is certified, and has asked one partition at least.
-    Global { lc: Ts },
+    Global {
+        lc: Ts,
+    },
     /// It has committed, with its timestamps where it wrote.
-    Committed { lc: Option<Ts>, fc: Option<Ts> },
+    Committed {
+        lc: Option<Ts>,
+        fc: Option<Ts>,
+    },
     /// It has aborted.
-    Aborted { lc: Option<Ts>, cause: Cause },
+    Aborted {
+        lc: Option<Ts>,
+        cause: Cause,
+    },
 }
 
 impl Phase {

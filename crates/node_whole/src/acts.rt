@@ -19,6 +19,7 @@ ghost use Rattle.str_scene.specs.Scenes.{hosts, script_at};
 ghost use Rattle.tx_script.specs.Doing.{run_of};
 ghost use Rattle.tx_script.specs.Turns.{turn_of};
 ghost use Rattle.node_whole.specs.Arriving.{CanCommit, CanPlace};
+ghost use Rattle.node_whole.specs.Reading.{CanTurn};
 
 use crate::work::Work;
 use cascade_abort::{DepTurn, drop_all};
@@ -65,8 +66,7 @@ impl Work {
 
     /// The next operation of an own transaction's script, as far as it needs nothing of the node.
     pub(crate) fn operate(&mut self, i: usize) -> Turn
-        requires facts { HasFacts self.old }
-        requires free { OwnIs (λ x. IsFree x × (length x.gets < 16)) i self.old }
+        requires { OwnIs (CanTurn self.old.here) i self.old }
         ensures turn { (x : Own) → slice_get self.old.doing.view.own i ≡ Some x → result ≡ (turn_of (script_at self.old.here.scene x.place) (run_of x)).turn }
         ensures done { Did (at_own i (λ x. put i (turned (turn_of (script_at self.old.here.scene x.place) (run_of x)) x)) self.old.doing) self.old self.new }
     {
