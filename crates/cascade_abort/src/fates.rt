@@ -12,9 +12,10 @@ use std::marker::{Send, Sync};
 use str_base::Ts;
 
 /// What became of a transaction.
-#[derive(Clone, Copy, Debug, PartialEq, Eq)]
+#[derive(Clone, Copy, Debug, Default, PartialEq, Eq)]
 pub enum FateKind {
     /// It is undecided.
+    #[default]
     Undecided,
     /// It committed at `fc`.
     Committed { fc: Ts },
@@ -23,7 +24,7 @@ pub enum FateKind {
 }
 
 /// What became of the own transaction of this number.
-#[derive(Clone, Copy, Debug, PartialEq, Eq)]
+#[derive(Clone, Copy, Debug, Default, PartialEq, Eq)]
 pub struct Fate {
     pub seq: u32,
     pub kind: FateKind,

@@ -32,6 +32,16 @@ impl Model for DepParts {
     ghost view = { λ d. record { seq = d.seq; parts = d.parts } };
 }
 
+impl Default for DepParts {
+    /// No dependency, and no partition.
+    fn default() -> DepParts {
+        DepParts {
+            seq: 0,
+            parts: ShortList::new(),
+        }
+    }
+}
+
 impl DepParts {
     /// An equal one.
     pub fn copy(&self) -> DepParts

@@ -4,6 +4,7 @@ use Rattle.str_model.proofs.KindTests.{local_kind}
 use Rattle.dependency_set.specs.declared.names.Dep.{Dep}
 use Rattle.dependency_set.specs.declared.snaps.OwnSnap.{OwnSnap}
 use Rattle.dependency_set.specs.Snapshots.{Snap}
+pub use Rattle.snapshot_read.specs.Shown.{told_from}
 use Rattle.snapshot_read.specs.Shown.{Agree, AreNamed, AreTold, IsNamed, IsTold, told}
 use Rattle.str_base.specs.declared.names.Version.{Version}
 use Rattle.str_model.specs.NodeFacts.{how_many, one_if}
@@ -14,11 +15,6 @@ use Rattle.str_model.proofs.ViewFacts.NodeUses.{IsCertain, ReadReady}
 use Rattle.version_chain.specs.ChainLists.{Each, merged}
 use Rattle.str_base.proofs.Members.{in_all_new, in_all_old}
 use Rattle.str_base.specs.Members.{In}
-
--- the certified undecided transactions of a list, the first of which has the number n + 1
-abbrev pub told_from : ℕ → List Own → List OwnSnap
-told_from n [] = []
-told_from n (x ∷ xs) = if is_certain x then record { seq = n + 1; snap = x.snap } ∷ told_from (n + 1) xs else told_from (n + 1) xs
 
 pub told-length : (n : ℕ) (xs : List Own) → length (told_from n xs) ≡ how_many is_certain xs
 told-length n [] = refl

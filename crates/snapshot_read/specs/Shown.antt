@@ -1,6 +1,6 @@
 -- What a call of this crate is told of the transactions and stores of a node, and the views that say the same.
 use Rattle.std.specs.List.{AllByRecursion}
-use Rattle.std.specs.Prelude.{Bool, List, None, Option, Some, false, find, is_some, option_map, slice_get, true, ℕ, ◌-◌, ◌==◌, ◌≡◌, ◌≤◌}
+use Rattle.std.specs.Prelude.{Bool, List, None, Option, Some, [], false, find, if◌then◌else◌, is_some, not, option_map, slice_get, true, ℕ, ◌&&◌, ◌+◌, ◌-◌, ◌==◌, ◌∷◌, ◌≡◌, ◌≤◌}
 use Rattle.cache_partition.specs.CacheLists.{CacheList}
 use Rattle.dependency_set.specs.declared.names.Dep.{Dep}
 use Rattle.dependency_set.specs.declared.snaps.OwnSnap.{OwnSnap}
@@ -12,7 +12,8 @@ use Rattle.str_base.specs.declared.names.NodeId.{NodeId}
 use Rattle.str_base.specs.declared.names.PartId.{PartId}
 use Rattle.str_base.specs.declared.names.Version.{Version}
 use Rattle.str_base.specs.Versions.{is_local, same_key}
-use Rattle.str_model.specs.Views.{Own, View}
+use Rattle.str_model.specs.NodeFacts.{has_lc}
+use Rattle.str_model.specs.Views.{Own, View, is_decided}
 use Rattle.str_scene.specs.Scenes.{Here, map_of}
 use Rattle.version_chain.specs.ChainLists.{Each, is_among, merged}
 
@@ -46,6 +47,12 @@ AreTold own rs store cache = Each (IsTold own rs) store × Each (IsTold own rs) 
 -- own transactions, the i-th of which has the number i + 1, have the snapshots that are told of them
 abbrev pub Agree : List Own → List OwnSnap → Type 0
 Agree xs own = (q : ℕ) (of : Snap) → told own q ≡ Some of → option_map (λ x. x.snap) (slice_get xs (q - 1)) ≡ Some of
+
+-- the certified undecided transactions of a list, the first of which has the number n + 1
+abbrev pub told_from : ℕ → List Own → List OwnSnap
+told_from n [] = []
+told_from n (x ∷ xs) =
+    if not (is_decided x.phase) && has_lc x then record { seq = n + 1; snap = x.snap } ∷ told_from (n + 1) xs else told_from (n + 1) xs
 
 -- a snapshot with what it takes over from the transaction with this number
 abbrev pub taken_over : Option Snap → ℕ → Snap → Snap

@@ -1,0 +1,5 @@
+pub mod Working
+pub mod Arriving
+pub mod Reading
+pub mod Beginning
+pub mod Waiting
