@@ -1,5 +1,0 @@
-pub mod Working
-pub mod Arriving
-pub mod Reading
-pub mod Beginning
-pub mod Waiting
