@@ -9,3 +9,4 @@ pub mod RestLimit
 pub mod RestEvents
 pub mod RestHolds
 pub mod GivenBy
+pub mod RunEnds

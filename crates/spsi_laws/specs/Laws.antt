@@ -6,6 +6,7 @@ pub mod Newest
 pub mod Pairs
 pub mod Speculation
 pub mod Rest
+pub mod Ends
 pub mod UnderWay
 pub mod Valid
 pub mod Work

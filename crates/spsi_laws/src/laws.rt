@@ -4,6 +4,7 @@ ghost use Rattle.spsi_laws.specs.Headline.{HeadlineHolds};
 ghost use Rattle.spsi_laws.specs.Laws.Cascades.{CascadesEnd};
 ghost use Rattle.spsi_laws.specs.Laws.Dependencies.{DependenciesLive, DependenciesStand};
 ghost use Rattle.spsi_laws.specs.Laws.Drain.{DrainFollows, DrainLowers, DrainRests, DrainStops};
+ghost use Rattle.spsi_laws.specs.Laws.Ends.{EndsAtRest, RestClosed};
 ghost use Rattle.spsi_laws.specs.Laws.Newest.{NewestHolds};
 ghost use Rattle.spsi_laws.specs.Laws.Pairs.{PairsHold, PairsHoldFurther};
 ghost use Rattle.spsi_laws.specs.Laws.Rest.{RestHolds};
@@ -121,4 +122,15 @@ pub fn under_way_holds()
 /// Where every message was given and every client step is idle, every transaction is answered.
 pub fn rest_holds()
     ensures { RestHolds }
+{}
+
+/// Where every message was given and every client step is idle, no transaction is begun and undecided, and none has still to begin.
+pub fn rest_closed()
+    ensures { RestClosed }
+{}
+
+/// The run of a scene with a drain ends where every message was given and every client step is idle: every transaction is answered, and its last line has
+/// `held=0` and `unbegun=0`.
+pub fn ends_at_rest()
+    ensures { EndsAtRest }
 {}
