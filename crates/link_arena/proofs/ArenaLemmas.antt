@@ -1,9 +1,12 @@
 -- What an arena is seen as, under each change of its nodes.
 use Rattle.slab.specs.Slab.{Slab, Updates, get, slab_len}
 use Rattle.std.proofs.Common.{IsNone, IsSome, vec_capacity, vec_len, ◌+◌, ◌≤◌, Bool, List, None, Option, Some, Vec, [], ap, arith, false, if◌then◌else◌, length, not, refl, subst, suc, sym, true, zero, ℕ, ◌&&◌, ◌||◌, ◌==◌, ◌∙◌, ◌∷◌, ◌≡◌, ◌≢◌}
+use Rattle.std.proofs.Math.Bool.{and-false, and-true}
 use Rattle.std.proofs.Math.ListN.{get_or-map}
+use Rattle.std.proofs.lemmas.Bool.{and_from}
 use Rattle.std.proofs.lemmas.Bool.Decides.{nat_tests}
 use Rattle.std.specs.Global.{Global}
+use Rattle.str_base.proofs.Tests.{eqb_self}
 use Rattle.str_base.specs.declared.names.KeyId.{KeyId}
 use Rattle.str_base.specs.declared.names.Kind.{Kind}
 use Rattle.str_base.specs.declared.names.Ts.{Ts}
@@ -69,10 +72,6 @@ module _ {N : Type 0} (below : N → N → Bool) (names : N → Version → Bool
   same_there : (u : ℕ) → get new u ≡ get old u → SameOutside side old new u
   same_there u e = record { after = ap (λ o. after_of side o) e; before = ap (λ o. before_of side o) e }
 
-  and_false : (a : Bool) → (a && false) ≡ false
-  and_false true = refl
-  and_false false = refl
-
   -- a version is put into a slot that had none
   pub side_fresh : (slot : ℕ) (node : Node) → OnSide below names side old heads None → get old slot ≡ None → Updates old new slot (Some node) → Left (Some slot)
   side_fresh slot node on vacant up =
@@ -87,7 +86,7 @@ module _ {N : Type 0} (below : N → N → Bool) (names : N → Version → Bool
       by_test : (k : N) (u : ℕ) (b : Bool) → (u == slot) ≡ b → (is_named names k (version_at old u) && true) ≡ (is_named names k (version_at new u) && not b)
       by_test k u true e =
           let q : u ≡ slot = grind (arith, nat_tests) in
-          ap (λ w. is_named names k (version_at old w) && true) q ∙ ap (λ o. is_named names k (version_of o) && true) vacant ∙ sym (and_false (is_named names k (version_at new u)))
+          ap (λ w. is_named names k (version_at old w) && true) q ∙ ap (λ o. is_named names k (version_of o) && true) vacant ∙ sym (and-false (is_named names k (version_at new u)))
       by_test k u false e = let q : u ≢ slot = grind (arith, nat_tests) in ap (λ o. is_named names k (version_of o) && true) (sym (up.others u q))
 
   -- the links of the other side change
@@ -105,12 +104,12 @@ module _ {N : Type 0} (below : N → N → Bool) (names : N → Version → Bool
       apart k u h e =
           let q : (u == slot) ≡ true = grind (arith, nat_tests) in
           let m = sym (on.member k u) ∙ h in
-          let f = ap (λ t. is_named names k (version_at old u) && not t) q ∙ and_false (is_named names k (version_at old u)) in absurd (cc)
+          let f = ap (λ t. is_named names k (version_at old u) && not t) q ∙ and-false (is_named names k (version_at old u)) in absurd (cc)
 
       by_test : (k : N) (u : ℕ) (b : Bool) → (u == slot) ≡ b → (is_named names k (version_at old u) && not b) ≡ (is_named names k (version_at new u) && true)
       by_test k u true e =
           let q : u ≡ slot = grind (arith, nat_tests) in
-          and_false (is_named names k (version_at old u)) ∙ sym (ap (λ w. is_named names k (version_at new w) && true) q ∙ ap (λ o. is_named names k (version_of o) && true) up.changed)
+          and-false (is_named names k (version_at old u)) ∙ sym (ap (λ w. is_named names k (version_at new w) && true) q ∙ ap (λ o. is_named names k (version_of o) && true) up.changed)
       by_test k u false e = let q : u ≢ slot = grind (arith, nat_tests) in ap (λ o. is_named names k (version_of o) && true) (sym (up.others u q))
 
   -- a version changes, and keeps its name
@@ -137,10 +136,6 @@ module _ {N : Type 0} (below : N → N → Bool) (names : N → Version → Bool
           ∙ sym (ap (λ w. is_named names k (version_at new w)) q))
       by_test k u false e = let q : u ≢ slot = grind (arith, nat_tests) in ap (λ o. is_named names k (version_of o) && true) (sym (up.others u q))
 
-and_true : (a : Bool) → (a && true) ≡ a
-and_true true = refl
-and_true false = refl
-
 -- the names rise
 rows_above : {N : Type 0} (below : N → N → Bool) (side : Side) (nodes : Slab Node) (k : N) (heads : List (Head N)) → AllAbove below k heads → Above below k (rows_of side nodes heads)
 rows_above below side nodes k [] p = tt
@@ -153,9 +148,9 @@ rows_rise below side nodes (h ∷ hs) p = (rows_above below side nodes h.name hs
 -- each slot stands once in the list of its key, and once in the list of its transaction
 pub are_lists : (nodes : Slab Node) (keys : Vec (Head KeyId) Global) (txs : Vec (Head TxId) Global) (spare : ℕ) → IsArena nodes keys txs spare → AreLists (view_of nodes keys.items txs.items spare)
 are_lists nodes keys txs spare a = record {
-  in_key = λ k u. ap (λ ss. is_in u ss) (list_is key_below ByKey nodes keys.items k) ∙ a.by_key.member k u ∙ and_true (is_named key_names k (version_at nodes u))
+  in_key = λ k u. ap (λ ss. is_in u ss) (list_is key_below ByKey nodes keys.items k) ∙ a.by_key.member k u ∙ and-true (is_named key_names k (version_at nodes u))
       ∙ ap (λ o. is_named key_names k o) (sym (at_is nodes keys.items txs.items spare u));
-  in_tx = λ t u. ap (λ ss. is_in u ss) (list_is tx_before ByTx nodes txs.items t) ∙ a.by_tx.member t u ∙ and_true (is_named of_tx t (version_at nodes u))
+  in_tx = λ t u. ap (λ ss. is_in u ss) (list_is tx_before ByTx nodes txs.items t) ∙ a.by_tx.member t u ∙ and-true (is_named of_tx t (version_at nodes u))
       ∙ ap (λ o. is_named of_tx t o) (sym (at_is nodes keys.items txs.items spare u));
   keys_rise = rows_rise key_below ByKey nodes keys.items a.by_key.rise;
   txs_rise = rows_rise tx_before ByTx nodes txs.items a.by_tx.rise;
@@ -164,14 +159,11 @@ are_lists nodes keys txs spare a = record {
 }
 
 -- a version has the name of its key, and that of its transaction
-equal : (n : ℕ) → (n == n) ≡ true
-equal n = grind (arith, nat_tests)
-
 pub has_key : (v : Version) → key_names v.key v ≡ true
-has_key v = equal v.key.0
+has_key v = eqb_self v.key.0
 
 pub has_tx : (v : Version) → of_tx v.tx v ≡ true
-has_tx v = rw (equal v.tx.node.0) (equal v.tx.seq)
+has_tx v = and_from (v.tx.node.0 == v.tx.node.0) (v.tx.seq == v.tx.seq) (eqb_self v.tx.node.0) (eqb_self v.tx.seq)
 
 -- neighbours in a list are what the links say
 pub next_is : (f : ℕ → Option ℕ) (ss : List ℕ) (s : ℕ) → Forth f ss None → is_in s ss ≡ true → f s ≡ next_of s ss

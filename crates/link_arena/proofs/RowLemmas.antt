@@ -1,6 +1,8 @@
 -- Links equal the list: under a slot that is put in, and under one that is taken out.
 use Rattle.std.proofs.Common.{IfSome, subst, Bool, List, None, Option, Some, [], ap, arith, eqb, false, if◌then◌else◌, length, length-append, refl, suc, sym, true, zero, ℕ, ◌++◌, ◌<◌, ◌==◌, ◌||◌, ◌&&◌, ◌∙◌, ◌∷◌, ◌≡◌, ◌≢◌, ◌≤◌, not}
+use Rattle.std.proofs.lemmas.Bool.{or_left, or_right}
 use Rattle.std.proofs.lemmas.Bool.Decides.{nat_tests}
+use Rattle.str_base.proofs.Tests.{eqb_self, or_false_left, or_false_right}
 use Rattle.std.proofs.lemmas.Map.Steps.{length-le_from_distinct_below}
 use Rattle.std.specs.List.{AllByRecursion, IsDistinct, last_or}
 use Rattle.link_arena.specs.declared.nodes.Ends.{Ends}
@@ -38,45 +40,36 @@ back_rest f b (x ∷ xs) ys p = back_rest f (Some x) xs ys p.1
 abbrev pub Alike : (ℕ → Option ℕ) → (ℕ → Option ℕ) → List ℕ → Type 0
 Alike f g ss = (u : ℕ) → is_in u ss ≡ true → g u ≡ f u
 
--- the test of equal numbers
-same : (u : ℕ) → (u == u) ≡ true
-same u = grind (arith, nat_tests)
+-- the first is in the list, and so is what is in the rest
+pub here : (x : ℕ) (xs : List ℕ) → is_in x (x ∷ xs) ≡ true
+here x xs = or_left (x == x) (is_in x xs) (eqb_self x)
 
--- what is in the rest is in the list
-later : (u x : ℕ) (xs : List ℕ) → is_in u xs ≡ true → is_in u (x ∷ xs) ≡ true
-later u x xs h = by_test (u == x) (is_in u xs) h
-  where
-    by_test : (a b : Bool) → b ≡ true → (a || b) ≡ true
-    by_test true b h = refl
-    by_test false b h = h
-
--- the first is in the list
-here : (x : ℕ) (xs : List ℕ) → is_in x (x ∷ xs) ≡ true
-here x xs = rw (same x) refl
+pub deeper : (u x : ℕ) (xs : List ℕ) → is_in u xs ≡ true → is_in u (x ∷ xs) ≡ true
+deeper u x xs h = or_right (u == x) (is_in u xs) h
 
 -- what is not in a list is not its first, nor in the rest
 pub not_first : (u x : ℕ) (xs : List ℕ) → is_in u (x ∷ xs) ≡ false → (u == x) ≡ false
-not_first u x xs h = by_test (u == x) (is_in u xs) h
-  where
-    by_test : (a b : Bool) → (a || b) ≡ false → a ≡ false
-    by_test true b h = h
-    by_test false b h = refl
+not_first u x xs h = or_false_left (u == x) (is_in u xs) h
 
 pub not_later : (u x : ℕ) (xs : List ℕ) → is_in u (x ∷ xs) ≡ false → is_in u xs ≡ false
-not_later u x xs h = by_test (u == x) (is_in u xs) h
+not_later u x xs h = or_false_right (u == x) (is_in u xs) h
+
+-- a slot of the rest is not the first, where no slot is in the list twice
+pub apart_from : (u y : ℕ) (ys : List ℕ) → is_in y ys ≡ false → is_in u ys ≡ true → (u == y) ≡ false
+apart_from u y ys n h = by_test (u == y) refl
   where
-    by_test : (a b : Bool) → (a || b) ≡ false → b ≡ false
-    by_test true b h = absurd (cc)
-    by_test false b h = h
+    by_test : (t : Bool) → (u == y) ≡ t → t ≡ false
+    by_test false e = refl
+    by_test true e = let q : u ≡ y = grind (arith, nat_tests) in absurd (cc)
 
 -- links that agree on a list say it alike
 pub forth_alike : (f g : ℕ → Option ℕ) (ss : List ℕ) (e : Option ℕ) → Alike f g ss → Forth f ss e → Forth g ss e
 forth_alike f g [] e a p = tt
-forth_alike f g (s ∷ ss) e a p = (a s (here s ss) ∙ p.0, forth_alike f g ss e (λ u h. a u (later u s ss h)) p.1)
+forth_alike f g (s ∷ ss) e a p = (a s (here s ss) ∙ p.0, forth_alike f g ss e (λ u h. a u (deeper u s ss h)) p.1)
 
 pub back_alike : (f g : ℕ → Option ℕ) (b : Option ℕ) (ss : List ℕ) → Alike f g ss → Back f b ss → Back g b ss
 back_alike f g b [] a p = tt
-back_alike f g b (s ∷ ss) a p = (a s (here s ss) ∙ p.0, back_alike f g (Some s) ss (λ u h. a u (later u s ss h)) p.1)
+back_alike f g b (s ∷ ss) a p = (a s (here s ss) ∙ p.0, back_alike f g (Some s) ss (λ u h. a u (deeper u s ss h)) p.1)
 
 -- what is not in a list is not its last
 not_last : (u y : ℕ) (ys : List ℕ) → is_in u (y ∷ ys) ≡ false → is_at (last_or (Some y) ys) u ≡ false
@@ -86,34 +79,19 @@ not_last u y (z ∷ ys) h = not_last u z ys (not_later u y (z ∷ ys) h)
 -- another end
 pub forth_end : (f g : ℕ → Option ℕ) (xs : List ℕ) (d e : Option ℕ) → Once xs → Alike (over (last_or None xs) e f) g xs → Forth f xs d → Forth g xs e
 forth_end f g [] d e o a p = tt
-forth_end f g (x ∷ []) d e o a p = (a x (here x []) ∙ ap (λ b. if b then e else f x) (same x), tt)
+forth_end f g (x ∷ []) d e o a p = (a x (here x []) ∙ ap (λ b. if b then e else f x) (eqb_self x), tt)
 forth_end f g (x ∷ z ∷ xs) d e o a p = (
   a x (here x (z ∷ xs)) ∙ ap (λ b. if b then e else f x) (not_last x z xs o.0) ∙ p.0,
-  forth_end f g (z ∷ xs) d e o.1 (λ u h. a u (later u x (z ∷ xs) h)) p.1,
+  forth_end f g (z ∷ xs) d e o.1 (λ u h. a u (deeper u x (z ∷ xs) h)) p.1,
 )
 
 -- another beginning
 pub back_begin : (f g : ℕ → Option ℕ) (c b : Option ℕ) (ys : List ℕ) → Once ys → Alike (over (first_or None ys) b f) g ys → Back f c ys → Back g b ys
 back_begin f g c b [] o a p = tt
 back_begin f g c b (y ∷ ys) o a p = (
-  a y (here y ys) ∙ ap (λ t. if t then b else f y) (same y),
-  back_alike f g (Some y) ys (λ u h. a u (later u y ys h) ∙ ap (λ t. if t then b else f u) (apart u y ys o.0 h)) p.1,
+  a y (here y ys) ∙ ap (λ t. if t then b else f y) (eqb_self y),
+  back_alike f g (Some y) ys (λ u h. a u (deeper u y ys h) ∙ ap (λ t. if t then b else f u) (apart_from u y ys o.0 h)) p.1,
 )
-  where
-    apart : (u y : ℕ) (ys : List ℕ) → is_in y ys ≡ false → is_in u ys ≡ true → (u == y) ≡ false
-    apart u y ys n h = by_test (u == y) refl
-      where
-        by_test : (t : Bool) → (u == y) ≡ t → t ≡ false
-        by_test false e = refl
-        by_test true e = let q : u ≡ y = grind (arith, nat_tests) in absurd (cc)
-
--- two slots are one or two
-apart_from : (u y : ℕ) (ys : List ℕ) → is_in y ys ≡ false → is_in u ys ≡ true → (u == y) ≡ false
-apart_from u y ys n h = by_test (u == y) refl
-  where
-    by_test : (t : Bool) → (u == y) ≡ t → t ≡ false
-    by_test false e = refl
-    by_test true e = let q : u ≡ y = grind (arith, nat_tests) in absurd (cc)
 
 -- membership in two lists in a row
 pub in_append : (u : ℕ) (xs ys : List ℕ) → is_in u (xs ++ ys) ≡ (is_in u xs || is_in u ys)
@@ -125,14 +103,10 @@ in_append u (x ∷ xs) ys = by_test (u == x) (in_append u xs ys)
     by_test false e = e
 
 in_left : (u : ℕ) (xs ys : List ℕ) → is_in u xs ≡ true → is_in u (xs ++ ys) ≡ true
-in_left u xs ys h = in_append u xs ys ∙ ap (λ b. b || is_in u ys) h
+in_left u xs ys h = in_append u xs ys ∙ or_left (is_in u xs) (is_in u ys) h
 
 in_right : (u : ℕ) (xs ys : List ℕ) → is_in u ys ≡ true → is_in u (xs ++ ys) ≡ true
-in_right u xs ys h = in_append u xs ys ∙ ap (λ b. is_in u xs || b) h ∙ either (is_in u xs)
-  where
-    either : (b : Bool) → (b || true) ≡ true
-    either true = refl
-    either false = refl
+in_right u xs ys h = in_append u xs ys ∙ or_right (is_in u xs) (is_in u ys) h
 
 -- parts of a list that has no slot twice
 pub once_front : (xs ys : List ℕ) → Once (xs ++ ys) → Once xs
@@ -288,18 +262,10 @@ pub over_under : (a e : Option ℕ) (f g : ℕ → Option ℕ) (u : ℕ) → g u
 over_under a e f g u h = ap (λ o. if is_at a u then e else o) h
 
 out_left : (u : ℕ) (xs ys : List ℕ) → is_in u (xs ++ ys) ≡ false → is_in u xs ≡ false
-out_left u xs ys h = by_test (is_in u xs) refl
-  where
-    by_test : (b : Bool) → is_in u xs ≡ b → b ≡ false
-    by_test false e = refl
-    by_test true e = let q = in_left u xs ys e in absurd (cc)
+out_left u xs ys h = or_false_left (is_in u xs) (is_in u ys) (sym (in_append u xs ys) ∙ h)
 
 out_right : (u : ℕ) (xs ys : List ℕ) → is_in u (xs ++ ys) ≡ false → is_in u ys ≡ false
-out_right u xs ys h = by_test (is_in u ys) refl
-  where
-    by_test : (b : Bool) → is_in u ys ≡ b → b ≡ false
-    by_test false e = refl
-    by_test true e = let q = in_right u xs ys e in absurd (cc)
+out_right u xs ys h = or_false_right (is_in u xs) (is_in u ys) (sym (in_append u xs ys) ∙ h)
 
 -- links that are tied by hand: the slot leads on to the rest, and the front leads on to it
 pub put_row : (f b g h : ℕ → Option ℕ) (was now : Option Ends) (xs ys : List ℕ) (s : ℕ) → IsRow f b was (xs ++ ys) → is_in s (xs ++ ys) ≡ false
@@ -315,7 +281,7 @@ put_row f b g h was now xs ys s row out ga ha fi la =
     record {
       forth = forth_append g xs (s ∷ ys) None
           (forth_end f g xs next (Some s) (once_front xs ys o) (λ u i. ga u ∙ over_miss (Some s) next (over left (Some s) f) u (apart_from u s xs ox i)) (forth_front f xs ys None row.forth)) (
-            ga s ∙ over_hit (Some s) next (over left (Some s) f) s (same s),
+            ga s ∙ over_hit (Some s) next (over left (Some s) f) s (eqb_self s),
             forth_alike f g ys None
                 (λ u i. ga u ∙ over_miss (Some s) next (over left (Some s) f) u (apart_from u s ys oy i) ∙ over_miss left (Some s) f u (not_last_of u xs (once_apart u xs ys o i)))
                 (forth_rest f xs ys None row.forth),
@@ -324,7 +290,7 @@ put_row f b g h was now xs ys s row out ga ha fi la =
           (back_alike b h None xs
           (λ u i. ha u ∙ over_miss next (Some s) (over (Some s) left b) u (not_first_of u ys (once_apart_front u xs ys o i)) ∙ over_miss (Some s) left b u (apart_from u s xs ox i))
           (back_front b None xs ys row.back)) (
-            ha s ∙ over_miss next (Some s) (over (Some s) left b) s (not_first_of s ys oy) ∙ over_hit (Some s) left b s (same s),
+            ha s ∙ over_miss next (Some s) (over (Some s) left b) s (not_first_of s ys oy) ∙ over_hit (Some s) left b s (eqb_self s),
             back_begin b h left (Some s) ys (once_rest xs ys o)
                 (λ u i. ha u ∙ over_under next (Some s) b (over (Some s) left b) u (over_miss (Some s) left b u (apart_from u s ys oy i)))
                 (back_rest b None xs ys row.back),
@@ -347,7 +313,7 @@ take_row f b g h was now xs ys s row ga ha fi la =
     record {
       forth = forth_append g xs ys None
           (forth_end f g xs (Some s) next (once_front xs (s ∷ ys) o) (λ u i. ga u) (forth_front f xs (s ∷ ys) None row.forth))
-          (forth_alike f g ys None (λ u i. ga u ∙ over_miss left next f u (not_last_of u xs (once_apart u xs (s ∷ ys) o (later u s ys i)))) rest.1);
+          (forth_alike f g ys None (λ u i. ga u ∙ over_miss left next f u (not_last_of u xs (once_apart u xs (s ∷ ys) o (deeper u s ys i)))) rest.1);
       back = back_append h None xs ys
           (back_alike b h None xs (λ u i. ha u ∙ over_miss next left b u (not_first_of u ys (not_later u s ys (once_apart_front u xs (s ∷ ys) o i)))) (back_front b None xs (s ∷ ys) row.back))
           (back_begin b h (Some s) left ys oy.1 (λ u i. ha u) (back_rest b None xs (s ∷ ys) row.back).1);
@@ -481,7 +447,7 @@ take_from f b g h ends ss s row i ga ha =
 last_has : (P : ℕ → Type 0) (xs : List ℕ) → ((u : ℕ) → is_in u xs ≡ true → P u) → IfSome (last_or None xs) P
 last_has P [] a = tt
 last_has P (x ∷ []) a = a x (here x [])
-last_has P (x ∷ z ∷ xs) a = last_has P (z ∷ xs) (λ u h. a u (later u x (z ∷ xs) h))
+last_has P (x ∷ z ∷ xs) a = last_has P (z ∷ xs) (λ u h. a u (deeper u x (z ∷ xs) h))
 
 first_has : (P : ℕ → Type 0) (xs : List ℕ) → ((u : ℕ) → is_in u xs ≡ true → P u) → IfSome (first_or None xs) P
 first_has P [] a = tt
@@ -509,7 +475,7 @@ neighbours_have P f b ends ss s row i a =
     let n : f s ≡ first_or None p.rest = (forth_rest f p.front (s ∷ p.rest) None r.forth).0 in
     let within : (u : ℕ) → is_in u (p.front ++ s ∷ p.rest) ≡ true → P u = λ u h. a u (subst (λ ws. is_in u ws ≡ true) (sym p.whole) h) in (
       subst (λ o. IfSome o P) (sym l) (last_has P p.front (λ u h. within u (in_left u p.front (s ∷ p.rest) h))),
-      subst (λ o. IfSome o P) (sym n) (first_has P p.rest (λ u h. within u (in_right u p.front (s ∷ p.rest) (later u s p.rest h)))),
+      subst (λ o. IfSome o P) (sym n) (first_has P p.rest (λ u h. within u (in_right u p.front (s ∷ p.rest) (deeper u s p.rest h)))),
     )
 
 -- what is not in a list is none of the neighbours

@@ -1,8 +1,9 @@
 -- All lists of one kind under a slot that is put in, taken out, or left.
 use Rattle.slab.specs.Slab.{ContainsKey, Slab, get}
-use Rattle.std.proofs.Common.{[], ◌∷◌, Bool, IsSome, List, None, Option, Some, ap, arith, false, inl, inr, length, not, refl, subst, sym, true, ℕ, ◌&&◌, ◌<◌, ◌==◌, ◌||◌, ◌∙◌, ◌≡◌, ◌≢◌, ◌⊎◌}
-use Rattle.std.proofs.lemmas.Bool.Decides.{nat_tests}
+use Rattle.std.proofs.Common.{[], ◌∷◌, Bool, IsSome, List, None, Option, Some, ap, arith, eqb-true, false, inl, inr, length, not, refl, subst, sym, true, ℕ, ◌&&◌, ◌<◌, ◌==◌, ◌||◌, ◌∙◌, ◌≡◌, ◌≢◌, ◌⊎◌}
+use Rattle.std.proofs.Math.Bool.{and-false, and-true}
 use Rattle.std.proofs.lemmas.List.{get_or_past}
+use Rattle.str_base.proofs.Tests.{and_true_left, eqb_self}
 use Rattle.str_base.specs.declared.names.Version.{Version}
 use Rattle.link_arena.specs.declared.heads.Head.{Head}
 use Rattle.link_arena.specs.declared.nodes.Ends.{Ends}
@@ -47,14 +48,10 @@ module _ {N : Type 0} (below : N → N → Bool) (names : N → Version → Bool
   named_is k None h = absurd (cc)
   named_is k (Some v) h = refl
 
-  and_left : (a b : Bool) → (a && b) ≡ true → a ≡ true
-  and_left true b h = refl
-  and_left false b h = h
-
   -- so what is in a list is there, and has its name
   pub named_in : (side : Side) (nodes : Slab Node) (heads : List (Head N)) (out : Option ℕ) → OnSide below names side nodes heads out
       → (k : N) (u : ℕ) → is_in u (row_at below side nodes heads k) ≡ true → is_named names k (version_at nodes u) ≡ true
-  named_in side nodes heads out on k u h = and_left (is_named names k (version_at nodes u)) (not (is_at out u)) (sym (on.member k u) ∙ h)
+  named_in side nodes heads out on k u h = and_true_left (is_named names k (version_at nodes u)) (not (is_at out u)) (sym (on.member k u) ∙ h)
 
   pub there_in : (side : Side) (nodes : Slab Node) (heads : List (Head N)) (out : Option ℕ) → OnSide below names side nodes heads out
       → (k : N) (u : ℕ) → is_in u (row_at below side nodes heads k) ≡ true → IsSome (version_at nodes u)
@@ -67,7 +64,7 @@ module _ {N : Type 0} (below : N → N → Bool) (names : N → Version → Bool
       → OnSide below names side new heads now × ((k : N) → row_at below side new heads k ≡ row_at below side old heads k)
   side_kept side old new heads out now on same member =
       let kept = λ (k : N). row_kept side old new (lookup below k heads) (row_at below side old heads k) (on.row k) (λ u h. same k u h)
-      (λ u h. named_is k (version_at new u) (and_left (is_named names k (version_at new u)) (not (is_at now u)) (sym (member k u) ∙ sym (on.member k u) ∙ h))) in (
+      (λ u h. named_is k (version_at new u) (and_true_left (is_named names k (version_at new u)) (not (is_at now u)) (sym (member k u) ∙ sym (on.member k u) ∙ h))) in (
         record {
           rise = on.rise;
           row = λ k. subst (λ ss. HasRow side new (lookup below k heads) ss) (sym (kept k).1) (kept k).0;
@@ -136,13 +133,6 @@ module _ {N : Type 0} (below : N → N → Bool) (names : N → Version → Bool
           at_o,
         )
 
-    and_true : (a : Bool) → (a && true) ≡ a
-    and_true true = refl
-    and_true false = refl
-
-    same_slot : (u s : ℕ) → (u == s) ≡ true → u ≡ s
-    same_slot u s h = grind (arith, nat_tests)
-
     -- a slot that was out of all lists is put into that of its name
     pub side_entered : (side : Side) (old new : Slab Node) (heads : List (Head N)) (slot : ℕ) (k : N) (next : Option ℕ) (ends : Ends) → OnSide below names side old heads (Some slot)
         → is_named names k (version_at old slot) ≡ true
@@ -157,7 +147,7 @@ module _ {N : Type 0} (below : N → N → Bool) (names : N → Version → Bool
         let member : (u : ℕ) → is_in u (put_before next slot ss) ≡ (is_named names k (version_at new u) && true) = λ u.
         in_put u next slot ss ∙ ap (λ b. (u == slot) || b) (on.member k u) ∙ by_test u (u == slot) refl ∙ ap (λ o. is_named names k o && true) (sym (version u)) in
         joined side old new heads k (Some ends) (put_before next slot ss) None on.rise row
-        (row_is side new (Some ends) (put_before next slot ss) row (λ u h. named_is k (version_at new u) (and_left (is_named names k (version_at new u)) true (sym (member u) ∙ h))))
+        (row_is side new (Some ends) (put_before next slot ss) row (λ u h. named_is k (version_at new u) (and_true_left (is_named names k (version_at new u)) true (sym (member u) ∙ h))))
         member
         (λ o n. row_kept side old new (lookup below o heads) (row_at below side old heads o) (on.row o)
         (λ u h. outside u (not_in_other side old heads (Some slot) on o k u n h) (apart o u h))
@@ -165,12 +155,12 @@ module _ {N : Type 0} (below : N → N → Bool) (names : N → Version → Bool
         (λ o n u. on.member o u ∙ other_test o u n (u == slot) refl ∙ ap (λ w. is_named names o w && true) (sym (version u)))
       where
         by_test : (u : ℕ) (b : Bool) → (u == slot) ≡ b → (b || (is_named names k (version_at old u) && not b)) ≡ (is_named names k (version_at old u) && true)
-        by_test u true e = sym (ap (λ w. is_named names k (version_at old w) && true) (same_slot u slot e) ∙ ap (λ t. t && true) named)
+        by_test u true e = sym (ap (λ w. is_named names k (version_at old w) && true) (eqb-true u slot e) ∙ ap (λ t. t && true) named)
         by_test u false e = refl
 
         other_test : (o : N) (u : ℕ) → o ≢ k → (b : Bool) → (u == slot) ≡ b → (is_named names o (version_at old u) && not b) ≡ (is_named names o (version_at old u) && true)
         other_test o u n true e =
-            let f = not_named o k (version_at old u) n (ap (λ w. is_named names k (version_at old w)) (same_slot u slot e) ∙ named) in
+            let f = not_named o k (version_at old u) n (ap (λ w. is_named names k (version_at old w)) (eqb-true u slot e) ∙ named) in
             rw f refl
         other_test o u n false e = refl
 
@@ -178,8 +168,7 @@ module _ {N : Type 0} (below : N → N → Bool) (names : N → Version → Bool
         apart o u h e =
             let q = subst (λ w. is_in w (row_at below side old heads o) ≡ true) e h in
             let r = on.member o slot in
-            let same : (slot == slot) ≡ true = grind (arith, nat_tests) in
-            no (is_named names o (version_at old slot)) (sym q ∙ r ∙ ap (λ t. is_named names o (version_at old slot) && not t) same)
+            no (is_named names o (version_at old slot)) (sym q ∙ r ∙ ap (λ t. is_named names o (version_at old slot) && not t) (eqb_self slot))
           where
             no : (a : Bool) → true ≡ (a && false) → ⊥
             no true h = absurd (cc)
@@ -198,9 +187,9 @@ module _ {N : Type 0} (below : N → N → Bool) (names : N → Version → Bool
         let ss = row_at below side old heads k in
         let once = forth_once (after_at side old) ss (on.row k).forth in
         let member : (u : ℕ) → is_in u (taken slot ss) ≡ (is_named names k (version_at new u) && not (u == slot)) = λ u.
-        in_taken u slot ss once ∙ ap (λ b. b && not (u == slot)) (on.member k u ∙ and_true (is_named names k (version_at old u))) ∙ ap (λ o. is_named names k o && not (u == slot)) (sym (version u)) in
+        in_taken u slot ss once ∙ ap (λ b. b && not (u == slot)) (on.member k u ∙ and-true (is_named names k (version_at old u))) ∙ ap (λ o. is_named names k o && not (u == slot)) (sym (version u)) in
         joined side old new heads k ends (taken slot ss) (Some slot) on.rise row
-        (row_is side new ends (taken slot ss) row (λ u h. named_is k (version_at new u) (and_left (is_named names k (version_at new u)) (not (u == slot)) (sym (member u) ∙ h))))
+        (row_is side new ends (taken slot ss) row (λ u h. named_is k (version_at new u) (and_true_left (is_named names k (version_at new u)) (not (u == slot)) (sym (member u) ∙ h))))
         member
         (λ o n. row_kept side old new (lookup below o heads) (row_at below side old heads o) (on.row o)
         (λ u h. outside u (not_in_other side old heads None on o k u n h))
@@ -209,7 +198,7 @@ module _ {N : Type 0} (below : N → N → Bool) (names : N → Version → Bool
       where
         other_test : (o : N) (u : ℕ) → o ≢ k → (b : Bool) → (u == slot) ≡ b → (is_named names o (version_at old u) && true) ≡ (is_named names o (version_at old u) && not b)
         other_test o u n true e =
-            let f = not_named o k (version_at old u) n (ap (λ w. is_named names k (version_at old w)) (same_slot u slot e) ∙ named) in
+            let f = not_named o k (version_at old u) n (ap (λ w. is_named names k (version_at old w)) (eqb-true u slot e) ∙ named) in
             rw f refl
         other_test o u n false e = refl
 
@@ -223,12 +212,7 @@ module _ {N : Type 0} (below : N → N → Bool) (names : N → Version → Bool
   -- a slot that is out of all lists is in none
   pub slot_out : (side : Side) (nodes : Slab Node) (heads : List (Head N)) (slot : ℕ) → OnSide below names side nodes heads (Some slot) → (k : N) → is_in slot (row_at below side nodes heads k) ≡ false
   slot_out side nodes heads slot on k =
-      let same : (slot == slot) ≡ true = grind (arith, nat_tests) in
-      on.member k slot ∙ ap (λ t. is_named names k (version_at nodes slot) && not t) same ∙ never (is_named names k (version_at nodes slot))
-    where
-      never : (a : Bool) → (a && false) ≡ false
-      never true = refl
-      never false = refl
+      on.member k slot ∙ ap (λ t. is_named names k (version_at nodes slot) && not t) (eqb_self slot) ∙ and-false (is_named names k (version_at nodes slot))
 
   -- where none is out, a slot is in the list of its name
   pub slot_in : (side : Side) (nodes : Slab Node) (heads : List (Head N)) (slot : ℕ) (k : N) → OnSide below names side nodes heads None → is_named names k (version_at nodes slot) ≡ true

@@ -15,7 +15,7 @@ use Rattle.link_arena.specs.declared.nodes.Side.TheVariants.{ByKey, ByTx}
 use Rattle.link_arena.specs.declared.nodes.Slot.{Slot}
 use Rattle.link_arena.specs.HeadLists.{key_below, key_names}
 use Rattle.link_arena.specs.OneSide.{OnSide, is_named}
-use Rattle.link_arena.specs.Rows.{Once, first_or, is_in}
+use Rattle.link_arena.specs.Rows.{Once, first_or, is_in, put_before, taken}
 use Rattle.link_arena.specs.Sides.{row_of, version_of}
 
 -- the version or nothing in each slot from 0 on, the keys in order, each with its slots in order, the same of transactions, and how many versions are taken without memory
@@ -46,6 +46,7 @@ tx_list a t = list_of tx_before t a.by_tx
 abbrev pub rows_of : {N : Type 0} → Side → Slab Node → List (Head N) → List (N × List ℕ)
 rows_of side nodes heads = map (λ h. (h.name, row_of side nodes (Some h.ends))) heads
 
+-- the arena with these nodes, ends of lists and room
 abbrev pub view_of : Slab Node → List (Head KeyId) → List (Head TxId) → ℕ → ArenaView
 view_of nodes keys txs spare = record { versions = map version_of nodes.slots; by_key = rows_of ByKey nodes keys; by_tx = rows_of ByTx nodes txs; spare = spare }
 
@@ -89,6 +90,14 @@ next_of s (u ∷ us) = if s == u then first_or None us else next_of s us
 abbrev pub prev_of : ℕ → Option ℕ → List ℕ → Option ℕ
 prev_of s b [] = None
 prev_of s b (u ∷ us) = if s == u then b else prev_of s (Some u) us
+
+-- a list, with the slot put into it before the one that is named if it is the list of its name
+abbrev pub entered : Bool → Option ℕ → ℕ → List ℕ → List ℕ
+entered named next s ss = if named then put_before next s ss else ss
+
+-- a list, with the slot moved in it before the one that is named if it is the list of its name
+abbrev pub moved : Bool → Option ℕ → ℕ → List ℕ → List ℕ
+moved named next s ss = if named then put_before next s (taken s ss) else ss
 
 -- a version with another timestamp and kind
 abbrev pub dated : Ts → Kind → Option Version → Option Version

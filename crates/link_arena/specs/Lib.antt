@@ -1,4 +1,5 @@
 pub mod HeadLists
+pub mod NameOrders
 pub mod Rows
 pub mod Sides
 pub mod OneSide

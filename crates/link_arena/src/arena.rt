@@ -2,12 +2,12 @@
 ghost use Rattle.std.specs.Prelude.{◌≡◌, ◌≤◌, ◌<◌, ◌+◌, ◌==◌, ◌^◌, ℕ, [], IsSome, None, OnErr, OnOk, Some, length, if◌then◌else◌};
 ghost use Rattle.std.specs.List.{last_or};
 ghost use Rattle.str_base.specs.Versions.{of_tx};
-ghost use Rattle.link_arena.specs.Arenas.{AreLists, at, dated, key_list, next_of, number_of, prev_of, tx_list};
+ghost use Rattle.link_arena.specs.Arenas.{AreLists, at, dated, entered, key_list, moved, next_of, number_of, prev_of, tx_list};
 ghost use Rattle.link_arena.specs.HeadLists.{key_names};
 ghost use Rattle.str_base.specs.declared.names.KeyId.{KeyId};
 ghost use Rattle.str_base.specs.declared.names.TxId.{TxId};
 ghost use Rattle.str_base.specs.declared.names.Version.{Version};
-ghost use Rattle.link_arena.specs.Rows.{IsPlace, first_of, first_or, last_of, put_before, taken};
+ghost use Rattle.link_arena.specs.Rows.{IsPlace, first_of, first_or, last_of, taken};
 
 use crate::heads::{Head, find};
 use crate::lists::{enter, leave};
@@ -116,8 +116,8 @@ impl Arena {
         requires place { IsPlace (number_of before) (key_list self.old version.key) }
         ensures vacant { at self.old result.0 ≡ None }
         ensures at { (u : ℕ) → at self.new u ≡ (if u == result.0 then Some version else at self.old u) }
-        ensures key_list { (k : KeyId) → key_list self.new k ≡ (if key_names k version then put_before (number_of before) result.0 (key_list self.old k) else key_list self.old k) }
-        ensures tx_list { (t : TxId) → tx_list self.new t ≡ (if of_tx t version then put_before None result.0 (tx_list self.old t) else tx_list self.old t) }
+        ensures key_list { (k : KeyId) → key_list self.new k ≡ entered (key_names k version) (number_of before) result.0 (key_list self.old k) }
+        ensures tx_list { (t : TxId) → tx_list self.new t ≡ entered (of_tx t version) None result.0 (tx_list self.old t) }
         ensures lists { AreLists self.new }
         ensures spare { self.new.spare + 1 ≡ self.old.spare }
     {
@@ -148,7 +148,7 @@ impl Arena {
 
     /// Makes room for `n` more versions at least. After an error all is as before.
     pub fn reserve(&mut self, n: usize) -> Result<(), AllocError>
-        ensures lists { self.new ≡ record self.old { spare = self.new.spare } }
+        ensures same { self.new ≡ record self.old { spare = self.new.spare } }
         ensures room { OnOk result (n ≤ self.new.spare) }
         ensures kept { self.old.spare ≤ self.new.spare }
         ensures err { OnErr result (self.new ≡ self.old) }
@@ -173,20 +173,9 @@ impl Arena {
         ensures spare { self.new.spare ≡ self.old.spare }
     {
         let version = read(&self.nodes, slot.0).version;
-        leave(
-            &mut self.nodes,
-            &mut self.keys,
-            Side::ByKey,
-            version.key,
-            slot.0,
-        );
-        leave(
-            &mut self.nodes,
-            &mut self.txs,
-            Side::ByTx,
-            version.tx,
-            slot.0,
-        );
+        let Version { key, tx, .. } = version;
+        leave(&mut self.nodes, &mut self.keys, Side::ByKey, key, slot.0);
+        leave(&mut self.nodes, &mut self.txs, Side::ByTx, tx, slot.0);
         self.nodes.remove(slot.0);
         version
     }
@@ -196,26 +185,21 @@ impl Arena {
         requires known { IsSome (at self.old slot.0) }
         requires place { (v : Version) → at self.old slot.0 ≡ Some v → IsPlace (number_of before) (taken slot.0 (key_list self.old v.key)) }
         ensures at { (u : ℕ) → at self.new u ≡ at self.old u }
-        ensures key_list { (v : Version) → at self.old slot.0 ≡ Some v → (k : KeyId) → key_list self.new k ≡ (if key_names k v then put_before (number_of before) slot.0 (taken slot.0 (key_list self.old k)) else key_list self.old k) }
+        ensures key_list { (v : Version) → at self.old slot.0 ≡ Some v → (k : KeyId) → key_list self.new k ≡ moved (key_names k v) (number_of before) slot.0 (key_list self.old k) }
         ensures tx_list { (t : TxId) → tx_list self.new t ≡ tx_list self.old t }
         ensures lists { AreLists self.new }
         ensures spare { self.new.spare ≡ self.old.spare }
     {
-        let version = read(&self.nodes, slot.0).version;
-        leave(
-            &mut self.nodes,
-            &mut self.keys,
-            Side::ByKey,
-            version.key,
-            slot.0,
-        );
+        let key = read(&self.nodes, slot.0).version.key;
+        leave(&mut self.nodes, &mut self.keys, Side::ByKey, key, slot.0);
+        let next = number(before);
         enter(
             &mut self.nodes,
             &mut self.keys,
             Side::ByKey,
-            version.key,
+            key,
             slot.0,
-            number(before),
+            next,
         );
     }
 
@@ -292,42 +276,4 @@ fn sendable<T: Send + Sync>(_: &T) {}
 
 fn all_sendable(arena: &Arena) {
     sendable(arena);
-}
-
-#[cfg(test)]
-mod tests {
-    use super::*;
-    use std::test::Fail;
-    use str_base::{NodeId, PartId, Value};
-
-    fn version(key: u32, seq: u32, ts: u64) -> Version {
-        Version {
-            key: KeyId(key),
-            part: PartId(1),
-            tx: TxId {
-                node: NodeId(1),
-                seq,
-            },
-            ts: Ts(ts),
-            value: Value::Num(7),
-            kind: Kind::Pre,
-        }
-    }
-
-    #[test]
-    fn a_slot_from_first_to_last(rt: HostRuntime) -> Result<(), Fail> {
-        let mut arena = Arena::new(rt.alloc());
-        arena.reserve(2)?;
-        let first = arena.insert(version(5, 1, 20), None);
-        let last = arena.insert(version(5, 2, 30), None);
-        assert_eq!(rt; arena.first_of_key(KeyId(5)), Some(first));
-        assert_eq!(rt; arena.last_of_key(KeyId(5)), Some(last));
-        assert_eq!(rt; arena.first_of_tx(version(5, 2, 30).tx), Some(last));
-        assert_eq!(rt; arena.first_of_key(KeyId(4)), None);
-        assert_eq!(rt; arena.before_in_key(last), Some(first));
-        assert_eq!(rt; arena.next_in_key(last), None);
-        assert_eq!(rt; arena.unlink(last), version(5, 2, 30));
-        assert_eq!(rt; arena.last_of_key(KeyId(5)), Some(first));
-        Ok(())
-    }
 }

@@ -1,11 +1,12 @@
 //! Versions in slots, each linked into the list of its key and into the list of its transaction.
 #![tactic(auto)]
 
-pub mod arena;
-pub mod heads;
-pub mod lists;
-pub mod nodes;
+mod arena;
+mod heads;
+mod lists;
+mod nodes;
+#[cfg(test)]
+mod tests;
 
 pub use arena::Arena;
-pub use heads::{Head, Name};
-pub use nodes::{Ends, Link, Node, Side, Slot};
+pub use nodes::Slot;

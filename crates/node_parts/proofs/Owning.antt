@@ -8,3 +8,4 @@ pub mod ListKept
 pub mod ScriptTurns
 pub mod DependencyFates
 pub mod Participants
+pub mod ScriptsHere

@@ -4,3 +4,4 @@ pub mod Sending
 pub mod Letters
 pub mod Sites
 pub mod Holding
+pub mod NodeScripts

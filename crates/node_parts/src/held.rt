@@ -1,5 +1,7 @@
 //! What a node holds.
 ghost use Rattle.std.specs.Prelude.{◌≡◌, ◌≤◌, [], IfOk, OnOk, length, replicate};
+ghost use Rattle.cache_partition.specs.CacheLists.{IsCache};
+ghost use Rattle.replica_store.specs.StoreLists.{IsStore};
 ghost use Rattle.node_parts.specs.Holding.{HasRoom, SameHeld, StandsAt};
 ghost use Rattle.str_base.specs.declared.names.PartId.{PartId as Part};
 ghost use Rattle.str_scene.specs.Scenes.{hosts};
@@ -11,7 +13,7 @@ use last_reader::Marks;
 use replica_store::{DoneList, Parked, ReplicaStore};
 use std::alloc::{AllocError, Global};
 use std::marker::{Send, Sync};
-use str_base::{PartId, ShortList, Ts};
+use str_base::{NodeId, PartId, ShortList, Ts};
 
 /// What a node holds: the versions of its partitions and those that it caches, the marks of all keys, its floor, the pairs that were decided, and
 /// those who wait.
@@ -44,6 +46,15 @@ impl Held {
             done: DoneList::new(alloc),
             parked: Parked::new(alloc),
         })
+    }
+
+    /// The node.
+    pub fn node(&self) -> NodeId
+        ensures value { result ≡ self.now.store.node }
+        ensures kept { IsStore self.now.store × IsCache self.now.cache }
+    {
+        let _ = self.cache.node();
+        self.store.node()
     }
 
     /// Makes room for `n` more in each list. All that it holds stays, also after an error.

@@ -1,17 +1,18 @@
 //! What a node knows of its scene.
+ghost use Rattle.node_parts.specs.NodeScripts.{scripts_of};
 ghost use Rattle.node_parts.specs.Sites.{has_script, is_at};
-ghost use Rattle.std.specs.Prelude.{◌≡◌, ◌-◌, IfOk, true};
+ghost use Rattle.std.specs.Prelude.{◌≡◌, ◌≤◌, ◌-◌, IfOk, length, sum_by, true};
 ghost use Rattle.str_model.specs.NodeFacts.{PlacedIn};
 ghost use Rattle.str_model.specs.Strange.{has_node};
 ghost use Rattle.str_scene.specs.SceneLimits.{IsScene};
-ghost use Rattle.str_scene.specs.Scenes.{map_of, nth, script_at};
+ghost use Rattle.str_scene.specs.Scenes.{Session, map_of, nth, script_at};
 
 use partition_map::{PartRow, PartitionMap};
 use std::alloc::{AllocError, Global};
 use std::marker::{Model, Send, Sync};
 use std::sync::Arc;
 use str_base::{KeyId, NodeId, PartId, SessionId};
-use str_scene::{OpList, Scene, TxPlace};
+use str_scene::{OpList, Scene, SessionText, TxPlace};
 
 /// A node's place in a scene: the scene, one of its nodes, and the map of its partitions. It is seen as the scene and the node. Places that are
 /// made beside one another share the scene and the map.
@@ -96,6 +97,13 @@ impl Site {
         sessions[session.0 as usize - 1].node() == self.id
     }
 
+    /// How many scripts the sessions of the node have.
+    pub fn scripts(&self) -> usize
+        ensures { result ≡ scripts_of self.now.node self.now.scene.sessions }
+    {
+        scripts_of(self.scene.sessions(), self.id)
+    }
+
     /// Whether there is a script at a place.
     pub fn has_script(&self, place: TxPlace) -> bool
         ensures { result ≡ has_script (nth self.now.scene.sessions place.session.0) place }
@@ -117,6 +125,20 @@ impl Site {
         let text = &sessions[place.session.0 as usize - 1];
         &text.txs()[place.index as usize - 1]
     }
+}
+
+/// How many scripts the sessions of a node have.
+fn scripts_of(sessions: &[SessionText], node: NodeId) -> usize
+    requires { sum_by (λ (s : Session). length s.txs) sessions.now ≤ 1024 }
+    ensures { result ≡ scripts_of node sessions.now }
+{
+    let mut count = 0;
+    for session in sessions {
+        if session.node() == node {
+            count += session.txs().len();
+        }
+    }
+    count
 }
 
 /// The map of a scene.

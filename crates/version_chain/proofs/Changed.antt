@@ -7,22 +7,25 @@ use Rattle.str_base.specs.declared.names.Ts.{Ts}
 use Rattle.str_base.specs.declared.names.Version.{Version}
 use Rattle.str_base.specs.Versions.{finalise, is_before, settled, without}
 use Rattle.link_arena.specs.Arenas.{AreLists, ArenaView, at, dated, key_list, next_of}
-use Rattle.link_arena.specs.HeadLists.{key_names, key_one}
+use Rattle.link_arena.specs.HeadLists.{key_names}
 use Rattle.link_arena.specs.OneSide.{is_named}
 use Rattle.link_arena.specs.Rows.{Once, first_or, is_at, is_in, put_before, taken}
+use Rattle.link_arena.specs.NameOrders.{key_one}
 use Rattle.link_arena.proofs.ArenaLemmas.{has_key}
-use Rattle.link_arena.proofs.RowLemmas.{in_taken}
+use Rattle.link_arena.proofs.RowLemmas.{deeper, here, in_taken}
+use Rattle.str_base.proofs.Tests.{eqb_self}
 use Rattle.version_chain.specs.ChainLists.{Apart, Each, IsOrdered, Precedes}
 use Rattle.version_chain.specs.Flat.{IsChains, flat, goes_before, picked, spot}
 use Rattle.version_chain.specs.Walks.{with_version}
 use Rattle.version_chain.proofs.Each.{each_so}
-use Rattle.version_chain.proofs.Flats.{flat_found, flat_has, flat_ordered, picked_has, there}
+use Rattle.version_chain.proofs.Flats.{flat_found, flat_has, flat_ordered, picked_has}
+use Rattle.link_arena.proofs.Listed.{there}
 use Rattle.version_chain.proofs.Keeping.{ordered_filter, ordered_finalise, ordered_insert}
-use Rattle.std.proofs.lemmas.Bool.{not-true}
+use Rattle.std.proofs.lemmas.Bool.{and_parts, not-true}
 use Rattle.str_base.proofs.Members.{In, filter_in, in_filter}
 use Rattle.version_chain.proofs.Telling.{each_in, finalise_keeps, finalise_settles, in_finalise, ordered_tells}
 use Rattle.str_base.proofs.Order.{apart_back, before_trans}
-use Rattle.version_chain.proofs.Spots.{deeper, here, picked_alike, put_picked, spot_in}
+use Rattle.version_chain.proofs.Spots.{picked_alike, put_picked, spot_in}
 
 -- ---- a list without a slot
 
@@ -82,14 +85,11 @@ once_taken s (u ∷ us) o = by_test (s == u) (once_taken s us o.1)
     by_test true rec = o.1
     by_test false rec = (in_taken u s us o.1 ∙ ap (λ (b : Bool). b && not (u == s)) o.0, rec)
 
-both : (a b : Bool) → (a && not b) ≡ true → (a ≡ true) × (b ≡ false)
-both true true h = absurd (cc)
-both true false h = (refl, refl)
-both false b h = absurd (cc)
-
 -- the slots that are left
 pub left_in : (u s : ℕ) (ss : List ℕ) → Once ss → is_in u (taken s ss) ≡ true → (is_in u ss ≡ true) × ((u == s) ≡ false)
-left_in u s ss o h = both (is_in u ss) (u == s) (sym (in_taken u s ss o) ∙ h)
+left_in u s ss o h =
+    let p = and_parts (is_in u ss) (not (u == s)) (sym (in_taken u s ss o) ∙ h) in
+    (p.0, not-true (u == s) p.1)
 
 -- a slot of another key
 pub other_slot : (a : ArenaView) → AreLists a → (k : KeyId) (s : ℕ) (w : Version) → at a s ≡ Some w → key_names k w ≡ false → (u : ℕ) → is_in u (key_list a k) ≡ true → (u == s) ≡ false
@@ -108,7 +108,7 @@ other_slot a l k s w e n u i = by_test (u == s) refl
 module _ (a b : ArenaView) (s : ℕ) (w : Version) (c : IsChains a) (l : AreLists b) (e : at a s ≡ Some w) (ats : (u : ℕ) → at b u ≡ (if u == s then None else at a u))
     (rows : (k : KeyId) → key_list b k ≡ (if key_names k w then taken s (key_list a k) else key_list a k)) where
   pub gone : at b s ≡ None
-  gone = let q : (s == s) ≡ true = grind (arith, nat_tests) in ats s ∙ ap (λ (t : Bool). if t then None else at a s) q
+  gone = ats s ∙ ap (λ (t : Bool). if t then None else at a s) (eqb_self s)
 
   pub stays : (u : ℕ) → (u == s) ≡ false → at b u ≡ at a u
   stays u q = ats u ∙ ap (λ (t : Bool). if t then None else at a u) q
@@ -152,9 +152,6 @@ spot_taken f v w s [] o p there h e = absurd (cc)
 spot_taken f v w s (u ∷ us) o p there h e =
     by_test (s == u) refl h (λ k. spot_taken f v w s us o.1 (ordered_rest (f u) (picked f us) p) (λ x i. there x (deeper x u us i)) k e)
   where
-    same : (x : ℕ) → (x == x) ≡ true
-    same x = grind (arith, nat_tests)
-
     -- all that follow a version that it precedes
     first_spot : (y : Version) (xs : List ℕ) → Each (Precedes y) (picked f xs) → ((x : ℕ) → is_in x xs ≡ true → IsSome (f x)) → is_before v y ≡ true → spot f v xs ≡ first_or None xs
     first_spot y [] a t q = refl

@@ -1,12 +1,11 @@
 -- What is still to be done of the list of a transaction.
-use Rattle.std.proofs.Common.{Bool, IsSome, List, None, Option, Some, [], ap, arith, false, if◌then◌else◌, inl, inr, length, refl, subst, sym, true, ℕ, ◌<◌, ◌==◌, ◌||◌, ◌∙◌, ◌∷◌, ◌≡◌, ◌⊎◌}
+use Rattle.std.proofs.Common.{Bool, List, None, Option, Some, [], ap, arith, false, if◌then◌else◌, inl, inr, length, refl, subst, sym, true, ℕ, ◌<◌, ◌==◌, ◌||◌, ◌∙◌, ◌∷◌, ◌≡◌, ◌⊎◌}
 use Rattle.std.proofs.lemmas.Bool.Decides.{nat_tests}
 use Rattle.str_base.specs.declared.names.PartId.{PartId}
 use Rattle.str_base.specs.declared.names.TxId.{TxId}
 use Rattle.str_base.specs.declared.names.Version.{Version}
 use Rattle.str_base.specs.Versions.{of_pair, of_tx, same_part, same_tx}
 use Rattle.link_arena.specs.Arenas.{AreLists, ArenaView, at, next_of, tx_list}
-use Rattle.link_arena.specs.HeadLists.{tx_one}
 use Rattle.link_arena.specs.OneSide.{is_named}
 use Rattle.link_arena.specs.Rows.{IsPlace, Once, first_or, is_in, taken}
 use Rattle.link_arena.proofs.ArenaLemmas.{has_tx}
@@ -14,17 +13,14 @@ use Rattle.version_chain.specs.Flat.{beyond, flat, from_slot}
 use Rattle.version_chain.proofs.Flats.{flat_found}
 use Rattle.str_base.proofs.Members.{In}
 use Rattle.std.proofs.lemmas.Bool.{and_parts}
-use Rattle.version_chain.proofs.Spots.{deeper, differs, here}
+use Rattle.link_arena.proofs.Listed.{first_place, next_place}
+use Rattle.link_arena.proofs.RowLemmas.{apart_from, deeper}
 
 -- each version that fits is in one of these slots, or is done with
 pub record IsPending (f : ℕ → Option Version) (test : Version → Bool) (Done : Version → Type 0) (ss : List ℕ) : Type 0 where
   pub each : (u : ℕ) (v : Version) → f u ≡ Some v → test v ≡ true → (is_in u ss ≡ true) ⊎ Done v
 
 -- ---- what follows a slot
-
-pub first_place : (us : List ℕ) → IsPlace (first_or None us) us
-first_place [] = tt
-first_place (u ∷ us) = here u us
 
 pub from_first : (ss : List ℕ) → from_slot (first_or None ss) ss ≡ ss
 from_first [] = refl
@@ -39,21 +35,9 @@ from_is s (u ∷ us) h = by_test (s == u) refl h (λ k. from_is s us k)
     by_test true e h rec = let q : s ≡ u = grind (arith, nat_tests) in ap (λ (x : ℕ). x ∷ us) (sym q)
     by_test false e h rec = rec h
 
-pub next_place : (s : ℕ) (ss : List ℕ) → IsPlace (next_of s ss) ss
-next_place s [] = tt
-next_place s (u ∷ us) = by_test (s == u) (next_place s us)
-  where
-    more : (o : Option ℕ) → IsPlace o us → IsPlace o (u ∷ us)
-    more None h = tt
-    more (Some x) h = deeper x u us h
-
-    by_test : (b : Bool) → IsPlace (next_of s us) us → IsPlace (if b then first_or None us else next_of s us) (u ∷ us)
-    by_test true rec = more (first_or None us) (first_place us)
-    by_test false rec = more (next_of s us) rec
-
 skip_from : (o : Option ℕ) (u : ℕ) (us ws : List ℕ) → is_in u us ≡ false → IsPlace o us → from_slot o (u ∷ ws) ≡ from_slot o ws
 skip_from None u us ws n h = refl
-skip_from (Some x) u us ws n h = ap (λ (b : Bool). if b then u ∷ ws else from_slot (Some x) ws) (differs u x us n h)
+skip_from (Some x) u us ws n h = ap (λ (b : Bool). if b then u ∷ ws else from_slot (Some x) ws) (apart_from x u us n h)
 
 pub from_next : (s : ℕ) (ss : List ℕ) → Once ss → from_slot (next_of s ss) ss ≡ beyond (Some s) ss
 from_next s [] o = refl
@@ -95,17 +79,6 @@ pub one_less : (xs ys : List ℕ) (s : ℕ) → xs ≡ s ∷ ys → length ys < 
 one_less xs ys s e = let l = ap (λ (ws : List ℕ). length ws) e in omega (arith, l)
 
 -- ---- the slots of a transaction
-
-tx_named : (t : TxId) (o : Option Version) → is_named of_tx t o ≡ true → IsSome o
-tx_named t None h = absurd (cc)
-tx_named t (Some v) h = refl
-
-pub tx_there : (a : ArenaView) → AreLists a → (t : TxId) (u : ℕ) → is_in u (tx_list a t) ≡ true → IsSome (at a u)
-tx_there a l t u h = tx_named t (at a u) (sym (l.in_tx t u) ∙ h)
-
--- the version of a slot of a transaction is of the transaction
-pub tx_is : (a : ArenaView) → AreLists a → (t : TxId) (u : ℕ) (v : Version) → is_in u (tx_list a t) ≡ true → at a u ≡ Some v → v.tx ≡ t
-tx_is a l t u v h e = tx_one v.tx t v (has_tx v) (ap (λ o. is_named of_tx t o) (sym e) ∙ sym (l.in_tx t u) ∙ h)
 
 module _ (Done : Version → Type 0) where
   -- at first all slots of the transaction are pending

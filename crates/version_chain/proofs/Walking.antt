@@ -1,15 +1,16 @@
 -- A walk over the slots of a key, step by step.
-use Rattle.std.proofs.Common.{Bool, IfNone, List, None, Option, Some, [], ap, arith, false, if◌then◌else◌, refl, subst, sym, true, ℕ, ◌++◌, ◌==◌, ◌||◌, ◌∙◌, ◌∷◌, ◌≡◌}
-use Rattle.std.proofs.lemmas.Bool.Decides.{nat_tests}
+use Rattle.std.proofs.Common.{Bool, IfNone, List, None, Option, Some, [], ap, false, if◌then◌else◌, refl, subst, sym, true, ℕ, ◌++◌, ◌==◌, ◌||◌, ◌∙◌, ◌∷◌, ◌≡◌}
 use Rattle.std.proofs.lemmas.List.{append-nil}
 use Rattle.std.specs.List.{last_or}
 use Rattle.str_base.specs.declared.names.KeyId.{KeyId}
 use Rattle.str_base.specs.declared.names.Version.{Version}
 use Rattle.link_arena.specs.Arenas.{ArenaView, at, key_list, next_of, prev_of}
 use Rattle.link_arena.specs.Rows.{IsPlace, Once, first_or, is_in}
+use Rattle.link_arena.proofs.RowLemmas.{apart_from, deeper, here}
+use Rattle.str_base.proofs.Tests.{eqb_self}
 use Rattle.version_chain.specs.Flat.{beyond, picked, up_to}
 use Rattle.version_chain.specs.Walks.{with_version}
-use Rattle.version_chain.proofs.Spots.{beyond_last, beyond_prev, deeper, differs, here, prev_place}
+use Rattle.version_chain.proofs.Spots.{beyond_last, beyond_prev, prev_place}
 
 -- the slot that follows a place
 pub record IsNext (p : Option ℕ) (ss : List ℕ) (s : ℕ) : Type 0 where
@@ -17,23 +18,20 @@ pub record IsNext (p : Option ℕ) (ss : List ℕ) (s : ℕ) : Type 0 where
   pub behind : up_to (Some s) ss ≡ up_to p ss ++ s ∷ []
   pub listed : is_in s ss ≡ true
 
-own : (u : ℕ) → (u == u) ≡ true
-own u = grind (arith, nat_tests)
-
 first_next : (ss : List ℕ) (s : ℕ) → Some s ≡ first_or None ss → IsNext None ss s
 first_next [] s e = absurd (cc)
 first_next (u ∷ us) s e =
     let q : s ≡ u = cc in
     subst (λ (x : ℕ). IsNext None (u ∷ us) x) (sym q) (record {
-      ahead = ap (λ (b : Bool). u ∷ (if b then us else beyond (Some u) us)) (sym (own u));
-      behind = ap (λ (b : Bool). if b then u ∷ [] else u ∷ up_to (Some u) us) (own u);
+      ahead = ap (λ (b : Bool). u ∷ (if b then us else beyond (Some u) us)) (sym (eqb_self u));
+      behind = ap (λ (b : Bool). if b then u ∷ [] else u ∷ up_to (Some u) us) (eqb_self u);
       listed = here u us;
     })
 
 -- a slot more before the list
 later_next : (p : Option ℕ) (u : ℕ) (us : List ℕ) (s : ℕ) → is_in u us ≡ false → IsNext p us s → (q : Option ℕ) → beyond q (u ∷ us) ≡ beyond p us → up_to q (u ∷ us) ≡ u ∷ up_to p us → IsNext q (u ∷ us) s
 later_next p u us s n r q f g =
-    let d = differs u s us n r.listed in
+    let d = apart_from s u us n r.listed in
     record {
       ahead = f ∙ r.ahead ∙ ap (λ (b : Bool). s ∷ (if b then us else beyond (Some s) us)) (sym d);
       behind = ap (λ (b : Bool). if b then u ∷ [] else u ∷ up_to (Some s) us) d ∙ ap (λ (ws : List ℕ). u ∷ ws) r.behind ∙ ap (λ (ws : List ℕ). ws ++ s ∷ []) (sym g);

@@ -3,8 +3,8 @@ use Rattle.std.specs.Prelude.{Bool, List, None, Option, Some, [], false, if◌th
 use Rattle.str_base.specs.declared.names.KeyId.{KeyId}
 use Rattle.str_base.specs.declared.names.Version.{Version}
 use Rattle.link_arena.specs.Arenas.{ArenaView, AreLists, at, key_list}
-use Rattle.link_arena.specs.Rows.{IsPlace, first_or}
-use Rattle.str_base.specs.Versions.{is_before}
+use Rattle.link_arena.specs.Rows.{IsPlace, first_or, taken}
+use Rattle.str_base.specs.Versions.{is_before, settled}
 use Rattle.version_chain.specs.ChainLists.{IsOrdered}
 use Rattle.version_chain.specs.Walks.{WalkView, with_version}
 
@@ -58,6 +58,10 @@ goes_before v (Some w) = is_before v w
 abbrev pub spot : (ℕ → Option Version) → Version → List ℕ → Option ℕ
 spot f v [] = None
 spot f v (u ∷ us) = if goes_before v (f u) then Some u else spot f v us
+
+-- the first of the other slots of its key before whose version that of a slot is to stand, as its commit leaves it
+abbrev pub settled_spot : ArenaView → ℕ → ℕ → Version → Option ℕ
+settled_spot a s fc v = spot (at a) (settled fc v) (taken s (key_list a v.key))
 
 -- a walk over the slots of a key that stands after this slot
 abbrev pub walk_view : ArenaView → KeyId → Option ℕ → WalkView

@@ -7,7 +7,8 @@ use Rattle.link_arena.specs.Rows.{IsPlace, is_in}
 use Rattle.version_chain.specs.Flat.{flat, from_slot}
 use Rattle.version_chain.proofs.Changed.{finalise_none, finalise_same, keeps, now, settled_again}
 use Rattle.version_chain.proofs.Flats.{flat_ordered}
-use Rattle.version_chain.proofs.Pending.{unfit, all_done, from_next, next_place, one_less, pending_first, pending_step, rest_is, first_place, tx_is, tx_there}
+use Rattle.link_arena.proofs.Listed.{next_place, first_place, tx_is, tx_there}
+use Rattle.version_chain.proofs.Pending.{unfit, all_done, from_next, one_less, pending_first, pending_step, rest_is}
 use Rattle.version_chain.proofs.pairs.finalise_pair.Goals as goal
 
 pub slots-init : goal.slots-init

@@ -8,7 +8,8 @@ use Rattle.version_chain.specs.Flat.{flat, from_slot}
 use Rattle.version_chain.proofs.Flats.{flat_has}
 use Rattle.str_base.proofs.Members.{any_in}
 use Rattle.version_chain.proofs.Telling.{any_none}
-use Rattle.version_chain.proofs.Pending.{unfit, from_next, next_place, none_fits, one_less, pending_first, pending_step, rest_is, first_place, tx_is, tx_there}
+use Rattle.link_arena.proofs.Listed.{next_place, first_place, tx_is, tx_there}
+use Rattle.version_chain.proofs.Pending.{unfit, from_next, none_fits, one_less, pending_first, pending_step, rest_is}
 use Rattle.version_chain.proofs.pairs.has_pair.Goals as goal
 
 pub slots-init : goal.slots-init

@@ -7,7 +7,8 @@ use Rattle.link_arena.specs.Rows.{IsPlace, is_in, taken}
 use Rattle.version_chain.specs.Flat.{flat, from_slot}
 use Rattle.version_chain.proofs.Changed.{gone, stays, unlinked_chains, without_same}
 use Rattle.version_chain.proofs.Telling.{without_none}
-use Rattle.version_chain.proofs.Pending.{one_list, unfit, vacant_at, from_next, from_taken, next_place, next_place_taken, none_fits, one_less, pending_first, pending_step, rest_is, first_place, tx_is, tx_there}
+use Rattle.link_arena.proofs.Listed.{next_place, first_place, tx_is, tx_there}
+use Rattle.version_chain.proofs.Pending.{one_list, unfit, vacant_at, from_next, from_taken, next_place_taken, none_fits, one_less, pending_first, pending_step, rest_is}
 use Rattle.version_chain.proofs.pairs.remove_pair.Goals as goal
 
 pub slots-init : goal.slots-init

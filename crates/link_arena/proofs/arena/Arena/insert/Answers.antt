@@ -5,9 +5,10 @@ use Rattle.str_base.specs.declared.names.Version.{Version}
 use Rattle.str_base.specs.Versions.{of_tx, tx_before}
 use Rattle.link_arena.specs.Arenas.{ArenaView, at, key_list, number_of, tx_list}
 use Rattle.link_arena.specs.declared.nodes.Side.TheVariants.{ByKey, ByTx}
-use Rattle.link_arena.specs.HeadLists.{key_below, key_names, key_one, tx_one}
+use Rattle.link_arena.specs.HeadLists.{key_below, key_names}
 use Rattle.link_arena.specs.OneSide.{row_at}
 use Rattle.link_arena.specs.Rows.{IsPlace, put_before}
+use Rattle.link_arena.specs.NameOrders.{key_one, tx_one}
 use Rattle.link_arena.proofs.ArenaLemmas.{are_lists, at_is, has_key, has_tx, list_is, side_beside, side_fresh, told, updated}
 use Rattle.link_arena.proofs.arena.Arena.insert.Goals as goal
 

@@ -5,10 +5,11 @@ use Rattle.str_base.specs.Versions.{of_tx, tx_before}
 use Rattle.link_arena.specs.Arenas.{at, key_list, number_of}
 use Rattle.link_arena.specs.declared.nodes.Node.{Node}
 use Rattle.link_arena.specs.declared.nodes.Side.TheVariants.{ByKey, ByTx}
-use Rattle.link_arena.specs.HeadLists.{key_below, key_names, key_one, lookup}
+use Rattle.link_arena.specs.HeadLists.{key_below, key_names, lookup}
 use Rattle.link_arena.specs.OneSide.{row_at}
 use Rattle.link_arena.specs.Rows.{IsPlace, put_before, taken}
 use Rattle.link_arena.specs.Sides.{version_of}
+use Rattle.link_arena.specs.NameOrders.{key_one}
 use Rattle.link_arena.proofs.ArenaLemmas.{are_lists, at_is, at_seen, has_key, key_seen, list_is, room_again, side_beside, told, tx_seen}
 use Rattle.link_arena.proofs.arena.Arena.relink.Goals as goal
 
@@ -19,7 +20,7 @@ enter-requires-clause-place c =
     let h : at c.args.self.now s ≡ Some v = sym (at_seen c.self.inside.nodes c.self.inside.keys.items c.self.inside.txs.items c.self.inside.spare c.args.self.now c.self.view_is s) ∙ ap (λ (o : Option Node). version_of o) c.read.ensures in
     let p = c.requires.place v h in
     let q = subst (λ (ss : List ℕ). IsPlace (number_of c.args.before) ss) (sym (c.leave.ensures.row ∙ ap (λ (ss : List ℕ). taken s ss) (key_seen c.self.inside.nodes c.self.inside.keys.items c.self.inside.txs.items c.self.inside.spare c.args.self.now c.self.view_is v.key))) p in
-    subst (λ (t : Option ℕ). IsPlace t (row_at key_below ByKey c.leave.new.nodes c.leave.new.heads.items v.key)) (sym c.number.ensures) q
+    subst (λ (t : Option ℕ). IsPlace t (row_at key_below ByKey c.leave.new.nodes c.leave.new.heads.items v.key)) (sym c.number-next.ensures) q
 
 pub invariant_of-self : goal.invariant_of-self
 invariant_of-self c =
@@ -50,7 +51,7 @@ returns-clause-key_list c v h =
     let was = λ (k : KeyId). key_seen c.self.inside.nodes c.self.inside.keys.items c.self.inside.txs.items c.self.inside.spare c.args.self.now c.self.view_is k in
     told key_names key_one v r.key (subst (λ (w : Version). key_names r.key w ≡ true) same (has_key r)) _
     (λ k. put_before next s (taken s (key_list c.args.self.now k))) (λ k. key_list c.args.self.now k)
-    (now r.key ∙ c.enter.ensures.row ∙ ap (λ (t : Option ℕ). put_before t s (row_at key_below ByKey c.leave.new.nodes c.leave.new.heads.items r.key)) c.number.ensures
+    (now r.key ∙ c.enter.ensures.row ∙ ap (λ (t : Option ℕ). put_before t s (row_at key_below ByKey c.leave.new.nodes c.leave.new.heads.items r.key)) c.number-next.ensures
     ∙ ap (λ (ss : List ℕ). put_before next s ss) (c.leave.ensures.row ∙ ap (λ (ss : List ℕ). taken s ss) (was r.key)))
     (λ o n. now o ∙ c.enter.ensures.others o n ∙ c.leave.ensures.others o n ∙ was o)
 

@@ -5,8 +5,9 @@ use Rattle.str_base.specs.declared.names.Version.{Version}
 use Rattle.str_base.specs.Versions.{of_tx, tx_before}
 use Rattle.link_arena.specs.Arenas.{key_list, tx_list}
 use Rattle.link_arena.specs.declared.nodes.Side.TheVariants.{ByKey, ByTx}
-use Rattle.link_arena.specs.HeadLists.{key_below, key_names, key_one, tx_one}
+use Rattle.link_arena.specs.HeadLists.{key_below, key_names}
 use Rattle.link_arena.specs.Rows.{taken}
+use Rattle.link_arena.specs.NameOrders.{key_one, tx_one}
 use Rattle.link_arena.proofs.ArenaLemmas.{are_lists, at_is, at_seen, has_key, has_tx, key_seen, list_is, side_beside, side_emptied, told, tx_seen, updated}
 use Rattle.link_arena.proofs.arena.Arena.unlink.Goals as goal
 

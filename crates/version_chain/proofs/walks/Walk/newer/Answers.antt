@@ -2,8 +2,7 @@ use Rattle.std.proofs.Common.{Option, ap, sym, [], ◌++◌, ◌∷◌, ◌∙�
 use Rattle.str_base.specs.declared.names.KeyId.{KeyId}
 use Rattle.link_arena.specs.Arenas.{key_list, next_of, number_of}
 use Rattle.link_arena.specs.declared.nodes.Slot.{Slot}
-use Rattle.version_chain.proofs.Flats.{there}
-use Rattle.version_chain.proofs.Spots.{key_there}
+use Rattle.link_arena.proofs.Listed.{key_there, there}
 use Rattle.version_chain.proofs.Walking.{ahead_is, behind_is, next_after, next_up}
 use Rattle.version_chain.proofs.walks.Walk.newer.Goals as goal
 

@@ -6,8 +6,8 @@ use Rattle.link_arena.specs.Arenas.{at, key_list, number_of, prev_of}
 use Rattle.link_arena.specs.declared.nodes.Slot.{Slot}
 use Rattle.link_arena.specs.Rows.{IsPlace, first_or, is_in}
 use Rattle.version_chain.specs.Flat.{beyond, picked, up_to}
-use Rattle.version_chain.proofs.Flats.{there}
-use Rattle.version_chain.proofs.Spots.{key_there, prev_place}
+use Rattle.link_arena.proofs.Listed.{key_there, there}
+use Rattle.version_chain.proofs.Spots.{prev_place}
 use Rattle.version_chain.proofs.Walking.{ahead_is, behind_is, last_more, next_back}
 use Rattle.version_chain.proofs.walks.Walk.older.Goals as goal
 

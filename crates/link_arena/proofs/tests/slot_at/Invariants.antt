@@ -1,0 +1,7 @@
+use Rattle.link_arena.specs.Arenas.{key_list, number_of}
+use Rattle.link_arena.specs.Rows.{IsPlace}
+use Rattle.link_arena.proofs.tests.slot_at.Given as goal
+
+-- the slot is one of the key
+abbrev pub invariant-places : goal.invariant-places
+invariant-places l = IsPlace (number_of l.slot) (key_list l.arena l.fn.key)
