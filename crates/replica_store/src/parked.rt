@@ -126,6 +126,13 @@ impl Parked {
         self.items.remove(i)
     }
 
+    /// How many wait.
+    pub fn len(&self) -> usize
+        ensures { result ≡ length self.now.waiters }
+    {
+        self.items.len()
+    }
+
     /// The `i`-th from 0.
     pub fn get(&self, i: usize) -> Option<&Waiter>
         ensures { option_copied result ≡ slice_get self.now.waiters i }
