@@ -1,3 +1,4 @@
 pub mod Statuses
 pub mod Failures
 pub mod Telling
+pub mod Waiting

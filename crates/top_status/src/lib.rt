@@ -13,7 +13,7 @@ pub use reading::read_input;
 pub use status::Status;
 pub use telling::answer;
 pub use words::words_of;
-pub use writing::write_piece;
+pub use writing::{write_full, write_piece};
 
 #[cfg(test)]
 mod tests;

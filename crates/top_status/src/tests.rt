@@ -1,4 +1,4 @@
-use crate::{Failure, Status, answer, read_input, refuse, refuse_at, write_piece};
+use crate::{Failure, Status, answer, read_input, refuse, refuse_at, write_full, write_piece};
 use std::alloc::Global;
 use std::process::Abort;
 use std::test::Fail;
@@ -116,5 +116,24 @@ fn a_failed_write_stops(rt: HostRuntime) -> Result<(), Fail> {
         Err(failure) => assert_eq!(rt; failure.status(), Status::WriteFault),
     }
     assert_eq!(rt; out.bytes(), &TEXT[..32]);
+    Ok(())
+}
+
+/// How many bytes are written, and how many wait, once this many have come.
+fn written_of(alloc: Global, count: usize) -> Result<(usize, usize), Fail> {
+    let mut out = MemSink::new(alloc, Vec::new(alloc), 1000);
+    let mut waiting = Vec::new(alloc);
+    waiting.resize(count, b'a')?;
+    match write_full(&mut out, &mut waiting) {
+        Ok(()) => Ok((out.bytes().len(), waiting.len())),
+        Err(_) => Ok((0, 0)),
+    }
+}
+
+#[test]
+fn output_goes_out_in_pieces(rt: HostRuntime) -> Result<(), Fail> {
+    assert_eq!(rt; written_of(rt.alloc(), 40)?, (0, 40));
+    assert_eq!(rt; written_of(rt.alloc(), 4096)?, (0, 4096));
+    assert_eq!(rt; written_of(rt.alloc(), 4097)?, (4097, 0));
     Ok(())
 }
