@@ -24,6 +24,11 @@ enum Call {
         key: KeyId,
         place: usize,
     },
+    Set {
+        key: KeyId,
+        place: usize,
+        ts: u64,
+    },
 }
 
 /// The place past the end.
@@ -97,6 +102,11 @@ fn make(arena: &mut Arena, call: Call) -> Result<(), AllocError> {
                 arena.unlink(slot);
             }
         }
+        Call::Set { key, place, ts } => {
+            if let Some(slot) = slot_at(arena, key, place) {
+                arena.set(slot, Ts(ts), Kind::Final);
+            }
+        }
     }
     Ok(())
 }
@@ -134,7 +144,7 @@ fn is_tx_list(arena: &Arena, tx: TxId, times: &[u64]) -> bool {
 }
 
 /// Versions A and B of a key by two transactions and C of another key by the first of these, and D besides. A is the last to go.
-fn rows() -> [Row; 8] {
+fn rows() -> [Row; 9] {
     let a = version(1, 1, 20);
     let b = version(1, 2, 30);
     let c = version(2, 1, 40);
@@ -189,6 +199,15 @@ fn rows() -> [Row; 8] {
             },
             keys: [&[20, 30], &[10, 40]],
             txs: [&[20, 40], &[30, 10]],
+        },
+        Row {
+            call: Call::Set {
+                key: KeyId(2),
+                place: 0,
+                ts: 50,
+            },
+            keys: [&[20, 30], &[50, 40]],
+            txs: [&[20, 40], &[30, 50]],
         },
         Row {
             call: Call::Unlink {

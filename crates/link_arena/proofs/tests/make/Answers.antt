@@ -16,3 +16,6 @@ relink-requires-clause-place c v e =
 
 pub unlink-requires : goal.unlink-requires
 unlink-requires c = there c.args.arena.now c.in-Some-slot_at.ensures.lists c.in-Unlink.key c.in-Some-slot_at.slot.0 c.in-Some-slot_at.ensures.place
+
+pub set-requires : goal.set-requires
+set-requires c = there c.args.arena.now c.in-Some-slot_at-2.ensures.lists c.in-Set.key c.in-Some-slot_at-2.slot.0 c.in-Some-slot_at-2.ensures.place
