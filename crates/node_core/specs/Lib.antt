@@ -1,5 +1,6 @@
-pub mod FirstSteps
-pub mod FirstViews
-pub mod Meaning
-pub mod NodeStates
-pub mod NodeTurns
+pub mod Working
+pub mod Arriving
+pub mod Reading
+pub mod Beginning
+pub mod Waiting
+pub mod Sizes

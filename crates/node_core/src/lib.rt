@@ -1,13 +1,18 @@
 //! One node of the cluster.
 #![tactic(auto)]
 
+mod acts;
+mod arrivals;
+mod clients;
 pub mod nodes;
-pub mod outbox;
-mod own;
+mod pass;
+mod queries;
+mod returns;
 mod scripts;
-mod state;
-mod turns;
-mod versions;
+mod sizes;
+mod steps;
+mod waiters;
+mod work;
 
+pub use node_parts::Outbox;
 pub use nodes::Node;
-pub use outbox::Outbox;

@@ -1,56 +1,52 @@
 //! A node.
+ghost use Rattle.node_core.specs.Working.{SameLists, SameNode, Steps, here_of};
 ghost use Rattle.std.specs.List.{count_by};
-ghost use Rattle.std.specs.Prelude.{◌≡◌, ◌≤◌, IfOk, MatchOption, OnOk, false, is_some, length, not, true, ℕ};
-ghost use Rattle.node_core.specs.NodeStates.{SameLists, SameNode, Steps, here_of};
+ghost use Rattle.std.specs.Prelude.{◌≡◌, ◌≤◌, ◌+◌, ◌*◌, ◌^◌, IfOk, IfSome, MatchOption, false, is_some, length, not, true, ℕ};
 ghost use Rattle.str_model.specs.declared.messages.Input.TheVariants.{Client};
+ghost use Rattle.str_model.specs.NodeFacts.{NodeFacts, ViewBelow};
 ghost use Rattle.str_model.specs.Runs.{opening_view};
 ghost use Rattle.str_model.specs.Steps.{need, step};
+ghost use Rattle.str_model.specs.Strange.{has_node};
 ghost use Rattle.str_model.specs.Views.{is_decided};
-ghost use Rattle.str_scene.specs.FirstScenes.{IsFirst};
+ghost use Rattle.version_chain.specs.ChainLists.{IsOrdered};
 
-use crate::outbox::Outbox;
-use crate::scripts::{client_turn, turn_for};
-use crate::state::State;
+use crate::sizes::is_small_input;
+use crate::work::Work;
+use node_parts::Outbox;
 use std::alloc::{AllocError, Global};
 use std::marker::{Model, Send, Sync};
 use str_base::{NodeId, SessionId};
 use str_model::Input;
 use str_scene::Scene;
 
-/// How many versions, list items, messages and answers a step adds at most.
-const MOST: usize = 17;
-
-/// The node of a first scene. It is seen as its scene, its number, its view and the room for more items.
+/// A node of a scene. It is seen as its scene, its number, its view and the room for more items. Its type keeps what holds of a view whatever
+/// messages came to the node.
 #[derive(Drop)]
 pub struct Node {
-    id: NodeId,
-    scene: Scene,
-    state: State,
+    work: Work,
 }
 
 impl Model for Node {
-    ghost use Rattle.node_core.specs.NodeStates.{IsNode, NodeState};
+    ghost use Rattle.std.specs.Prelude.{◌≡◌, []};
+    ghost use Rattle.node_core.specs.Working.{IsFresh, IsNode, NodeState as Value_};
 
-    ghost Value = { NodeState };
+    ghost Value = { Value_ };
 
-    ghost view = { λ n. record { scene = n.scene; id = n.id; view = n.state.view; room = n.state.room } };
+    ghost view = { λ n. record { scene = n.work.here.scene; id = n.work.here.node; view = n.work.doing.view; room = n.work.room } };
 
-    ghost invariant = { λ n. IsNode n.scene n.id n.state.view };
+    ghost invariant = { λ n. IsNode n.work.here n.work.doing.view × IsFresh n.work × (n.work.earlier ≡ []) × (n.work.answered ≡ []) };
 }
 
 impl Node {
-    /// A node of a first scene at the beginning. The error is want of memory.
+    /// A node of a scene at the beginning. The error is want of memory.
     pub fn new(alloc: Global, id: NodeId, scene: &Scene) -> Result<Node, AllocError>
-        requires first { IsFirst scene.now }
-        requires node { id.0 ≡ 1 }
+        requires { has_node (record { scene = scene.now; node = id }) id ≡ true }
         ensures scene { IfOk result (λ n. n.scene ≡ scene.now) }
         ensures id { IfOk result (λ n. n.id ≡ id) }
         ensures view { IfOk result (λ n. n.view ≡ opening_view scene.now) }
     {
-        let keys = scene.keys().len() as usize;
-        let state = State::new(alloc, keys)?;
-        let scene = scene.copy(alloc)?;
-        Ok(Node { id, scene, state })
+        let work = Work::new(alloc, id, scene)?;
+        Ok(Node { work })
     }
 
     /// Makes room for the next step on this input in the node and in the outbox, and gives a number that is as
@@ -64,135 +60,80 @@ impl Node {
         ensures room { self.old.room ≤ self.new.room }
         ensures space { out.old.space ≤ out.new.space }
     {
-        let _ = &self.id;
-        self.state.reserve(MOST)?;
-        out.reserve(MOST)?;
-        Ok(MOST)
+        prove!(is_small_input(input));
+        let Some(most) = most(self.work.undecided().len(), self.work.waiting()) else {
+            return Err(AllocError);
+        };
+        self.work.reserve(most)?;
+        out.reserve(most)?;
+        Ok(most)
     }
 
     /// Does the step on this input, and appends what it sends and releases. It answers false exactly where the
-    /// input is idle, and then nothing changes.
+    /// input is idle, and then nothing changes. It takes no memory.
     pub fn step(&mut self, input: &Input, out: &mut Outbox) -> bool
         requires room { need (here_of self.old) input.now self.old.view ≤ self.old.room }
         requires space { need (here_of self.old) input.now self.old.view ≤ out.old.space }
         ensures { MatchOption (step (here_of self.old) input.now self.old.view) ((result ≡ false) × (self.new ≡ self.old) × (out.new ≡ out.old)) (λ d. (result ≡ true) × Steps self.old self.new out.old out.new d) }
     {
-        let turn = turn_for(&self.scene, self.id, &self.state, input);
-        if turn.is_idle() {
-            return false;
-        }
-        self.state.apply(self.id, turn, out);
-        true
+        self.work.begin_step(out);
+        let moves = self.work.step(input);
+        self.work.end_step(out);
+        moves
     }
 
     /// Whether a client step of this session is idle.
     pub fn client_idle(&self, session: SessionId) -> bool
         ensures { (t : ℕ) → result ≡ not (is_some (step (here_of self.now) (Client session t) self.now.view)) }
     {
-        client_turn(&self.scene, self.id, &self.state, session, 0).is_idle()
+        self.work.client_idle(session)
     }
 
     /// The number of transactions that have begun.
     pub fn begun(&self) -> u32
         ensures { result ≡ length self.now.view.own }
     {
-        let _ = &self.id;
-        self.state.own().len() as u32
+        self.work.own_len() as u32
     }
 
     /// The number of transactions that have begun and are undecided.
     pub fn held(&self) -> u32
         ensures { result ≡ count_by (λ x. not (is_decided x.phase)) self.now.view.own }
     {
-        let _ = &self.id;
-        let own = self.state.own();
-        let mut held = 0;
-        for x in own {
-            if !x.is_decided() {
-                held += 1;
-            }
-        }
-        held
+        self.work.undecided().len() as u32
     }
 
     /// The scene.
     pub fn scene(&self) -> &Scene
         ensures { result.now ≡ self.now.scene }
     {
-        &self.scene
+        self.work.site().scene()
     }
+
+    /// The node's number. What holds of its view whatever messages came: its facts, among them that every timestamp is below 2^63, and that no key has
+    /// two versions by one transaction.
+    pub fn id(&self) -> NodeId
+        ensures value { result ≡ self.now.id }
+        ensures facts { NodeFacts (here_of self.now) self.now.view }
+        ensures times { ViewBelow (2 ^ 63) self.now.view }
+        ensures apart { IsOrdered self.now.view.versions }
+    {
+        self.work.site().id()
+    }
+}
+
+/// How many versions, list items, messages and answers a step adds at most, with so many undecided transactions and so many who wait; none where
+/// that is more than memory can hold.
+fn most(undecided: usize, waiting: usize) -> Option<usize>
+    requires { undecided ≤ 16 }
+    ensures { IfSome result (λ n. n ≡ 242 * undecided + 25 * (waiting + 1) + 32) }
+{
+    let waiters = waiting.checked_add(1)?.checked_mul(25)?;
+    waiters.checked_add(242 * undecided + 32)
 }
 
 fn sendable<T: Send + Sync>(_: &T) {}
 
 fn all_sendable(node: &Node) {
     sendable(node);
-}
-
-#[cfg(test)]
-mod tests {
-    use super::*;
-    use partition_map::PartRow;
-    use std::alloc::Global;
-    use std::test::Fail;
-    use str_base::{PartId, Value};
-    use str_model::Outcome;
-    use str_scene::{Op, OpList, SceneBuild, SceneFault, is_first};
-
-    /// A session at the one node: a put, and then a get of the key.
-    fn put_and_get(alloc: Global) -> Result<Scene, SceneFault> {
-        let mut build = SceneBuild::new(alloc, 1);
-        build.nodes(1)?;
-        let mut row = PartRow::new();
-        row.push(NodeId(1));
-        build.part(row)?;
-        build.session(NodeId(1))?;
-        let key = build.key(b"a", PartId(1))?;
-        for op in [Op::Put(key, 5), Op::Get(key)] {
-            let mut ops = OpList::new();
-            ops.push(op);
-            build.tx(ops)?;
-        }
-        build.drain()?;
-        build.finish()
-    }
-
-    /// A client step, with room made before.
-    fn go(node: &mut Node, out: &mut Outbox, reading: u64) -> Result<bool, AllocError> {
-        let input = Input::Client {
-            session: SessionId(1),
-            reading,
-        };
-        let _ = node.ready(&input, out)?;
-        Ok(node.step(&input, out))
-    }
-
-    /// Whether the second answer is a commit that read 5.
-    fn has_read(out: &Outbox) -> bool {
-        let Some(answer) = out.answers().get(1) else {
-            return false;
-        };
-        match &answer.outcome {
-            Outcome::Committed { gets, .. } => match gets.as_slice().get(0) {
-                Some(got) => got.value == Value::Num(5),
-                None => false,
-            },
-            Outcome::Aborted { .. } => false,
-        }
-    }
-
-    #[test]
-    fn a_commit_is_read(rt: HostRuntime) -> Result<(), Fail> {
-        let scene = put_and_get(rt.alloc())?;
-        if !is_first(&scene) {
-            return Err("a first scene".into());
-        }
-        let mut node = Node::new(rt.alloc(), NodeId(1), &scene)?;
-        let mut out = Outbox::new(rt.alloc());
-        for reading in [10, 0, 0, 0, 0, 0] {
-            go(&mut node, &mut out, reading)?;
-        }
-        assert!(rt; has_read(&out));
-        Ok(())
-    }
 }

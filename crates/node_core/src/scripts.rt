@@ -1,129 +1,108 @@
-//! What a step comes to.
-ghost use Rattle.std.specs.Prelude.{◌≡◌, ◌<◌, ◌≤◌, Some, MatchOption, None, length, slice_get};
-ghost use Rattle.node_core.specs.NodeTurns.{IsWithin, begin_turn, client_turn, phase_turn, session_turn, turn_of};
-ghost use Rattle.str_base.specs.declared.names.NodeId.{NodeId as Node};
-ghost use Rattle.str_model.specs.Views.{Own};
-ghost use Rattle.str_scene.specs.Scenes.{nth, script_at};
+//! The operations of an own transaction's script, its reads and its certification.
+ghost use Rattle.node_core.specs.Working.{Did, Fits, HasFacts, OwnIs};
+ghost use Rattle.node_core.specs.Reading.{AsksToCommit, MayRead};
+ghost use Rattle.std.specs.Prelude.{◌≡◌, ◌+◌, None};
+ghost use Rattle.str_model.specs.NodeFacts.{OpenTo};
+ghost use Rattle.str_model.specs.Scripts.{ask_commit, at_own, certify_now, op_or_commit, own_op, read_now, with_value};
+ghost use Rattle.str_model.specs.Views.{Active};
 
-use crate::state::State;
-use crate::turns::Turn;
-use str_base::{NodeId, SessionId, Ts};
-use str_model::Input;
-use str_scene::{Op, Scene, SessionText, TxPlace};
+use crate::work::Work;
+use dependency_set::Snap;
+use local_certify::CertTurn;
+use node_parts::Phase;
+use snapshot_read::ReadTurn;
+use str_base::{Cause, KeyId, TxId, Value};
+use tx_script::Turn;
 
-/// The n-th item, counted from 1.
-fn nth<T>(items: &[T], n: usize) -> Option<&T>
-    ensures { MatchOption result (nth items.now n ≡ None) (λ r. nth items.now n ≡ Some r.now) }
-{
-    if n == 0 {
-        return None;
+impl Work {
+    /// An own transaction that is Active does its next operation, or past the last one asks to commit.
+    pub(crate) fn go_on(&mut self, i: usize)
+        requires facts { HasFacts self.old }
+        requires own { OwnIs (λ x. x.phase ≡ Active) i self.old }
+        requires open_ { OpenTo self.old.doing.view (i + 1) }
+        requires fits { Fits self.old (at_own i (λ x. op_or_commit self.old.here i x (own_op self.old.here x)) self.old.doing) }
+        ensures { Did (at_own i (λ x. op_or_commit self.old.here i x (own_op self.old.here x)) self.old.doing) self.old self.new }
+    {
+        match self.operate(i) {
+            Turn::Ask { key } => self.read_now(i, key),
+            Turn::Wished => self.abort(i, Cause::Wish),
+            Turn::End => self.ask_commit(i),
+            Turn::Got { .. } | Turn::Moved | Turn::Unmet => {}
+        }
     }
-    items.get(n - 1)
-}
 
-/// The operation of a script at an index.
-fn op_at(scene: &Scene, place: TxPlace, next: u8) -> Option<Op>
-    ensures { result ≡ slice_get (script_at scene.now place) next }
-{
-    match nth(scene.sessions(), place.session.0 as usize) {
-        None => None,
-        Some(text) => match nth(text.txs(), place.index as usize) {
-            None => None,
-            Some(ops) => op_of(ops.as_slice(), next),
-        },
+    /// The mark of a key rises, then the key is read. The script of the transaction stands at an operation that needs the key.
+    pub(crate) fn read_now(&mut self, i: usize, key: KeyId)
+        requires facts { HasFacts self.old }
+        requires own { OwnIs (MayRead self.old.here key) i self.old }
+        requires open_ { OpenTo self.old.doing.view (i + 1) }
+        requires fits { Fits self.old (at_own i (read_now self.old.here i key) self.old.doing) }
+        ensures { Did (at_own i (read_now self.old.here i key) self.old.doing) self.old self.new }
+    {
+        let turn = self.read_turn(i, key);
+        self.mark(key, self.rs(i));
+        match turn {
+            ReadTurn::Plain {
+                value,
+                by,
+                snap,
+                ..
+            } => self.take_value(i, key, value, by, snap),
+            ReadTurn::Speculative { value, by, snap } => {
+                self.take_value(i, key, value, Some(by), snap)
+            }
+            ReadTurn::Wait { .. } => self.set_phase(i, Phase::ReadWait { key }),
+            ReadTurn::Remote { master } => self.request(i, key, master),
+        }
     }
-}
 
-/// The operation at an index.
-fn op_of(ops: &[Op], next: u8) -> Option<Op>
-    ensures { result ≡ slice_get ops.now next }
-{
-    let next = next as usize;
-    if next < ops.len() {
-        return Some(ops[next]);
+    /// A value has come for the key that the next operation needs.
+    pub(crate) fn take_value(
+        &mut self,
+        i: usize,
+        key: KeyId,
+        value: Value,
+        by: Option<TxId>,
+        snap: Snap,
+    )
+        requires facts { HasFacts self.old }
+        requires own { OwnIs (λ x. MayRead self.old.here key x × (snap.rs ≡ x.snap.rs)) i self.old }
+        ensures { Did (at_own i (with_value self.old.here i key value by snap) self.old.doing) self.old self.new }
+    {
+        self.keep_read(i, key, value, by, snap);
+        let _ = self.operate(i);
     }
-    None
-}
 
-/// The n-th transaction of a session begins, where there is one.
-fn begin_turn(text: &SessionText, session: SessionId, n: u32, rs: Ts) -> Turn
-    ensures { result ≡ begin_turn session n rs.0 (nth text.now.txs n) }
-{
-    match nth(text.txs(), n as usize) {
-        None => Turn::Idle,
-        Some(_) => Turn::Begin {
-            place: TxPlace { session, index: n },
-            rs,
-        },
+    /// An own transaction asks to commit: without writes it closes, else it is certified.
+    pub(crate) fn ask_commit(&mut self, i: usize)
+        requires facts { HasFacts self.old }
+        requires own { OwnIs (λ x. (x.phase ≡ Active) × (own_op self.old.here x ≡ None)) i self.old }
+        requires open_ { OpenTo self.old.doing.view (i + 1) }
+        requires fits { Fits self.old (at_own i (λ x. ask_commit self.old.here i x x.writes) self.old.doing) }
+        ensures { Did (at_own i (λ x. ask_commit self.old.here i x x.writes) self.old.doing) self.old self.new }
+    {
+        if self.writes(i) {
+            self.certify_now(i);
+        } else {
+            self.set_phase(i, Phase::Closing { wish: false });
+        }
     }
-}
 
-/// What a client step comes to after the `i`-th own transaction.
-fn at_turn(
-    scene: &Scene,
-    state: &State,
-    session: SessionId,
-    rs: Ts,
-    text: &SessionText,
-    i: usize,
-) -> Turn
-    requires there { i < length state.now.view.own }
-    requires within { IsWithin state.now.view }
-    ensures { (n : Node) (x : Own) → slice_get state.now.view.own i ≡ Some x → result ≡ phase_turn (record { scene = scene.now; node = n }) session rs.0 text.now i x x.phase state.now.view }
-{
-    let own = &state.own()[i];
-    if own.is_decided() {
-        return begin_turn(text, session, own.place().index + 1, rs);
-    }
-    state.own_turn(i, op_at(scene, own.place(), own.next()))
-}
-
-/// What a client step of this session comes to.
-fn session_turn(
-    scene: &Scene,
-    node: NodeId,
-    state: &State,
-    session: SessionId,
-    rs: Ts,
-    text: &SessionText,
-) -> Turn
-    requires { IsWithin state.now.view }
-    ensures { result ≡ session_turn (record { scene = scene.now; node = node }) session rs.0 (Some text.now) state.now.view }
-{
-    if text.node() != node {
-        return Turn::Idle;
-    }
-    match state.last_of(session) {
-        None => begin_turn(text, session, 1, rs),
-        Some(i) => at_turn(scene, state, session, rs, text, i),
-    }
-}
-
-/// What a client step comes to.
-pub fn client_turn(
-    scene: &Scene,
-    node: NodeId,
-    state: &State,
-    session: SessionId,
-    reading: u64,
-) -> Turn
-    requires { IsWithin state.now.view }
-    ensures { result ≡ client_turn (record { scene = scene.now; node = node }) session reading state.now.view }
-{
-    let rs = state.begin_rs(reading);
-    match nth(scene.sessions(), session.0 as usize) {
-        None => Turn::Idle,
-        Some(text) => session_turn(scene, node, state, session, rs, text),
-    }
-}
-
-/// What a step comes to.
-pub fn turn_for(scene: &Scene, node: NodeId, state: &State, input: &Input) -> Turn
-    requires { IsWithin state.now.view }
-    ensures { result ≡ turn_of (record { scene = scene.now; node = node }) input.now state.now.view }
-{
-    match input {
-        Input::Client { session, reading } => client_turn(scene, node, state, *session, *reading),
-        Input::Deliver(_) => Turn::Idle,
+    /// An own transaction is certified, aborts by a conflict, or waits for dependencies.
+    pub(crate) fn certify_now(&mut self, i: usize)
+        requires facts { HasFacts self.old }
+        requires own { OwnIs (AsksToCommit self.old.here) i self.old }
+        requires open_ { OpenTo self.old.doing.view (i + 1) }
+        requires fits { Fits self.old (at_own i (certify_now self.old.here i) self.old.doing) }
+        ensures { Did (at_own i (certify_now self.old.here i) self.old.doing) self.old self.new }
+    {
+        match self.cert_turn(i) {
+            CertTurn::Certified { lc, snap } => self.certify(i, lc, snap),
+            CertTurn::Conflict { by, key } => {
+                let node = self.site().id();
+                self.abort(i, Cause::Conflict { by, key, node })
+            }
+            CertTurn::WaitGate { .. } => self.set_phase(i, Phase::CertWait),
+        }
     }
 }

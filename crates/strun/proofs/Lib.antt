@@ -1,9 +1,4 @@
-pub mod FirstRuns
-pub mod FirstDrains
-pub mod FirstDrained
-pub mod FirstEvents
+pub mod WholeRun
 pub mod Written
-pub mod Isolated
-pub mod Partial
 pub mod Said
 pub mod Refusing

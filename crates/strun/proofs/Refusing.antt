@@ -1,19 +1,16 @@
 -- Why an input is refused, and what is told of it.
 use Rattle.std.proofs.Common.{Err, IfErr, List, Ok, Option, Result, ap, arith, inl, inr, length, refl, subst, sym, ℕ, ◌<◌, ◌∙◌, ◌≡◌, ◌≤◌, ◌⊎◌}
 use Rattle.std.specs.Io.KnownBytes.{Consumes, IsAtEnd}
-use Rattle.scene_text.proofs.FirstBad.FirstBadLaws.{first_bad_no_text, first_bad_unique, one_scene_of}
+use Rattle.scene_text.proofs.FirstBad.FirstBadLaws.{first_bad_no_text, first_bad_unique}
 use Rattle.scene_text.specs.FirstBad.{FirstBad}
 use Rattle.scene_text.specs.Reading.{IsFaultOf}
 use Rattle.scene_text.specs.declared.read.TextFault.{TextFault}
 use Rattle.scene_text.specs.declared.read.TextFault.TheVariants.{Bad}
 use Rattle.str_outer.specs.Causes.{Rose}
-use Rattle.str_scene.specs.FirstScenes.{IsFirst}
-use Rattle.str_scene.specs.SceneLimits.{IsScene}
 use Rattle.str_scene.specs.Scenes.{Scene}
-use Rattle.str_scene.specs.Spelling.{IsText}
 use Rattle.str_scene.specs.declared.faults.Why.{Why}
-use Rattle.strun.specs.Refusals.{IsFirstText, IsRefusal, line_said, not_built, too_many}
-use Rattle.strun.specs.Refusals.IsRefusal.{bad, long, other}
+use Rattle.strun.specs.Refusals.{IsRefusal, IsSceneText, line_said, too_many}
+use Rattle.strun.specs.Refusals.IsRefusal.{bad, long}
 use Rattle.strun.specs.Tops.{Completes, IsRefused, RefusesText, RunFails}
 use Rattle.top_status.proofs.Whole.{all_told}
 use Rattle.top_status.specs.Failures.{HasWriteCause, RefusesWith, refusal_of, status_of}
@@ -43,21 +40,6 @@ pub refuses_fault : (text : List ℕ) (r : Failure) (fault : TextFault) (line : 
     → RefusesWith (line_said line why) r → RefusesText text r
 refuses_fault text r fault line why l e b w = refuses_bad text r line why l (subst (IsFaultOf text) e b) w
 
--- a scene that isn't a first one
-pub refuses_other : (text : List ℕ) (f : Failure) (scene : Scene) → length text ≤ 1048576 → IsScene scene → IsText text scene → ¬ IsFirst scene → RefusesWith not_built f
-    → RefusesText text f
-refuses_other text (Refusal said) scene l s t n e = other scene l s t n e
-refuses_other text Memory scene l s t n e = tt
-refuses_other text Usage scene l s t n e = absurd e
-refuses_other text Read scene l s t n e = absurd e
-refuses_other text Write scene l s t n e = absurd e
-
--- the same, of what comes of the scene
-pub refuses_scene : {T : Type 0} (text : List ℕ) (r : Result T Failure) (scene : Scene) → length text ≤ 1048576 → IsScene scene → IsText text scene
-    → IfErr r (λ (f : Failure). (¬ IsFirst scene) × RefusesWith not_built f) → IfErr r (RefusesText text)
-refuses_scene text (Ok x) scene l s t e = tt
-refuses_scene text (Err f) scene l s t e = refuses_other text f scene l s t e.0 e.1
-
 -- bytes that were read and are refused end the run
 pub run_refused : (left left' : Option (List ℕ)) (read read' : ℕ) (held : Option (List ℕ)) (write write' : ℕ) (bytes text : List ℕ) (f : Failure) → Consumes left left' bytes
     → (length bytes ≡ 1048577) ⊎ IsAtEnd left' → text ≡ bytes → RefusesText text f → RunFails left left' read read' held held write write' f
@@ -68,13 +50,12 @@ run_refused left left' read read' held write write' bytes text Usage c w e r = a
 run_refused left left' read read' held write write' bytes text Read c w e r = absurd r
 run_refused left left' read read' held write write' bytes text Write c w e r = absurd r
 
--- the text of a first scene is not refused
-pub not_refused : (bytes said : List ℕ) (scene : Scene) → IsFirstText bytes scene → IsRefusal bytes said → ⊥
+-- the text of a scene is not refused
+pub not_refused : (bytes said : List ℕ) (scene : Scene) → IsSceneText bytes scene → IsRefusal bytes said → ⊥
 not_refused bytes said scene t (long l e) = let s = t.short in omega (arith, l, s)
 not_refused bytes said scene t (bad line why l b e) = first_bad_no_text bytes line why scene b t.scene_ t.text
-not_refused bytes said scene t (other s l is text n e) = n (subst IsFirst (one_scene_of bytes scene s t.scene_ is t.text text) t.first)
 
--- where the text of a first scene is told, no run ends refused
+-- where the text of a scene is told, no run ends refused
 pub run_completes : (left left' : Option (List ℕ)) (read read' : ℕ) (held held' : Option (List ℕ)) (write write' : ℕ) (done : Result (Unit {0}) Failure) (status : Status)
     → status ≡ status_of done → IfErr done (RunFails left left' read read' held held' write write') → Completes left read read' write write' status
 run_completes left left' read read' held held' write write' (Ok u) status s f bytes scene e t r w = inl s
@@ -85,7 +66,7 @@ run_completes left left' read read' held held' write write' (Err Write) status s
 run_completes left left' read read' held held' write write' (Err (Refusal said)) status s f bytes scene e t r w =
     let g = f.0 in
     let same : bytes ≡ g.bytes = all_told left left' bytes g.bytes e g.consumed g.whole t.short in
-    absurd (not_refused g.bytes said.items scene (subst (λ (xs : List ℕ). IsFirstText xs scene) same t) g.refusal)
+    absurd (not_refused g.bytes said.items scene (subst (λ (xs : List ℕ). IsSceneText xs scene) same t) g.refusal)
 
 -- a count that rose has risen from before
 rose_before : (a b c : ℕ) → a ≤ b → Rose b c → Rose a c
@@ -114,12 +95,7 @@ refused_of left left' read read' held held' write write' (Err Memory) f e = absu
 pub one_refusal : (bytes r s : List ℕ) → IsRefusal bytes r → IsRefusal bytes s → r ≡ s
 one_refusal bytes r s (long l e) (long m f) = e ∙ sym f
 one_refusal bytes r s (long l e) (bad line why m b f) = absurd (omega (arith, l, m))
-one_refusal bytes r s (long l e) (other scene m is text n f) = absurd (omega (arith, l, m))
 one_refusal bytes r s (bad line why l b e) (long m f) = absurd (omega (arith, l, m))
 one_refusal bytes r s (bad line why l b e) (bad line' why' m b' f) =
     let p = first_bad_unique bytes line line' why why' b b' in
     e ∙ (ap (λ (k : ℕ). line_said k why) p.0 ∙ (ap (line_said line') p.1 ∙ sym f))
-one_refusal bytes r s (bad line why l b e) (other scene m is text n f) = absurd (first_bad_no_text bytes line why scene b is text)
-one_refusal bytes r s (other scene l is text n e) (long m f) = absurd (omega (arith, l, m))
-one_refusal bytes r s (other scene l is text n e) (bad line why m b f) = absurd (first_bad_no_text bytes line why scene b is text)
-one_refusal bytes r s (other scene l is text n e) (other scene' m is' text' n' f) = e ∙ sym f

@@ -1,4 +1,2 @@
-pub mod ClusterStates
 pub mod Refusals
 pub mod Tops
-pub mod Printing

@@ -1,11 +1,10 @@
 //! The program `strun`: it runs a scene and writes the released answers.
 #![tactic(auto)]
 
-mod cluster;
-mod lines;
 #[cfg(test)]
 mod tests;
 mod tops;
+mod writing;
 
 use std::process::ExitCode;
 use str_outer::{StdSink, StdSource};

@@ -17,6 +17,13 @@ const OVERLAP: &[u8] =
 const OVERLAP_LINES: &[u8] =
     b"1.1 s1/1 commit rs=10 fc=11\n1.2 s2/1 abort rs=10 conflict 1.1 a@1 at=1\nend commits=1 aborts=1 held=0 unbegun=0 messages=0\n";
 
+const EARLY: &[u8] =
+    b"str 1\nnodes 3\npart 1 2\npart 2 3\nsession 1\ntx\nput a@1 1\nsession 1\ntx\nget a@1\nput b@2 7\nschedule\n\
+    c 1 10\nc 1 0\nc 1 0\nc 2 0\nc 2 0\nc 2 0\nc 2 0\nd 2\nd 3\nd 1\nd 4\ndrain\nend\n";
+
+const EARLY_LINES: &[u8] =
+    b"1.1 s1/1 commit rs=10 fc=11\n1.2 s2/1 commit rs=11 fc=12 a@1=1\nend commits=2 aborts=0 held=0 unbegun=0 messages=6\n";
+
 /// A call: its word, its input, which read and which write are to fail (0: none), and what comes of it.
 #[derive(Clone, Copy)]
 struct Call {
@@ -69,6 +76,14 @@ fn whole_calls(rt: HostRuntime) -> Result<(), Fail> {
         &Call {
             text: OVERLAP,
             out: OVERLAP_LINES,
+            ..plain
+        },
+    )?;
+    check(
+        &rt,
+        &Call {
+            text: EARLY,
+            out: EARLY_LINES,
             ..plain
         },
     )?;
@@ -159,7 +174,7 @@ fn each_write_fails_in_turn(rt: HostRuntime) -> Result<(), Fail> {
 
 #[test]
 fn refused_texts(rt: HostRuntime) -> Result<(), Fail> {
-    let cases: [(&'static [u8], &'static [u8]); 8] = [
+    let cases: [(&'static [u8], &'static [u8]); 7] = [
         (b"", b"strun: line 1: cut\n"),
         (b"str 3\n", b"strun: line 1: form\n"),
         (b"str 1\nnodes 01\n", b"strun: line 2: form\n"),
@@ -170,12 +185,8 @@ fn refused_texts(rt: HostRuntime) -> Result<(), Fail> {
             b"strun: line 6: form\n",
         ),
         (
-            b"str 1\nnodes 2\npart 1 1\nschedule\nend\n",
-            b"strun: not built\n",
-        ),
-        (
-            b"str 1\nnodes 1\npart 1 1\nsession 1\ntx\nadd a@1 1\nschedule\nend\n",
-            b"strun: not built\n",
+            b"str 1\nnodes 1\npart 1 1\nsession 1\ntx\nputs a@1 x6869\nschedule\nend\n",
+            b"strun: line 6: form\n",
         ),
     ];
     for (text, err) in cases {

@@ -1,10 +1,6 @@
 use Rattle.std.proofs.Common.{arith}
-use Rattle.strun.proofs.Refusing.{refuses_fault, refuses_scene}
+use Rattle.strun.proofs.Refusing.{refuses_fault}
 use Rattle.strun.proofs.tops.accept.Goals as goal
-
-pub returns-in-Ok-clause-refused : goal.returns-in-Ok-clause-refused
-returns-in-Ok-clause-refused c =
-    refuses_scene c.args.text.now c.first_only.result c.in-Ok.scene (omega arith) c.first_only.ensures.limits c.in-Ok.ensures.read c.first_only.ensures.refused
 
 pub returns-in-Err-Bad-clause-refused : goal.returns-in-Err-Bad-clause-refused
 returns-in-Err-Bad-clause-refused c =

@@ -1,12 +1,9 @@
-use Rattle.node_core.specs.NodeStates.{NodeState}
-use Rattle.node_core.proofs.NodeLaws.{node_idle}
-use Rattle.node_core.proofs.Readying.{within_first}
+use Rattle.std.proofs.Common.{ap, not, sym, ◌∙◌}
+use Rattle.node_core.proofs.Whole.Readying.{idle_steps}
 use Rattle.node_core.proofs.nodes.Node.client_idle.Goals as goal
 
-pub client_turn-requires : goal.client_turn-requires
-client_turn-requires c = within_first c.self.inside.scene c.self.inside.state.view c.self.invariant.scene_ c.self.invariant.view
+pub client_idle-requires : goal.client_idle-requires
+client_idle-requires c = let n = c.self.invariant.0 in record { limits = n.limits; exists = n.exists; moment = n.facts.moment }
 
 pub returns : goal.returns
-returns c = λ t.
-    let n : NodeState = record { scene = c.self.inside.scene; id = c.self.inside.id; view = c.self.inside.state.view; room = c.self.inside.state.room } in
-    rw (← c.self.view_is, c.is_idle.ensures, c.client_turn.ensures) (node_idle n c.args.session t c.self.invariant)
+returns c t = rw (← c.self.view_is) (c.client_idle.ensures t ∙ ap not (sym (idle_steps c.self.inside.work c.self.invariant.1 c.args.session t)))

@@ -1,0 +1,9 @@
+pub mod Oldest
+pub mod Places
+pub mod Stepping
+pub mod Happening
+pub mod RunOf
+pub mod Kept
+pub mod Draining
+pub mod Looking
+pub mod Counting

@@ -1,0 +1,100 @@
+//! The nodes of a cluster.
+ghost use Rattle.cluster_run.specs.Clusters.{ArePlaced, HasRoom, IsReady, SameNodes, StepsAt, views_of};
+ghost use Rattle.node_core.specs.Working.{SameLists};
+ghost use Rattle.std.specs.List.{count_by, sum_by};
+ghost use Rattle.std.specs.Prelude.{◌≡◌, ◌<◌, ◌≤◌, ◌+◌, ◌-◌, ◌^◌, IfOk, IfSome, IsNone, None, length, not, replicate};
+ghost use Rattle.str_model.specs.Runs.{opening_view};
+ghost use Rattle.str_model.specs.Views.{is_decided};
+ghost use Rattle.str_scene.specs.SceneLimits.{IsScene};
+ghost use Rattle.str_scene.specs.Scenes.{nth};
+
+use node_core::{Node, Outbox};
+use std::alloc::{AllocError, Global};
+use str_base::NodeId;
+use str_model::Input;
+use str_scene::Scene;
+
+/// The nodes of a scene at the beginning.
+pub(crate) fn opening_nodes(alloc: Global, scene: &Scene) -> Result<Vec<Node>, AllocError>
+    ensures views { IfOk result (λ ns. views_of ns.items ≡ replicate scene.now.nodes (opening_view scene.now)) }
+    ensures placed { IfOk result (λ ns. ArePlaced scene.now ns.items) }
+    ensures limits { IsScene scene.now }
+{
+    let mut nodes = Vec::new(alloc);
+    for i in 0..scene.nodes() {
+        let node = Node::new(alloc, NodeId(i + 1), scene)?;
+        nodes.push(node)?;
+    }
+    Ok(nodes)
+}
+
+/// The place of a node, counted from 0. None where there is no such node.
+pub(crate) fn place_of(nodes: &Vec<Node>, node: NodeId) -> Option<usize>
+    ensures none { IsNone result → nth nodes.now.items node.0 ≡ None }
+    ensures some { IfSome result (λ place. (node.0 ≡ place + 1) × (place < length nodes.now.items)) }
+{
+    let number = node.0 as usize;
+    if number == 0 || number > nodes.len() {
+        return None;
+    }
+    Some(number - 1)
+}
+
+/// Makes room for the step of a node on this input, if it is there, and gives a number that is as great as the
+/// step's need at least. The views and the lists stay, also after an error.
+pub(crate) fn ready_at(
+    nodes: &mut Vec<Node>,
+    node: NodeId,
+    input: &Input,
+    out: &mut Outbox,
+) -> Result<usize, AllocError>
+    ensures need { IfOk result (λ room. HasRoom room input.now (nth nodes.new.items node.0)) }
+    ensures room { IfOk result (λ room. IsReady input.now (nth nodes.new.items node.0)) }
+    ensures space { IfOk result (λ room. HasRoom out.new.space input.now (nth nodes.new.items node.0)) }
+    ensures nodes { SameNodes nodes.old.items nodes.new.items }
+    ensures lists { SameLists out.old out.new }
+{
+    let Some(place) = place_of(nodes, node) else {
+        return Ok(0);
+    };
+    let member = &mut nodes[place];
+    member.ready(input, out)
+}
+
+/// The step of a node on an input. It answers false exactly where there is no such node or the input is idle, and
+/// then nothing changes. It takes no memory.
+pub(crate) fn step_at(nodes: &mut Vec<Node>, node: NodeId, input: &Input, out: &mut Outbox) -> bool
+    requires room { IsReady input.now (nth nodes.old.items node.0) }
+    requires space { HasRoom out.old.space input.now (nth nodes.old.items node.0) }
+    ensures { StepsAt input.now nodes.old.items nodes.new.items (node.0 - 1) (nth nodes.old.items node.0) out.old out.new result }
+{
+    let Some(place) = place_of(nodes, node) else {
+        return false;
+    };
+    let member = &mut nodes[place];
+    member.step(input, out)
+}
+
+/// How many transactions have begun.
+pub(crate) fn begun_among(nodes: &[Node]) -> u32
+    requires { sum_by (λ n. length n.view.own) nodes.now < 2 ^ 32 }
+    ensures { result ≡ sum_by (λ n. length n.view.own) nodes.now }
+{
+    let mut total = 0;
+    for node in nodes {
+        total += node.begun();
+    }
+    total
+}
+
+/// How many transactions have begun and are undecided.
+pub(crate) fn held_among(nodes: &[Node]) -> u32
+    requires { sum_by (λ n. count_by (λ x. not (is_decided x.phase)) n.view.own) nodes.now < 2 ^ 32 }
+    ensures { result ≡ sum_by (λ n. count_by (λ x. not (is_decided x.phase)) n.view.own) nodes.now }
+{
+    let mut total = 0;
+    for node in nodes {
+        total += node.held();
+    }
+    total
+}

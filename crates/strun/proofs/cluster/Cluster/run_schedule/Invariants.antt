@@ -1,9 +1,0 @@
-use Rattle.std.proofs.Common.{◌≡◌, take}
-use Rattle.str_model.specs.Runs.{run_from}
-use Rattle.strun.proofs.cluster.Cluster.run_schedule.Given as goal
-
-abbrev pub invariant-loop-i : goal.invariant-loop-i
-invariant-loop-i l = record {
-  scene : l.self.scene ≡ l.initial.self.scene;
-  done : l.self.world ≡ run_from l.initial.self.scene l.initial.self.world (take l.i l.initial.self.scene.schedule);
-}

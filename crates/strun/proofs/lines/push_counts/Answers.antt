@@ -1,7 +1,0 @@
-use Rattle.std.proofs.Common.{append_assoc}
-use Rattle.strun.proofs.lines.push_counts.Goals as goal
-
-pub returns-clause-ok : goal.returns-clause-ok
-returns-clause-ok c =
-    rw (c.in_ok-extend_from_slice.ensures.items, c.in_ok-push_field-2.ensures.ok, c.in_ok-push_field.ensures.ok, c.in_ok-push_ended.ensures.ok)
-    (simp append_assoc)
