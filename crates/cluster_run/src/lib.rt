@@ -6,8 +6,6 @@ pub mod flags;
 pub mod lines;
 mod members;
 mod parts;
-#[cfg(test)]
-mod tests;
 
 pub use clusters::Cluster;
 pub use flags::GivenFlags;
