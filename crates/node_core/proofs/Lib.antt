@@ -1,5 +1,5 @@
 pub mod Parts
 pub mod Rules
-pub mod Pass
-pub mod Waiters
+pub mod PassTurns
+pub mod Waiting
 pub mod Whole

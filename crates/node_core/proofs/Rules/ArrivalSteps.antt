@@ -5,9 +5,9 @@ use Rattle.node_core.proofs.Rules.ArrivalRules.{replicate_new}
 use Rattle.node_core.proofs.Rules.Evictions.{brings, brought, evict-path, evict_fewer, evict_leaves, evict_split, evicted_at, EvictedAt}
 use Rattle.node_core.proofs.Whole.Growing.{Grows, fits_before, grows_along, more-sent}
 use Rattle.node_core.proofs.Whole.Moves.{did_as, did_then, facts_then, fits_as, fits_then, holds_then}
-use Rattle.node_core.proofs.Pass.PassSteps.{take_past}
+use Rattle.node_core.proofs.PassTurns.PassSteps.{take_past}
 use Rattle.node_core.proofs.Rules.ScriptSteps.{own_then}
-use Rattle.node_core.proofs.Waiters.SweepOver.{take_next}
+use Rattle.node_core.proofs.Waiting.SweepOver.{take_next}
 use Rattle.node_core.specs.Arriving.{AreEvicted, CanPlace, IsNamed}
 use Rattle.node_core.specs.Working.{Did, Fits, HasFacts, OwnIs, WorkState}
 use Rattle.replica_apply.specs.declared.slaves.Evicted.{Evicted}

@@ -4,7 +4,7 @@ use Rattle.std.proofs.lemmas.Option.{slice_get_within}
 use Rattle.dependency_set.specs.Snapshots.{Snap}
 use Rattle.node_parts.specs.Owning.{IsFree, turned}
 use Rattle.node_core.proofs.Whole.Moves.{did_as, did_then, facts_then, fits_as, fits_then, holds_then}
-use Rattle.node_core.proofs.Pass.OwnMoments.{marked_moment}
+use Rattle.node_core.proofs.PassTurns.OwnMoments.{marked_moment}
 use Rattle.node_core.proofs.Rules.ScriptTurns.{can_turn, has_place, need_there, value_turns, waits_free}
 use Rattle.node_core.specs.Reading.{AsksToCommit, CanTurn, MayRead}
 use Rattle.node_core.specs.Working.{Did, Fits, HasFacts, OwnIs, WorkState}

@@ -2,7 +2,7 @@
 use Rattle.std.proofs.Common.{Bool, None, Option, Some, [], ap, arith, false, length, option_map, refl, subst, sym, true, ◌∙◌, ◌≡◌}
 use Rattle.node_core.proofs.Whole.Growing.{Grows, fits_before, grows_along, grows_then}
 use Rattle.node_core.proofs.Whole.Moves.{did_as, did_rule, did_then, facts_then, fits_rule, fits_then}
-use Rattle.node_core.proofs.Pass.PassOver.{pass_grows}
+use Rattle.node_core.proofs.PassTurns.PassOver.{pass_grows}
 use Rattle.node_core.specs.Working.{Did, Fits, FitsRule, HasFacts, IsNode, Ruled, WorkState}
 use Rattle.str_model.specs.declared.messages.Input.{Input}
 use Rattle.str_model.specs.NodeFacts.{MomentFacts}

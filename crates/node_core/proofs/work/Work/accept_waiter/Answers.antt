@@ -1,5 +1,5 @@
 use Rattle.str_model.specs.Acts.{accepted}
-use Rattle.node_core.proofs.Waiters.WaiterSteps.{accepts, accepts_held, held_place, left_does, left_fits}
+use Rattle.node_core.proofs.Waiting.WaiterSteps.{accepts, accepts_held, held_place, left_does, left_fits}
 use Rattle.node_core.proofs.work.Work.accept_waiter.Goals as goal
 
 pub accept-requires-clause-can : goal.accept-requires-clause-can

@@ -1,5 +1,5 @@
 use Rattle.std.proofs.Common.{inr, refl, sym}
-use Rattle.node_core.proofs.Pass.TurnSteps.{again_does, again_fits, again_rests, wait_reads}
+use Rattle.node_core.proofs.PassTurns.TurnSteps.{again_does, again_fits, again_rests, wait_reads}
 use Rattle.str_base.proofs.Lists.{slice_get_there}
 use Rattle.str_model.specs.Scripts.{certify_now, read_now}
 use Rattle.str_model.specs.Views.{CertWait, ReadWait}

@@ -4,7 +4,7 @@ use Rattle.str_model.specs.Acts.{begun}
 use Rattle.str_scene.specs.Scenes.{Here, nth}
 use Rattle.node_core.proofs.Rules.ClientSteps.{begin_is, begin_none, begins}
 use Rattle.node_core.proofs.Whole.Moves.{did_rule, fits_rule, idle_rule}
-use Rattle.node_core.proofs.Pass.OwnMoments.{begun_moment}
+use Rattle.node_core.proofs.PassTurns.OwnMoments.{begun_moment}
 use Rattle.node_core.proofs.work.Work.begin_at.Goals as goal
 
 pub returns-then-not-has_script : goal.returns-then-not-has_script

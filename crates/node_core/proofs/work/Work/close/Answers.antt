@@ -1,5 +1,5 @@
 use Rattle.std.proofs.Common.{ap, sym, ◌∙◌}
-use Rattle.node_core.proofs.Pass.TurnSteps.{close_rests, closing_does, closing_fits, closing_waits}
+use Rattle.node_core.proofs.PassTurns.TurnSteps.{close_rests, closing_does, closing_fits, closing_waits}
 use Rattle.str_base.proofs.Lists.{slice_get_there}
 use Rattle.str_model.specs.Views.{Closing, is_decided, lc_of}
 use Rattle.node_core.proofs.work.Work.close.Goals as goal

@@ -3,7 +3,7 @@ use Rattle.replica_apply.specs.declared.slaves.Evicted.{Evicted}
 use Rattle.str_scene.specs.Scenes.{Here}
 use Rattle.node_core.proofs.Rules.ArrivalSteps.{evict_done, evict_facts, step_above, step_fits, step_next, step_open}
 use Rattle.node_core.proofs.Whole.Moves.{did_self}
-use Rattle.node_core.proofs.Pass.PassOver.{got_index}
+use Rattle.node_core.proofs.PassTurns.PassOver.{got_index}
 use Rattle.node_core.proofs.work.Work.evict_all.Goals as goal
 
 pub loop-evicted-init : goal.loop-evicted-init

@@ -1,4 +1,4 @@
-use Rattle.node_core.proofs.Pass.GateSteps.{asked_facts, asked_less, asked_next, asked_own, asks_fits, asks_part, commits_done, commits_fits, gates_begin, shut_done}
+use Rattle.node_core.proofs.PassTurns.GateSteps.{asked_facts, asked_less, asked_next, asked_own, asks_fits, asks_part, commits_done, commits_fits, gates_begin, shut_done}
 use Rattle.node_core.proofs.work.Work.gates.Goals as goal
 
 pub loop-said-init : goal.loop-said-init

@@ -1,5 +1,5 @@
-use Rattle.node_core.proofs.Pass.GateSteps.{GatesAt}
-use Rattle.node_core.proofs.Pass.GatesOver.{asks_left}
+use Rattle.node_core.proofs.PassTurns.GateSteps.{GatesAt}
+use Rattle.node_core.proofs.PassTurns.GatesOver.{asks_left}
 use Rattle.node_core.proofs.work.Work.gates.Given as goal
 
 abbrev pub invariant-loop-said : goal.invariant-loop-said

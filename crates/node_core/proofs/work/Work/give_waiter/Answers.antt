@@ -1,5 +1,5 @@
 use Rattle.str_model.specs.Acts.{replied}
-use Rattle.node_core.proofs.Waiters.WaiterSteps.{gives, gives_read, left_does, left_fits}
+use Rattle.node_core.proofs.Waiting.WaiterSteps.{gives, gives_read, left_does, left_fits}
 use Rattle.node_core.proofs.work.Work.give_waiter.Goals as goal
 
 pub reply-requires : goal.reply-requires

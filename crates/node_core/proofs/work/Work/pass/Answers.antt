@@ -1,7 +1,7 @@
 use Rattle.std.proofs.Common.{List, ap, arith, length, slice_get, slice_index_or, sym, ℕ, ◌∙◌}
 use Rattle.node_core.proofs.Whole.Moves.{did_self}
-use Rattle.node_core.proofs.Pass.PassOver.{got_index}
-use Rattle.node_core.proofs.Pass.PassSteps.{pass_done, pass_facts, pass_fits, pass_next, pass_opens, pass_own}
+use Rattle.node_core.proofs.PassTurns.PassOver.{got_index}
+use Rattle.node_core.proofs.PassTurns.PassSteps.{pass_done, pass_facts, pass_fits, pass_next, pass_opens, pass_own}
 use Rattle.node_core.proofs.work.Work.pass.Goals as goal
 
 pub loop-place-init : goal.loop-place-init

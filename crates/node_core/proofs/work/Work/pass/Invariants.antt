@@ -1,6 +1,6 @@
 use Rattle.std.proofs.Common.{take}
 use Rattle.node_parts.specs.Owning.{open_from}
-use Rattle.node_core.proofs.Pass.PassOver.{turns}
+use Rattle.node_core.proofs.PassTurns.PassOver.{turns}
 use Rattle.node_core.specs.Working.{Did}
 use Rattle.node_core.proofs.work.Work.pass.Given as goal
 

@@ -1,5 +1,5 @@
 use Rattle.str_model.specs.Acts.{refused}
-use Rattle.node_core.proofs.Waiters.WaiterSteps.{left_does, left_fits, refuses, refuses_held}
+use Rattle.node_core.proofs.Waiting.WaiterSteps.{left_does, left_fits, refuses, refuses_held}
 use Rattle.node_core.proofs.work.Work.refuse_waiter.Goals as goal
 
 pub refuse-requires : goal.refuse-requires

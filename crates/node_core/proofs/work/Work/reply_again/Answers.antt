@@ -1,6 +1,6 @@
 use Rattle.std.proofs.Common.{ap}
 use Rattle.snapshot_read.specs.Turning.{turn_of as read_as}
-use Rattle.node_core.proofs.Pass.TurnSteps.{reply_takes}
+use Rattle.node_core.proofs.PassTurns.TurnSteps.{reply_takes}
 use Rattle.node_core.proofs.work.Work.reply_again.Goals as goal
 
 pub take_value-requires-clause-own : goal.take_value-requires-clause-own

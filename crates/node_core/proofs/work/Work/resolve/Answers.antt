@@ -6,7 +6,7 @@ use Rattle.str_model.specs.Acts.{aborted}
 use Rattle.str_model.specs.Turns.{dep_turn, left_by}
 use Rattle.str_model.specs.Views.{Own, put}
 use Rattle.str_scene.specs.Scenes.{Here}
-use Rattle.node_core.proofs.Pass.TurnSteps.{resolve_does, resolve_facts, resolve_fits, resolve_keeps, resolve_open, resolve_rests}
+use Rattle.node_core.proofs.PassTurns.TurnSteps.{resolve_does, resolve_facts, resolve_fits, resolve_keeps, resolve_open, resolve_rests}
 use Rattle.node_core.proofs.work.Work.resolve.Goals as goal
 
 pub returns-then-not-depends : goal.returns-then-not-depends

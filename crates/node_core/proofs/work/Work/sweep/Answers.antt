@@ -1,5 +1,5 @@
 use Rattle.std.proofs.Common.{arith}
-use Rattle.node_core.proofs.Waiters.SweepSteps.{sweep_begin, sweep_done, sweep_fits, sweep_next, sweep_there}
+use Rattle.node_core.proofs.Waiting.SweepSteps.{sweep_begin, sweep_done, sweep_fits, sweep_next, sweep_there}
 use Rattle.node_core.proofs.work.Work.sweep.Goals as goal
 
 pub loop-n-init : goal.loop-n-init

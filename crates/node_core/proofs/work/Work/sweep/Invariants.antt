@@ -1,4 +1,4 @@
-use Rattle.node_core.proofs.Waiters.SweepSteps.{SweepAt}
+use Rattle.node_core.proofs.Waiting.SweepSteps.{SweepAt}
 use Rattle.node_core.proofs.work.Work.sweep.Given as goal
 
 abbrev pub invariant-loop-n : goal.invariant-loop-n

@@ -1,6 +1,6 @@
 use Rattle.std.proofs.Common.{refl}
 use Rattle.node_core.specs.declared.waiters.WaiterTurn.TheVariants.{Accept, Give, Refuse}
-use Rattle.node_core.proofs.Waiters.WaiterSteps.{tried_leaves, tried_stays}
+use Rattle.node_core.proofs.Waiting.WaiterSteps.{tried_leaves, tried_stays}
 use Rattle.node_core.proofs.work.Work.try_waiter.Goals as goal
 
 pub returns-in-Stay : goal.returns-in-Stay

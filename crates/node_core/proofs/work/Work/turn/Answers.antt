@@ -1,5 +1,5 @@
 use Rattle.node_core.proofs.Rules.ScriptSteps.{own_there}
-use Rattle.node_core.proofs.Pass.TurnSteps.{first_facts, first_fits, first_opens, first_there, half_facts, half_fits, half_there, turn_done, turn_resolves}
+use Rattle.node_core.proofs.PassTurns.TurnSteps.{first_facts, first_fits, first_opens, first_there, half_facts, half_fits, half_there, turn_done, turn_resolves}
 use Rattle.node_core.proofs.work.Work.turn.Goals as goal
 
 pub resolve-requires-clause-fits : goal.resolve-requires-clause-fits

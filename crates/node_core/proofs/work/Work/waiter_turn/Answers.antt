@@ -1,6 +1,6 @@
 use Rattle.std.proofs.Common.{ap, Some, slice_get, sym, ◌∙◌}
 use Rattle.std.specs.Option.{option_copied}
-use Rattle.node_core.proofs.Waiters.WaiterSteps.{waiter_facts}
+use Rattle.node_core.proofs.Waiting.WaiterSteps.{waiter_facts}
 use Rattle.node_core.specs.Working.{WorkState}
 use Rattle.str_model.specs.declared.messages.Waiter.TheVariants.{Held, Read}
 use Rattle.node_core.proofs.work.Work.waiter_turn.Goals as goal

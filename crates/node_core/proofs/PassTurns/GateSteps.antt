@@ -6,10 +6,10 @@ use Rattle.commit_gate.specs.declared.gates.GateTurn.{GateTurn}
 use Rattle.commit_gate.specs.declared.gates.GateTurn.TheVariants as spoken
 use Rattle.dependency_set.specs.declared.names.Dep.{Dep}
 use Rattle.dependency_set.specs.Snapshots.{Snap}
-use Rattle.node_core.proofs.Pass.GatesOver.{Asking, asked_owns, asking, asks_left, gates_commit, gates_few, gates_shut, of_scene}
+use Rattle.node_core.proofs.PassTurns.GatesOver.{Asking, asked_owns, asking, asks_left, gates_commit, gates_few, gates_shut, of_scene}
 use Rattle.node_core.proofs.Whole.Growing.{fits_before}
 use Rattle.node_core.proofs.Whole.Moves.{did_as, facts_then, fits_as, holds_then, stays_self, stays_then}
-use Rattle.node_core.proofs.Pass.OwnMoments.{asked_moment}
+use Rattle.node_core.proofs.PassTurns.OwnMoments.{asked_moment}
 use Rattle.node_core.proofs.Rules.ScriptSteps.{own_then}
 use Rattle.node_core.specs.Working.{Did, Fits, HasFacts, OwnIs, Stays, WorkState}
 use Rattle.partition_map.specs.declared.rows.Asked.{Asked}

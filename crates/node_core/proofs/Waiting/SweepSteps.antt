@@ -2,8 +2,8 @@
 use Rattle.std.proofs.Common.{Bool, Some, [], arith, false, if◌then◌else◌, length, refl, slice_get, subst, sym, true, ℕ, ◌+◌, ◌<◌, ◌∙◌, ◌≡◌, ◌≤◌}
 use Rattle.node_core.proofs.Whole.Growing.{fits_before}
 use Rattle.node_core.proofs.Whole.Moves.{facts_then, holds_then, stays_self, stays_then}
-use Rattle.node_core.proofs.Pass.OwnMoments.{any_input}
-use Rattle.node_core.proofs.Waiters.SweepOver.{Swept, sweep_ends, sweep_from, swept_leaves, swept_stays}
+use Rattle.node_core.proofs.PassTurns.OwnMoments.{any_input}
+use Rattle.node_core.proofs.Waiting.SweepOver.{Swept, sweep_ends, sweep_from, swept_leaves, swept_stays}
 use Rattle.node_core.specs.Waiting.{Tried, is_staying, tried, turn_of}
 use Rattle.node_core.specs.Working.{Did, Fits, HasFacts, Stays, WorkState}
 use Rattle.str_base.proofs.Lists.{slice_get_there}

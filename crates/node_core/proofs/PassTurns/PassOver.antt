@@ -4,7 +4,7 @@ use Rattle.std.proofs.Math.Seq.{take-length}
 use Rattle.std.proofs.lemmas.List.{append-nil, length-take-le}
 use Rattle.node_parts.specs.Owning.{open_from}
 use Rattle.node_core.proofs.Whole.Growing.{Grows, grows_along, grows_self, grows_then}
-use Rattle.node_core.proofs.Pass.OwnMoments.{any_input}
+use Rattle.node_core.proofs.PassTurns.OwnMoments.{any_input}
 use Rattle.str_base.proofs.Lists.{slice_get_there}
 use Rattle.str_model.specs.Pass.{pass_to, turn}
 use Rattle.str_model.specs.Views.{Doing, Own, is_decided}

@@ -3,7 +3,7 @@ use Rattle.std.proofs.Common.{Bool, List, Some, [], ap, arith, drop, false, leng
 use Rattle.std.proofs.lemmas.List.{length-take-le}
 use Rattle.std.proofs.lemmas.Option.{slice_get_within}
 use Rattle.node_core.proofs.Whole.Growing.{Grows, grows_along}
-use Rattle.node_core.proofs.Pass.OwnMoments.{any_input}
+use Rattle.node_core.proofs.PassTurns.OwnMoments.{any_input}
 use Rattle.node_core.specs.Waiting.{is_staying, judged, served, tried, turn_of}
 use Rattle.str_base.proofs.Lists.{drop_there}
 use Rattle.str_model.specs.declared.messages.Waiter.{Waiter}

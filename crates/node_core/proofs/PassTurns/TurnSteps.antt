@@ -9,7 +9,7 @@ use Rattle.node_parts.specs.declared.phases.Phase.TheVariants as spoken
 use Rattle.node_parts.specs.Phases.{phase_of}
 use Rattle.node_core.proofs.Whole.Growing.{fits_before, grows_along}
 use Rattle.node_core.proofs.Whole.Moves.{did_as, did_then, facts_then, fits_as, fits_then, holds_then, stays_self}
-use Rattle.node_core.proofs.Pass.OwnMoments.{any_input, looked_moment}
+use Rattle.node_core.proofs.PassTurns.OwnMoments.{any_input, looked_moment}
 use Rattle.node_core.proofs.Rules.ScriptSteps.{empty_is, own_then, put_same}
 use Rattle.node_core.specs.Reading.{MayRead}
 use Rattle.node_core.specs.Working.{Did, Fits, HasFacts, OwnIs, WorkState}

@@ -1,7 +1,7 @@
 -- The gate of a certified own transaction, looked at until it asks no partition.
 use Rattle.std.proofs.Common.{None, Option, Some, ap, arith, false, length, refl, slice_get, subst, suc, sym, ℕ, ◌<◌, ◌∙◌, ◌≡◌, ◌≤◌}
 use Rattle.node_core.proofs.Whole.Growing.{Grows, grows_along}
-use Rattle.node_core.proofs.Pass.OwnMoments.{any_input}
+use Rattle.node_core.proofs.PassTurns.OwnMoments.{any_input}
 use Rattle.str_base.proofs.Lists.{get_set}
 use Rattle.str_base.specs.declared.names.PartId.{PartId}
 use Rattle.str_base.specs.Members.{In}

@@ -1,8 +1,8 @@
 -- One who waits is tried again: what it comes to, and what that does.
 use Rattle.std.proofs.Common.{if◌then◌else◌, List, Some, ap, false, refl, remove, slice_get, subst, sym, true, ℕ, ◌++◌, ◌+◌, ◌∙◌, ◌≡◌, take, drop, Option}
 use Rattle.node_core.proofs.Whole.Moves.{did_as, did_then, facts_then, fits_as, fits_then, holds_then, stays_self}
-use Rattle.node_core.proofs.Waiters.SweepOver.{parted, removed}
-use Rattle.node_core.proofs.Waiters.Unwaited.{unwaited_moment}
+use Rattle.node_core.proofs.Waiting.SweepOver.{parted, removed}
+use Rattle.node_core.proofs.Waiting.Unwaited.{unwaited_moment}
 use Rattle.node_core.specs.Arriving.{CanPlace}
 use Rattle.node_core.specs.declared.waiters.WaiterTurn.{WaiterTurn}
 use Rattle.node_core.specs.declared.waiters.WaiterTurn.TheVariants.{Accept, Give, Refuse, Stay}

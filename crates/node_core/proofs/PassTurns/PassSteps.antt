@@ -4,10 +4,10 @@ use Rattle.std.proofs.lemmas.Option.{slice_get_within}
 use Rattle.node_parts.specs.Owning.{open_from}
 use Rattle.node_core.proofs.Whole.Growing.{fits_before}
 use Rattle.node_core.proofs.Whole.Moves.{did_as, did_then, facts_then, fits_then}
-use Rattle.node_core.proofs.Pass.OwnMoments.{any_input}
-use Rattle.node_core.proofs.Pass.PassOver.{AtOpen, at_open, pass_grows, pass_rests, turns, turns_all, turns_more, turns_to}
+use Rattle.node_core.proofs.PassTurns.OwnMoments.{any_input}
+use Rattle.node_core.proofs.PassTurns.PassOver.{AtOpen, at_open, pass_grows, pass_rests, turns, turns_all, turns_more, turns_to}
 use Rattle.node_core.proofs.Rules.ScriptSteps.{open_then, own_then}
-use Rattle.node_core.proofs.Waiters.SweepOver.{take_next}
+use Rattle.node_core.proofs.Waiting.SweepOver.{take_next}
 use Rattle.node_core.specs.Working.{Did, Fits, HasFacts, OwnIs, WorkState}
 use Rattle.str_model.specs.NodeFacts.{OpenTo}
 use Rattle.str_model.specs.Pass.{pass_to, turn}
