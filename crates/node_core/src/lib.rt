@@ -11,6 +11,10 @@ mod returns;
 mod scripts;
 mod sizes;
 mod steps;
+#[cfg(test)]
+mod test_letters;
+#[cfg(test)]
+mod tests;
 mod waiters;
 mod work;
 
