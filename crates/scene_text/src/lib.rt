@@ -13,5 +13,5 @@ pub mod write;
 
 pub use lines::{Line, ReadLine, Word};
 pub use order::{Place, follows};
-pub use read::{TextFault, read_scene};
+pub use read::{Reader, TextFault, read_scene};
 pub use write::write_scene;

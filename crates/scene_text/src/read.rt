@@ -1,6 +1,6 @@
 //! A scene, read from its text.
 ghost use Rattle.std.specs.Prelude.{◌≡◌, ◌⊎◌, ◌<◌, ◌≤◌, ◌+◌, ◌++◌, ◌∷◌, [], IfOk, IfErr, None, IsTrue, ◌↔◌, OnOk, length, take, true, false};
-ghost use Rattle.str_base.specs.declared.limits.TheConstants.{OPERATIONS};
+ghost use Rattle.str_base.specs.declared.limits.TheConstants.{OPERATIONS, PARTITIONS};
 ghost use Rattle.scene_text.specs.LineOrder.{follows as follows_line, op_follows, section_follows};
 ghost use Rattle.scene_text.specs.LineTexts.{IsForm};
 ghost use Rattle.scene_text.specs.Reaching.{Reached};
@@ -15,7 +15,7 @@ ghost use Rattle.str_scene.specs.Spelling.{IsText};
 use crate::lines::Line;
 use crate::order::{Place, follows};
 use crate::parting::next_feed;
-use crate::read_line::read_line;
+use crate::read_line::{read_line, word_of};
 use partition_map::PartRow;
 use std::alloc::Global;
 use std::marker::Model;
@@ -34,7 +34,7 @@ pub enum TextFault {
 
 /// What the lines so far have given, the first of which is that of the version. It is seen as a state of the reading.
 #[derive(Drop)]
-struct Reader {
+pub struct Reader {
     version: u8,
     place: Place,
     build: SceneBuild,
@@ -54,7 +54,7 @@ impl Model for Reader {
 
 impl Reader {
     /// After the line of the version.
-    fn new(alloc: Global, version: u8) -> Reader
+    pub fn new(alloc: Global, version: u8) -> Reader
         requires { (version ≡ 1) ⊎ (version ≡ 2) }
         ensures { result ≡ record { place = Place.AfterVersion; draft = empty_draft version; ops = [] } }
     {
@@ -349,6 +349,42 @@ impl Reader {
         }
     }
 
+    /// The next line, which is of the form. After a fault nothing is said of the reading.
+    pub fn step(&mut self, line: Line) -> Result<(), SceneFault>
+        requires reached { IsReached self.old }
+        requires form { IsForm line }
+        ensures taken { OnOk result (take_line scene_limits self.old (line) ≡ Now self.new) }
+        ensures reached { OnOk result (IsReached self.new) }
+        ensures refused { IfErr result (λ f. IsRefusedFor self.old (line) f) }
+    {
+        let Some(next) = follows(self.version, self.place, word_of(&line)) else {
+            return Err(SceneFault::Form);
+        };
+        self.add(next, line)
+    }
+
+    /// The version that the first line gave.
+    pub fn version(&self) -> u8
+        ensures { result ≡ self.now.draft.version }
+    {
+        self.version
+    }
+
+    /// What the lines so far end with.
+    pub fn place(&self) -> Place
+        ensures { result ≡ self.now.place }
+    {
+        self.place
+    }
+
+    /// The number of partitions so far.
+    pub fn parts(&self) -> usize
+        ensures value { result ≡ length self.now.draft.parts }
+        ensures limit { result ≤ PARTITIONS }
+    {
+        self.build.parts()
+    }
+
     /// The next line of the text.
     fn take(&mut self, text: &[u8]) -> Result<(), SceneFault>
         requires { IsReached self.old }
@@ -368,14 +404,14 @@ impl Reader {
     }
 
     /// Whether the last line has come.
-    fn is_at_end(&self) -> bool
+    pub fn is_at_end(&self) -> bool
         ensures { IsTrue result ↔ (self.now.place ≡ Place.AfterEnd) }
     {
         matches!(self.place, Place::AfterEnd)
     }
 
     /// The scene that the lines give, after the last of them.
-    fn finish(self) -> Scene
+    pub fn finish(self) -> Scene
         requires { finish_fault self.draft ≡ None }
         ensures { result ≡ self.draft }
     {

@@ -90,6 +90,31 @@ fn read_word(bytes: &[u8]) -> Option<Word>
     }
 }
 
+/// The kind of a line.
+pub fn word_of(line: &Line) -> Word
+    ensures { result ≡ word_of line.now }
+{
+    match line {
+        Line::Version(_) => Word::Version,
+        Line::Nodes(_) => Word::Nodes,
+        Line::Part(_, _) => Word::Part,
+        Line::Session(_) => Word::Session,
+        Line::Tx => Word::Tx,
+        Line::Get(_, _) => Word::Get,
+        Line::Put(_, _, _) => Word::Put,
+        Line::Puts(_, _, _) => Word::Puts,
+        Line::Add(_, _, _) => Word::Add,
+        Line::Del(_, _) => Word::Del,
+        Line::Need(_, _, _) => Word::Need,
+        Line::Abort => Word::Abort,
+        Line::Schedule => Word::Schedule,
+        Line::Client(_, _) => Word::Client,
+        Line::Deliver(_) => Word::Deliver,
+        Line::Drain => Word::Drain,
+        Line::End => Word::End,
+    }
+}
+
 /// The line of the kind that is one word.
 fn lone_line(word: Word) -> Option<Line>
     ensures word { IfSome result (λ l. word_of l ≡ word) }

@@ -1,12 +1,11 @@
 -- What holds of the versions of a store that is being filled, and of one that a version comes into.
-use Rattle.std.proofs.Common.{Bool, List, ap, arith, not, subst, sym, true, ℕ, ◌+◌, ◌<◌, ◌^◌, ◌≤◌, ◌∙◌, ◌≡◌}
-use Rattle.local_certify.specs.Causes.{time_end}
+use Rattle.std.proofs.Common.{Bool, List, ap, arith, not, subst, sym, ℕ, ◌+◌, ◌<◌, ◌^◌, ◌≤◌, ◌∙◌, ◌≡◌}
 use Rattle.store_bench.specs.Filled.{Held, IsEarlier, IsPlain}
 use Rattle.str_base.specs.declared.names.Kind.{Kind}
 use Rattle.str_base.specs.declared.names.Kind.TheVariants.{Final}
 use Rattle.str_base.specs.declared.names.TxId.{TxId}
 use Rattle.str_base.specs.declared.names.Version.{Version}
-use Rattle.str_base.specs.Versions.{finalise, insert_version, is_local, settled, without}
+use Rattle.str_base.specs.Versions.{finalise, insert_version, is_local, without}
 use Rattle.version_chain.proofs.Each.{each_finalise, each_insert, each_kept, each_so}
 use Rattle.version_chain.specs.ChainLists.{Apart, Each}
 

@@ -1,5 +1,5 @@
 -- What stands at node 1, which hosts the one partition.
-use Rattle.std.proofs.Common.{List, [], ap, arith, false, refl, suc, sym, true, zero, ℕ, ◌==◌, ◌∙◌, ◌∷◌, ◌≡◌}
+use Rattle.std.proofs.Common.{List, ap, arith, false, refl, suc, sym, true, zero, ℕ, ◌==◌, ◌∙◌, ◌≡◌}
 use Rattle.std.proofs.lemmas.Bool.Decides.{nat_tests}
 use Rattle.cache_partition.specs.CacheLists.{CacheList}
 use Rattle.partition_map.specs.Maps.{PartitionMap, hosts}

@@ -46,8 +46,7 @@ impl Call {
 }
 
 /// Looks up once, at a snapshot above all versions, and gives the timestamp that was found, or 1 or 0 for there is one or none.
-fn look_up(store: &ReplicaStore, call: Call, size: Size) -> u64 {
-    let key = KeyId(0);
+fn look_up(store: &ReplicaStore, call: Call, size: Size, key: KeyId) -> u64 {
     let rs = Ts(LATE);
     let found = match call {
         Call::Has => store.has(first_tx(size.versions.saturating_sub(1)), PART),
@@ -64,7 +63,9 @@ fn look_up(store: &ReplicaStore, call: Call, size: Size) -> u64 {
 pub fn look_up_all(store: &ReplicaStore, call: Call, size: Size, times: u32) -> u64 {
     let mut sum: u64 = 0;
     for _ in 0..times {
-        sum = sum.saturating_add(look_up(store, call, size));
+        // It is the first key, but that is not known before the run: no look-up can be left out.
+        let key = KeyId((sum >> 63) as u32);
+        sum = sum.saturating_add(look_up(store, call, size, key));
     }
     sum
 }

@@ -1,101 +1,74 @@
--- Why an input is refused, and what is told of it.
-use Rattle.std.proofs.Common.{Err, IfErr, List, Ok, Option, Result, ap, arith, inl, inr, length, refl, subst, sym, ℕ, ◌<◌, ◌∙◌, ◌≡◌, ◌≤◌, ◌⊎◌}
-use Rattle.std.specs.Io.KnownBytes.{Consumes, IsAtEnd}
-use Rattle.scene_text.proofs.FirstBad.FirstBadLaws.{first_bad_no_text, first_bad_unique}
-use Rattle.scene_text.specs.FirstBad.{FirstBad}
-use Rattle.scene_text.specs.Reading.{IsFaultOf}
+-- Why an input is refused.
+use Rattle.request_frame.proofs.FrameLaws.{first_bad_no_scene, first_bad_unique as one_bad_frame}
+use Rattle.request_frame.specs.FirstBad.{FirstBad as FirstBadFrame}
+use Rattle.request_frame.specs.Reading.{IsFaultOf as IsFrameFault}
+use Rattle.request_frame.specs.declared.read.FrameFault.{FrameFault}
+use Rattle.request_frame.specs.declared.read.FrameFault.TheVariants.{Bad as BadFrame}
+use Rattle.scene_text.proofs.FirstBad.FirstBadLaws.{first_bad_no_text, first_bad_unique as one_bad_line}
+use Rattle.scene_text.specs.FirstBad.{FirstBad as FirstBadLine}
+use Rattle.scene_text.specs.Reading.{IsFaultOf as IsTextFault}
 use Rattle.scene_text.specs.declared.read.TextFault.{TextFault}
-use Rattle.scene_text.specs.declared.read.TextFault.TheVariants.{Bad}
-use Rattle.str_outer.specs.Causes.{Rose}
+use Rattle.scene_text.specs.declared.read.TextFault.TheVariants.{Bad as BadLine}
+use Rattle.std.proofs.Common.{List, ap, arith, length, subst, sym, ℕ, ◌<◌, ◌∙◌, ◌≡◌, ◌≤◌}
+use Rattle.str_scene.specs.SceneLimits.{IsScene}
 use Rattle.str_scene.specs.Scenes.{Scene}
 use Rattle.str_scene.specs.declared.faults.Why.{Why}
-use Rattle.strun.specs.Refusals.{IsRefusal, IsSceneText, line_said, too_many}
-use Rattle.strun.specs.Refusals.IsRefusal.{bad, long}
-use Rattle.strun.specs.Tops.{Completes, IsRefused, RefusesText, RunFails}
-use Rattle.top_status.proofs.Whole.{all_told}
-use Rattle.top_status.specs.Failures.{HasWriteCause, RefusesWith, refusal_of, status_of}
+use Rattle.strun.specs.Inputs.{IsFirstBad, IsRefusal, IsSpelled, Spells, bad_said, too_many}
+use Rattle.strun.specs.Inputs.IsRefusal.{bad, long}
+use Rattle.strun.specs.Tops.{RefusesInput}
+use Rattle.strun.specs.declared.inputs.Form.{Form}
+use Rattle.strun.specs.declared.inputs.Form.TheVariants.{Frames, Text}
+use Rattle.top_status.specs.Failures.{RefusesWith}
 use Rattle.top_status.specs.declared.failure.Failure.{Failure}
 use Rattle.top_status.specs.declared.failure.Failure.TheVariants.{Memory, Read, Refused as Refusal, Usage, Write}
-use Rattle.top_status.specs.declared.status.Status.{Status}
-use Rattle.top_status.specs.declared.status.Status.TheVariants.{Refused}
 
 -- more bytes than may be
-pub refuses_long : (text : List ℕ) (f : Failure) → length text ≤ 1048577 → 1048576 < length text → RefusesWith too_many f → RefusesText text f
-refuses_long text (Refusal said) l m e = long (omega (arith, l, m)) e
-refuses_long text Memory l m e = tt
-refuses_long text Usage l m e = absurd e
-refuses_long text Read l m e = absurd e
-refuses_long text Write l m e = absurd e
+pub refuses_long : (form : Form) (bytes : List ℕ) (f : Failure) → length bytes ≤ 1048577 → 1048576 < length bytes → RefusesWith too_many f → RefusesInput form bytes f
+refuses_long form bytes (Refusal said) l m e = long (omega (arith, l, m)) e
+refuses_long form bytes Memory l m e = tt
+refuses_long form bytes Usage l m e = absurd e
+refuses_long form bytes Read l m e = absurd e
+refuses_long form bytes Write l m e = absurd e
 
--- a bad line
-pub refuses_bad : (text : List ℕ) (f : Failure) (line : ℕ) (why : Why) → length text ≤ 1048576 → FirstBad text line why → RefusesWith (line_said line why) f → RefusesText text f
-refuses_bad text (Refusal said) line why l b e = bad line why l b e
-refuses_bad text Memory line why l b e = tt
-refuses_bad text Usage line why l b e = absurd e
-refuses_bad text Read line why l b e = absurd e
-refuses_bad text Write line why l b e = absurd e
+-- a bad line or frame
+refuses_bad : (form : Form) (bytes : List ℕ) (f : Failure) (place : ℕ) (why : Why) → length bytes ≤ 1048576 → IsFirstBad form bytes place why → RefusesWith (bad_said form place why) f
+    → RefusesInput form bytes f
+refuses_bad form bytes (Refusal said) place why l b e = bad place why l b e
+refuses_bad form bytes Memory place why l b e = tt
+refuses_bad form bytes Usage place why l b e = absurd e
+refuses_bad form bytes Read place why l b e = absurd e
+refuses_bad form bytes Write place why l b e = absurd e
 
--- the fault of a reader, which names the line
-pub refuses_fault : (text : List ℕ) (r : Failure) (fault : TextFault) (line : ℕ) (why : Why) → length text ≤ 1048576 → fault ≡ Bad line why → IsFaultOf text fault
-    → RefusesWith (line_said line why) r → RefusesText text r
-refuses_fault text r fault line why l e b w = refuses_bad text r line why l (subst (IsFaultOf text) e b) w
+-- the fault of the reader of texts, which names the line
+pub refuses_line : (text : List ℕ) (r : Failure) (fault : TextFault) (line : ℕ) (why : Why) → length text ≤ 1048576 → fault ≡ BadLine line why → IsTextFault text fault
+    → RefusesWith (bad_said Text line why) r → RefusesInput Text text r
+refuses_line text r fault line why l e b w = refuses_bad Text text r line why l (subst (IsTextFault text) e b) w
 
--- bytes that were read and are refused end the run
-pub run_refused : (left left' : Option (List ℕ)) (read read' : ℕ) (held : Option (List ℕ)) (write write' : ℕ) (bytes text : List ℕ) (f : Failure) → Consumes left left' bytes
-    → (length bytes ≡ 1048577) ⊎ IsAtEnd left' → text ≡ bytes → RefusesText text f → RunFails left left' read read' held held write write' f
-run_refused left left' read read' held write write' bytes text (Refusal said) c w e r =
-    (record { bytes = bytes; consumed = c; whole = w; refusal = subst (λ (xs : List ℕ). IsRefusal xs said.items) e r }, refl)
-run_refused left left' read read' held write write' bytes text Memory c w e r = inl refl
-run_refused left left' read read' held write write' bytes text Usage c w e r = absurd r
-run_refused left left' read read' held write write' bytes text Read c w e r = absurd r
-run_refused left left' read read' held write write' bytes text Write c w e r = absurd r
+-- the fault of the reader of frames, which names the frame's place
+pub refuses_frame : (bytes : List ℕ) (r : Failure) (fault : FrameFault) (place : ℕ) (why : Why) → length bytes ≤ 1048576 → fault ≡ BadFrame place why → IsFrameFault bytes fault
+    → RefusesWith (bad_said Frames place why) r → RefusesInput Frames bytes r
+refuses_frame bytes r fault place why l e b w = refuses_bad Frames bytes r place why l (subst (IsFrameFault bytes) e b) w
 
--- the text of a scene is not refused
-pub not_refused : (bytes said : List ℕ) (scene : Scene) → IsSceneText bytes scene → IsRefusal bytes said → ⊥
-not_refused bytes said scene t (long l e) = let s = t.short in omega (arith, l, s)
-not_refused bytes said scene t (bad line why l b e) = first_bad_no_text bytes line why scene b t.scene_ t.text
+-- bytes with a first bad line or frame spell no scene
+bad_no_scene : (form : Form) (bytes : List ℕ) (place : ℕ) (why : Why) (scene : Scene) → IsFirstBad form bytes place why → IsScene scene → ¬ Spells form bytes scene
+bad_no_scene Text bytes place why scene b s t = first_bad_no_text bytes place why scene b s t
+bad_no_scene Frames bytes place why scene b s t = first_bad_no_scene bytes place why scene b s t
 
--- where the text of a scene is told, no run ends refused
-pub run_completes : (left left' : Option (List ℕ)) (read read' : ℕ) (held held' : Option (List ℕ)) (write write' : ℕ) (done : Result (Unit {0}) Failure) (status : Status)
-    → status ≡ status_of done → IfErr done (RunFails left left' read read' held held' write write') → Completes left read read' write write' status
-run_completes left left' read read' held held' write write' (Ok u) status s f bytes scene e t r w = inl s
-run_completes left left' read read' held held' write write' (Err Memory) status s f bytes scene e t r w = inr s
-run_completes left left' read read' held held' write write' (Err Usage) status s f bytes scene e t r w = absurd f
-run_completes left left' read read' held held' write write' (Err Read) status s f bytes scene e t r w = absurd (r f.0)
-run_completes left left' read read' held held' write write' (Err Write) status s f bytes scene e t r w = absurd (w f.0)
-run_completes left left' read read' held held' write write' (Err (Refusal said)) status s f bytes scene e t r w =
-    let g = f.0 in
-    let same : bytes ≡ g.bytes = all_told left left' bytes g.bytes e g.consumed g.whole t.short in
-    absurd (not_refused g.bytes said.items scene (subst (λ (xs : List ℕ). IsSceneText xs scene) same t) g.refusal)
+-- bytes have one first bad line or frame, for one reason
+one_bad : (form : Form) (bytes : List ℕ) (m n : ℕ) (v w : Why) → IsFirstBad form bytes m v → IsFirstBad form bytes n w → (m ≡ n) × (v ≡ w)
+one_bad Text bytes m n v w b c = one_bad_line bytes m n v w b c
+one_bad Frames bytes m n v w b c = one_bad_frame bytes m n v w b c
 
--- a count that rose has risen from before
-rose_before : (a b c : ℕ) → a ≤ b → Rose b c → Rose a c
-rose_before a b c l r = omega (arith, l, r)
-
--- a write that failed later failed
-pub later_cause : {T : Type 0} (a b c : ℕ) (r : Result T Failure) → a ≤ b → IfErr r (HasWriteCause b c) → IfErr r (HasWriteCause a c)
-later_cause a b c (Ok x) l e = tt
-later_cause a b c (Err Write) l e = rose_before a b c l e
-later_cause a b c (Err Memory) l e = tt
-later_cause a b c (Err Usage) l e = absurd e
-later_cause a b c (Err Read) l e = absurd e
-later_cause a b c (Err (Refusal said)) l e = absurd e
-
--- a run that ends refused has refused what it read
-pub refused_of : (left left' : Option (List ℕ)) (read read' : ℕ) (held held' : Option (List ℕ)) (write write' : ℕ) (done : Result (Unit {0}) Failure)
-    → IfErr done (RunFails left left' read read' held held' write write') → status_of done ≡ Refused → IsRefused left left' (refusal_of done)
-refused_of left left' read read' held held' write write' (Ok u) f e = absurd (cc e)
-refused_of left left' read read' held held' write write' (Err (Refusal said)) f e = f.0
-refused_of left left' read read' held held' write write' (Err Usage) f e = absurd f
-refused_of left left' read read' held held' write write' (Err Read) f e = absurd (cc e)
-refused_of left left' read read' held held' write write' (Err Write) f e = absurd (cc e)
-refused_of left left' read read' held held' write write' (Err Memory) f e = absurd (cc e)
+-- the spelling of a scene is not refused
+pub not_refused : (form : Form) (bytes said : List ℕ) (scene : Scene) → IsSpelled form bytes scene → IsRefusal form bytes said → ⊥
+not_refused form bytes said scene t (long l e) = let s = t.short in omega (arith, l, s)
+not_refused form bytes said scene t (bad place why l b e) = bad_no_scene form bytes place why scene b t.scene_ t.spelled
 
 -- bytes are refused with one text
-pub one_refusal : (bytes r s : List ℕ) → IsRefusal bytes r → IsRefusal bytes s → r ≡ s
-one_refusal bytes r s (long l e) (long m f) = e ∙ sym f
-one_refusal bytes r s (long l e) (bad line why m b f) = absurd (omega (arith, l, m))
-one_refusal bytes r s (bad line why l b e) (long m f) = absurd (omega (arith, l, m))
-one_refusal bytes r s (bad line why l b e) (bad line' why' m b' f) =
-    let p = first_bad_unique bytes line line' why why' b b' in
-    e ∙ (ap (λ (k : ℕ). line_said k why) p.0 ∙ (ap (line_said line') p.1 ∙ sym f))
+pub one_refusal : (form : Form) (bytes r s : List ℕ) → IsRefusal form bytes r → IsRefusal form bytes s → r ≡ s
+one_refusal form bytes r s (long l e) (long m f) = e ∙ sym f
+one_refusal form bytes r s (long l e) (bad place why m b f) = absurd (omega (arith, l, m))
+one_refusal form bytes r s (bad place why l b e) (long m f) = absurd (omega (arith, l, m))
+one_refusal form bytes r s (bad place why l b e) (bad place' why' m b' f) =
+    let p = one_bad form bytes place place' why why' b b' in
+    e ∙ (ap (λ (k : ℕ). bad_said form k why) p.0 ∙ (ap (bad_said form place') p.1 ∙ sym f))

@@ -1,19 +1,17 @@
 -- The one run of a scene, and what is promised of it.
-use Rattle.std.proofs.Common.{Bool, Err, List, Ok, OnOk, Option, Result, [], ap, append-nil, arith, cond, false, inl, inr, length, subst, sym, true, ℕ, ◌++◌, ◌∙◌, ◌≡◌, ◌≤◌, ◌⊎◌}
-use Rattle.std.specs.Io.KnownBytes.{Appends, Consumes, IsAtEnd}
+use Rattle.std.proofs.Common.{Bool, List, [], ap, append-nil, cond, false, sym, true, ◌++◌, ◌∙◌, ◌≡◌}
 use Rattle.cluster_run.specs.Clusters.{drained_from}
 use Rattle.spsi_laws.proofs.Rest.RunEnds.{ends_at_rest}
 use Rattle.spsi_laws.proofs.Speculation.HeadlineHolds.{headline_holds}
 use Rattle.spsi_laws.specs.Headline.{Headline}
 use Rattle.str_model.proofs.Principle.Everywhere.{run-append}
 use Rattle.str_model.specs.Drains.{cluster_events, cluster_run, drain_events, drained}
-use Rattle.str_model.specs.Lines.{render}
 use Rattle.str_model.specs.Runs.{World, opening, run, run_from}
 use Rattle.str_model.specs.Work.{left}
-use Rattle.str_scene.specs.declared.names.Event.{Event}
+use Rattle.str_scene.specs.SceneLimits.{IsScene}
 use Rattle.str_scene.specs.Scenes.{Scene}
-use Rattle.strun.specs.Refusals.{IsSceneText}
-use Rattle.strun.specs.Tops.{Ran}
+use Rattle.str_scene.specs.declared.names.Event.{Event}
+use Rattle.strun.specs.Outputs.{RunHolds}
 
 -- the run of a scene without a drain
 run_schedule : (scene : Scene) (w : World) → w ≡ run_from scene (opening scene) scene.schedule → scene.drain ≡ false → w ≡ cluster_run scene
@@ -44,38 +42,17 @@ pub ran_drained : (scene s s' : Scene) (w w' v : World) → s ≡ scene → w �
     → v ≡ drained_from s' w' → v ≡ cluster_run scene
 ran_drained scene s s' w w' v q o e q' k d = run_drained scene w' v (from_opening scene s w w' q o e) k (d ∙ ap (λ (z : Scene). drained_from z w') q')
 
--- what is not too long was read to the end
-read_whole : (left' : Option (List ℕ)) (bytes : List ℕ) → length bytes ≤ 1048576 → (length bytes ≡ 1048577) ⊎ IsAtEnd left' → IsAtEnd left'
-read_whole left' bytes s (inl l) = absurd (omega (arith, s, l))
-read_whole left' bytes s (inr e) = e
-
--- a text was read and the rendering of its run was written: all that is promised of that run holds
-ran_of : (left left' held held' : Option (List ℕ)) (bytes : List ℕ) (scene : Scene) → Consumes left left' bytes → IsAtEnd left' → IsSceneText bytes scene
-    → Appends held held' (render scene (cluster_run scene)) → Ran left left' held held'
+-- all that is promised of the run of a scene holds
+pub run_holds : (scene : Scene) → IsScene scene → RunHolds scene
 unfolding cluster_run
-ran_of left left' held held' bytes scene c e t w =
-    let h : Headline scene (cluster_events scene) = headline_holds scene t.scene_ (cluster_events scene) in
+run_holds scene s =
+    let h : Headline scene (cluster_events scene) = headline_holds scene s (cluster_events scene) in
     record {
-      bytes = bytes;
-      consumed = c;
-      ended = e;
-      scene = scene;
-      text = t;
-      written = w;
       isolation = h.isolation;
       speculation = h.speculation;
       gate = h.gate;
       causes = h.causes;
       aborts = h.aborts;
       commits = h.commits;
-      closed = λ d. (ends_at_rest scene t.scene_ d).closed;
+      closed = λ d. (ends_at_rest scene s d).closed;
     }
-
--- the same of what a run comes to
-pub run_ran : {E : Type 0} (left left' held held' : Option (List ℕ)) (bytes text : List ℕ) (scene : Scene) (r : Result (Unit {0}) E) → Consumes left left' bytes
-    → (length bytes ≡ 1048577) ⊎ IsAtEnd left' → text ≡ bytes → IsSceneText text scene → OnOk r (Appends held held' (render scene (cluster_run scene)))
-    → OnOk r (Ran left left' held held')
-run_ran left left' held held' bytes text scene (Err e) c w q t o = tt
-run_ran left left' held held' bytes text scene (Ok u) c w q t o =
-    let is : IsSceneText bytes scene = subst (λ (xs : List ℕ). IsSceneText xs scene) q t in
-    ran_of left left' held held' bytes scene c (read_whole left' bytes is.short w) is o

@@ -1,2 +1,3 @@
-pub mod Refusals
+pub mod Inputs
+pub mod Outputs
 pub mod Tops

@@ -1,6 +1,7 @@
-//! The program `strun`: it runs a scene and writes the released answers.
+//! The program `strun`: it runs a scene and writes the released answers, or writes a scene's text as frames, or the other way.
 #![tactic(auto)]
 
+mod inputs;
 #[cfg(test)]
 mod tests;
 mod tops;

@@ -24,10 +24,20 @@ const EARLY: &[u8] =
 const EARLY_LINES: &[u8] =
     b"1.1 s1/1 commit rs=10 fc=11\n1.2 s2/1 commit rs=11 fc=12 a@1=1\nend commits=2 aborts=0 held=0 unbegun=0 messages=6\n";
 
-/// A call: its word, its input, which read and which write are to fail (0: none), and what comes of it.
+/// One node, one partition, one session that puts 5, one client step, the drain.
+const ONE_PUT: &[u8] =
+    b"str 1\nnodes 1\npart 1 1\nsession 1\ntx\nput a@1 5\nschedule\nc 1 10\ndrain\nend\n";
+
+const ONE_PUT_FRAMES: &[u8] =
+    b"STRF\x01\x01\x00\x01\x01\x02\x00\x01\x01\x03\x00\x01\x01\x04\x00\x0c\x02\x01\x01a\x00\x00\x00\x00\x00\x00\x00\x05\x05\x00\x09\x01\x00\x00\x00\x00\x00\x00\x00\x0a\x07\x00\x00\x08\x00\x00";
+
+const ONE_PUT_LINES: &[u8] =
+    b"1.1 s1/1 commit rs=10 fc=11\nend commits=1 aborts=0 held=0 unbegun=0 messages=0\n";
+
+/// A call: its words, its input, which read and which write are to fail (0: none), and what comes of it.
 #[derive(Clone, Copy)]
 struct Call {
-    word: &'static str,
+    words: &'static [&'static str],
     text: &'static [u8],
     failing_read: u64,
     failing_write: u64,
@@ -47,7 +57,9 @@ fn failing(alloc: Global, call: u64) -> Result<Vec<u64>, AllocError> {
 
 fn check(rt: &(impl Abort + AllocGlobal), call: &Call) -> Result<(), Fail> {
     let mut words = Vec::new(rt.alloc());
-    words.push(String::from_str(rt.alloc(), call.word)?)?;
+    for word in call.words {
+        words.push(String::from_str(rt.alloc(), *word)?)?;
+    }
     let text = call.text.to_vec(rt.alloc())?;
     let mut src = MemSource::new(text, failing(rt.alloc(), call.failing_read)?, 8);
     let mut out = MemSink::new(rt.alloc(), failing(rt.alloc(), call.failing_write)?, 16);
@@ -62,7 +74,7 @@ fn check(rt: &(impl Abort + AllocGlobal), call: &Call) -> Result<(), Fail> {
 #[test]
 fn whole_calls(rt: HostRuntime) -> Result<(), Fail> {
     let plain = Call {
-        word: "run",
+        words: &["run"],
         text: EMPTY,
         failing_read: 0,
         failing_write: 0,
@@ -90,7 +102,7 @@ fn whole_calls(rt: HostRuntime) -> Result<(), Fail> {
     check(
         &rt,
         &Call {
-            word: "walk",
+            words: &["walk"],
             status: Status::Usage,
             out: b"",
             err: b"strun: usage\n",
@@ -135,7 +147,7 @@ fn each_read_fails_in_turn(rt: HostRuntime) -> Result<(), Fail> {
     for failing_read in 1..=8 {
         let fails = failing_read < 8;
         let call = Call {
-            word: "run",
+            words: &["run"],
             text: EMPTY,
             failing_read,
             failing_write: 0,
@@ -155,7 +167,7 @@ fn each_write_fails_in_turn(rt: HostRuntime) -> Result<(), Fail> {
         let fails = failing_write < 5;
         assert!(rt; held <= EMPTY_END.len());
         let call = Call {
-            word: "run",
+            words: &["run"],
             text: EMPTY,
             failing_read: 0,
             failing_write,
@@ -191,7 +203,7 @@ fn refused_texts(rt: HostRuntime) -> Result<(), Fail> {
     ];
     for (text, err) in cases {
         let call = Call {
-            word: "run",
+            words: &["run"],
             text,
             failing_read: 0,
             failing_write: 0,
@@ -202,4 +214,90 @@ fn refused_texts(rt: HostRuntime) -> Result<(), Fail> {
         check(&rt, &call)?;
     }
     Ok(())
+}
+
+#[test]
+fn frames(rt: HostRuntime) -> Result<(), Fail> {
+    let packs = Call {
+        words: &["pack"],
+        text: ONE_PUT,
+        failing_read: 0,
+        failing_write: 0,
+        status: Status::Ok,
+        out: ONE_PUT_FRAMES,
+        err: b"",
+    };
+    check(&rt, &packs)?;
+    check(
+        &rt,
+        &Call {
+            words: &["show"],
+            text: ONE_PUT_FRAMES,
+            out: ONE_PUT,
+            ..packs
+        },
+    )?;
+    check(
+        &rt,
+        &Call {
+            words: &["run", "--frames"],
+            text: ONE_PUT_FRAMES,
+            out: ONE_PUT_LINES,
+            ..packs
+        },
+    )?;
+    check(
+        &rt,
+        &Call {
+            words: &["show"],
+            text: &ONE_PUT_FRAMES[..49],
+            status: Status::Refused,
+            out: b"",
+            err: b"strun: byte 47: cut\n",
+            ..packs
+        },
+    )?;
+    check(
+        &rt,
+        &Call {
+            words: &["pack"],
+            text: ONE_PUT_FRAMES,
+            status: Status::Refused,
+            out: b"",
+            err: b"strun: line 1: form\n",
+            ..packs
+        },
+    )?;
+    check(
+        &rt,
+        &Call {
+            words: &["show"],
+            text: ONE_PUT_FRAMES,
+            failing_read: 2,
+            status: Status::ReadFault,
+            out: b"",
+            err: b"strun: read fault\n",
+            ..packs
+        },
+    )?;
+    check(
+        &rt,
+        &Call {
+            failing_write: 2,
+            status: Status::WriteFault,
+            out: &ONE_PUT_FRAMES[..16],
+            err: b"strun: write fault\n",
+            ..packs
+        },
+    )?;
+    check(
+        &rt,
+        &Call {
+            words: &["pack", "--frames"],
+            status: Status::Usage,
+            out: b"",
+            err: b"strun: usage\n",
+            ..packs
+        },
+    )
 }

@@ -1,31 +1,38 @@
 //! The top call of the program.
-ghost use Rattle.std.specs.Prelude.{◌≡◌, ◌↔◌, ◌≤◌, length, map, IsTrue, OnErr, OnOk, IfErr, IfOk};
+ghost use Rattle.std.specs.Prelude.{◌≡◌, ◌⊎◌, map, OnErr, OnOk, IfErr, IfOk};
 ghost use Rattle.std.specs.String.{string_bytes};
 ghost use Rattle.std.specs.Io.KnownBytes.{Appends};
 ghost use Rattle.str_model.specs.Drains.{cluster_run};
 ghost use Rattle.str_model.specs.Lines.{render};
 ghost use Rattle.str_outer.specs.Causes.{Rose};
 ghost use Rattle.str_outer.specs.Pieces.{AppendsPrefix};
-ghost use Rattle.strun.specs.Refusals.{IsSceneText, line_said};
-ghost use Rattle.strun.specs.Tops.{Completes, IsPartial, IsRunWords, IsTold, Ran, Refuses, RefusesText, RunFails, own_name};
-ghost use Rattle.top_status.specs.Failures.{HasWriteCause, RefusesWith, refusal_of, status_of};
+ghost use Rattle.strun.specs.Inputs.{form_of};
+ghost use Rattle.strun.specs.Outputs.{output};
+ghost use Rattle.strun.specs.Tops.{Asked, CallFails, Completes, Done, IsPartial, IsTold, Refuses, TaskFails, own_name};
+ghost use Rattle.strun_words.specs.Tasks.{AskNothing, words_of};
+ghost use Rattle.top_status.specs.Failures.{HasWriteCause, refusal_of, status_of};
 ghost use Rattle.top_status.specs.Statuses.{IsQuiet, IsStopped, line_of};
 ghost use Rattle.top_status.specs.Telling.{Tells};
 
+use crate::inputs::{accept, form_of};
 use crate::writing::write_cluster;
 use cluster_run::Cluster;
-use scene_text::{TextFault, read_scene};
+use request_frame::write_frames;
+use scene_text::write_scene;
 use std::alloc::{AllocError, Global};
 use str_outer::{Sink, Source};
-use str_scene::{Scene, Why};
-use top_status::{Failure, Status, answer, read_input, refuse, refuse_at};
+use str_scene::Scene;
+use strun_words::{Task, read_task};
+use top_status::{Failure, Status, answer, read_input, write_piece};
 
-/// Does what the words ask for: `run` reads a scene, runs it, and writes the answers and the end line.
+/// Does what the words ask for: `run` reads the text of a scene, and `run --frames` its frames, runs it, and writes the
+/// answers and the end line; `pack` writes the frames of a text's scene, and `show` the text of the frames' scene.
 ///
 /// It reads `src` to its end or to 1,048,577 bytes. Where the status isn't `Ok`, one line is written on `err`; a
-/// refusal of `err` changes no status. Refused are more than 1,048,576 bytes and a text with a bad line; the line says which.
+/// refusal of `err` changes no status. Refused are more than 1,048,576 bytes, a text with a bad line and frames with a
+/// bad frame; the line says which.
 ///
-/// What the answers are promised to be is the clause `ran`: `Ran` of `specs/Tops.antt`.
+/// What is written, and what is promised of it, is the clause `done`: `Done` of `specs/Tops.antt`.
 pub fn top<S: Source, K: Sink, E: Sink>(
     alloc: Global,
     words: &[String],
@@ -33,70 +40,79 @@ pub fn top<S: Source, K: Sink, E: Sink>(
     out: &mut K,
     err: &mut E,
 ) -> Status
-    ensures ran { result ≡ Status.Ok → Ran (S.left src.old) (S.left src.new) (K.held out.old) (K.held out.new) }
-    ensures usage { (result ≡ Status.Usage) ↔ (¬ IsRunWords (map string_bytes words.now)) }
+    ensures done { result ≡ Status.Ok → Asked (map string_bytes words.now) (λ task.
+        Done task (S.left src.old) (S.left src.new) (K.held out.old) (K.held out.new)) }
+    ensures usage { result ≡ Status.Usage → AskNothing (map string_bytes words.now) }
+    ensures unknown { AskNothing (map string_bytes words.now) → (result ≡ Status.Usage) ⊎ (result ≡ Status.NoMemory) }
     ensures read_fault { result ≡ Status.ReadFault → Rose (S.faults src.old) (S.faults src.new) }
     ensures write_fault { result ≡ Status.WriteFault → Rose (K.faults out.old) (K.faults out.new) }
     ensures quiet { IsQuiet result → K.held out.new ≡ K.held out.old }
-    ensures partial { IsStopped result → IsPartial (S.left src.old) (S.left src.new) (K.held out.old) (K.held out.new) }
-    ensures complete { IsRunWords (map string_bytes words.now) → Completes (S.left src.old) (S.faults src.old) (S.faults src.new) (K.faults out.old) (K.faults out.new) result }
-    ensures refuses { IsRunWords (map string_bytes words.now) → Refuses (S.left src.old) (S.faults src.old) (S.faults src.new) result }
-    ensures told { IsTold (S.left src.old) (S.left src.new) result (E.held err.old) (E.held err.new)
+    ensures partial { IsStopped result
+        → IsPartial (map string_bytes words.now) (S.left src.old) (S.left src.new) (K.held out.old) (K.held out.new) }
+    ensures complete { (task : _) → map string_bytes words.now ≡ words_of task
+        → Completes (form_of task) (S.left src.old) (S.faults src.old) (S.faults src.new) (K.faults out.old) (K.faults out.new) result }
+    ensures refuses { (task : _) → map string_bytes words.now ≡ words_of task
+        → Refuses (form_of task) (S.left src.old) (S.faults src.old) (S.faults src.new) result }
+    ensures told { IsTold (map string_bytes words.now) (S.left src.old) (S.left src.new) result (E.held err.old) (E.held err.new)
         (E.faults err.old) (E.faults err.new) (E.wants err.old) (E.wants err.new) }
 {
-    if !is_run(words) {
-        return report(err, Err(Failure::Usage));
-    }
-    let done = run(alloc, src, out);
+    let done = do_words(alloc, words, src, out);
     report(err, done)
 }
 
-/// Whether the words are exactly `run`.
-fn is_run(words: &[String]) -> bool
-    ensures { IsTrue result ↔ IsRunWords (map string_bytes words.now) }
-{
-    match words {
-        [word] => word.as_str() == "run",
-        _ => false,
-    }
-}
-
-/// Reads a scene, runs it, and writes what its run renders.
-fn run<S: Source, K: Sink>(alloc: Global, src: &mut S, out: &mut K) -> Result<(), Failure>
-    ensures ran { OnOk result (Ran (S.left src.old) (S.left src.new) (K.held out.old) (K.held out.new)) }
-    ensures failed { IfErr result (RunFails (S.left src.old) (S.left src.new) (S.faults src.old) (S.faults src.new)
+/// Does the task that the words ask for.
+fn do_words<S: Source, K: Sink>(
+    alloc: Global,
+    words: &[String],
+    src: &mut S,
+    out: &mut K,
+) -> Result<(), Failure>
+    ensures done { OnOk result (Asked (map string_bytes words.now) (λ task.
+        Done task (S.left src.old) (S.left src.new) (K.held out.old) (K.held out.new))) }
+    ensures failed { IfErr result (CallFails (map string_bytes words.now) (S.left src.old) (S.left src.new) (S.faults src.old) (S.faults src.new)
         (K.held out.old) (K.held out.new) (K.faults out.old) (K.faults out.new)) }
 {
-    let text = read_input(alloc, src)?;
-    let scene = accept(alloc, text.as_slice())?;
-    write_run(alloc, scene, out)
+    let task = read_task(alloc, words)?;
+    do_task(alloc, task, src, out)
 }
 
-/// The scene of a text. Every other input is refused.
-fn accept(alloc: Global, text: &[u8]) -> Result<Scene, Failure>
-    requires { length text.now ≤ 1048577 }
-    ensures accepted { IfOk result (λ scene. IsSceneText text.now scene) }
-    ensures refused { IfErr result (RefusesText text.now) }
+/// Reads the scene of a task, and writes what the task writes of it.
+fn do_task<S: Source, K: Sink>(
+    alloc: Global,
+    task: Task,
+    src: &mut S,
+    out: &mut K,
+) -> Result<(), Failure>
+    ensures done { OnOk result (Done task (S.left src.old) (S.left src.new) (K.held out.old) (K.held out.new)) }
+    ensures failed { IfErr result (TaskFails task (S.left src.old) (S.left src.new) (S.faults src.old) (S.faults src.new)
+        (K.held out.old) (K.held out.new) (K.faults out.old) (K.faults out.new)) }
 {
-    if text.len() > 1_048_576 {
-        return Err(refuse(alloc, b"more than 1048576 bytes"));
-    }
-    match read_scene(alloc, text) {
-        Ok(scene) => Ok(scene),
-        Err(TextFault::Bad { line, why }) => Err(refuse_line(alloc, line, why)),
-        Err(TextFault::Memory) => Err(Failure::Memory),
-    }
+    let bytes = read_input(alloc, src)?;
+    let scene = accept(alloc, form_of(task), bytes.as_slice())?;
+    write_task(alloc, task, scene, out)
 }
 
-/// The refusal of a bad line, or want of memory.
-fn refuse_line(alloc: Global, line: u64, why: Why) -> Failure
-    ensures { RefusesWith (line_said line why) result }
+/// Writes what a task writes of its scene.
+fn write_task<K: Sink>(
+    alloc: Global,
+    task: Task,
+    scene: Scene,
+    out: &mut K,
+) -> Result<(), Failure>
+    ensures written { OnOk result (Appends (K.held out.old) (K.held out.new) (output task scene)) }
+    ensures partial { OnErr result (AppendsPrefix (K.held out.old) (K.held out.new) (output task scene)) }
+    ensures failed { IfErr result (HasWriteCause (K.faults out.old) (K.faults out.new)) }
 {
-    match why {
-        Why::Cut => refuse_at(alloc, b"line ", line, b": cut"),
-        Why::Form => refuse_at(alloc, b"line ", line, b": form"),
-        Why::Range => refuse_at(alloc, b"line ", line, b": range"),
-        Why::Count => refuse_at(alloc, b"line ", line, b": count"),
+    match task {
+        Task::Run { frames: _ } => write_run(alloc, scene, out),
+        Task::Pack => {
+            let frames = write_frames(alloc, &scene)?;
+            write_piece(out, frames.as_slice())
+        }
+        Task::Show => {
+            let text = write_scene(alloc, &scene)?;
+            write_piece(out, text.as_slice())
+        }
     }
 }
 

@@ -104,7 +104,7 @@ not_formed read l s f g e o k =
 less_past : (n a b : ℕ) → n < b → nat_lt n (a + b) ≡ true
 less_past n a b l = grind (arith, nat_tests)
 
-room_past : (a : Limits) (s : State) (l : Line) → has_room (wider a (past s)) s l ≡ true
+pub room_past : (a : Limits) (s : State) (l : Line) → has_room (wider a (past s)) s l ≡ true
 room_past a s (LPart p row) = less_past _ _ _ (omega arith)
 room_past a s (LSession n) =
     and_from _ _ (less_past (length s.draft.sessions) a.sessions (length s.draft.sessions + 1) (omega arith))
@@ -137,7 +137,7 @@ ranged read l s next f g e o range =
     })
 
 -- the first of lines that are taken are taken
-first_taken : (limits : Limits) (ls ms : List Line) (t : State) → take_lines limits at_start (ls ++ ms) ≡ Now t → (m : State) × (take_lines limits at_start ls ≡ Now m)
+pub first_taken : (limits : Limits) (ls ms : List Line) (t : State) → take_lines limits at_start (ls ++ ms) ≡ Now t → (m : State) × (take_lines limits at_start ls ≡ Now m)
 first_taken limits ls ms t p =
     let r = goes_on_from (λ x. take_lines limits x ms) (take_lines limits at_start ls) t (sym (taken-append limits ls ms at_start) ∙ p) in
     (r.0, r.1)

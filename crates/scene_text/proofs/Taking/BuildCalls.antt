@@ -1,5 +1,5 @@
 -- What the calls by which a scene is built say of the lines that are taken.
-use Rattle.std.proofs.Common.{Bool, Err, IfErr, List, None, Ok, Result, Option, Some, [], ap, arith, false, inl, inr, length, nat_le, nat_lt, not, refl, subst, sym, true, ℕ, ◌&&◌, ◌+◌, ◌<◌, ◌==◌, ◌||◌, ◌^◌, ◌∙◌, ◌∷◌, ◌≡◌, ◌≤◌}
+use Rattle.std.proofs.Common.{Bool, Err, IfErr, List, None, Ok, OnOk, Result, Option, Some, [], ap, arith, false, inl, inr, length, map, nat_le, nat_lt, not, refl, subst, sym, true, ℕ, ◌&&◌, ◌++◌, ◌+◌, ◌<◌, ◌==◌, ◌||◌, ◌^◌, ◌∙◌, ◌∷◌, ◌≡◌, ◌≤◌}
 use Rattle.str_base.proofs.Tests.{not_zero}
 use Rattle.str_scene.proofs.Checked.{no_fault}
 use Rattle.str_base.specs.declared.limits.TheConstants.{NODES, NODE_SESSIONS, PARTITIONS, REPLICAS, SCHEDULE_ENTRIES, SESSIONS, TRANSACTIONS}
@@ -7,12 +7,14 @@ use Rattle.std.proofs.lemmas.Bool.{and_from, lt-ltb}
 use Rattle.std.proofs.lemmas.Bool.Decides.{Decides-eqb, nat_tests}
 use Rattle.std.proofs.lemmas.Option.{none-some, same_Some}
 use Rattle.std.specs.List.{list_all, list_any}
+use Rattle.std.specs.Prelude.{flat_map}
 use Rattle.scene_text.proofs.Spelling.NumbersFit.{reached_stands, unfit}
 use Rattle.scene_text.proofs.Taking.StatesKept.{At, Bodied, InBody, Kept, Stands, tx_count}
 use Rattle.scene_text.proofs.Taking.TransactionEnds.{Settled, settled_section}
 use Rattle.scene_text.proofs.Taking.LinesTaken.{taken}
+use Rattle.scene_text.proofs.Taking.SessionLines.{taken_on}
 use Rattle.scene_text.specs.LineReading.{IsReadAs, word_of}
-use Rattle.scene_text.specs.LineTexts.{Fits}
+use Rattle.scene_text.specs.LineTexts.{Fits, IsForm, line_text}
 use Rattle.scene_text.specs.declared.lines.ReadLine.{ReadLine}
 use Rattle.std.specs.Option.{SomeIff}
 use Rattle.scene_text.proofs.FirstBad.ReaderKnows.{out_of_place}
@@ -21,7 +23,7 @@ use Rattle.str_scene.specs.declared.faults.Why.TheVariants.{Count as Many, Form 
 use Rattle.scene_text.specs.LineOrder.{Place, entry_follows, follows, nodes_follow, op_follows, part_follows, section_follows, version_follows}
 use Rattle.scene_text.specs.LineOrder.Place.{AfterDrain, AfterNodes, AfterOp, AfterPart, AfterSession, AfterTx, AfterVersion, AtStart, InSchedule}
 use Rattle.scene_text.specs.Reading.{IsBadText, IsReached, IsRefusedFor, RefusesText}
-use Rattle.scene_text.specs.Taking.{State, after, has_room, in_range, judged, placed, scene_limits, settled, take_line}
+use Rattle.scene_text.specs.Taking.{State, after, at_start, goes_on, has_room, in_range, judged, placed, scene_limits, settled, take_line, take_lines}
 use Rattle.scene_text.specs.Taking.Taken.{Now, Refused}
 use Rattle.scene_text.specs.declared.lines.Line.{Line}
 use Rattle.scene_text.specs.declared.lines.Line.TheVariants.{Client as LClient, Deliver as LDeliver, Drain as LDrain, Nodes as LNodes, Part as LPart, Session as LSession, Version as LVersion}
@@ -29,7 +31,9 @@ use Rattle.str_base.specs.declared.names.NodeId.{NodeId}
 use Rattle.str_base.specs.declared.names.PartId.{PartId}
 use Rattle.str_base.specs.declared.names.SessionId.{SessionId}
 use Rattle.str_scene.specs.declared.names.Event.TheVariants.{Client, Deliver}
+use Rattle.str_scene.proofs.Each.{each_append, each_at, each_from}
 use Rattle.str_scene.specs.Lists.{Each}
+use Rattle.str_scene.specs.Spelling.{ended}
 use Rattle.str_scene.specs.Drafts.{is_none_yet, may_have_entry, may_have_nodes, may_have_part, may_have_session, may_have_tx, with_row, with_session}
 use Rattle.str_scene.specs.Refusals.{IsRefused, drain_fault, entry_fault, first_fault, is_row as row_is, is_up_to, is_known, nodes_fault, part_fault, session_fault, sessions_at, is_puts, is_script, tx_fault}
 use Rattle.str_scene.specs.SceneLimits.{IsOp}
@@ -314,3 +318,25 @@ text_unfit text s read next r k is order =
       text_is = k.text_is;
       refused = unfit r.text r.count s k.line next r.reached (subst (λ o. SomeIff o (Fits k.line) k.line) is k.line_is) (order k.line (sym k.word_is));
     }
+
+-- the lines with one more that is taken
+pub reached_next : (s t : State) (l : Line) → IsReached s → IsForm l → take_line scene_limits s l ≡ Now t → IsReached t
+reached_next s t l r form e =
+    let lines : List Line = r.reached.lines ++ l ∷ [] in
+    let forms : Each IsForm lines = each_append IsForm r.reached.lines (l ∷ []) (each_from IsForm r.reached.lines r.reached.forms) (form, tt) in
+    record {
+      text = flat_map ended (map line_text lines);
+      count = length lines;
+      reached = record {
+        lines = lines;
+        forms = λ i x p. each_at IsForm lines i x forms p;
+        number = refl;
+        spelled = refl;
+        lead = taken_on scene_limits r.reached.lines (l ∷ []) at_start s r.reached.lead ∙ ap (goes_on (λ x. take_lines scene_limits x [])) e;
+      };
+    }
+
+-- the same of what a call gives
+pub reached_if : (s t : State) (l : Line) (r : Result (Unit {0}) SceneFault) → IsReached s → IsForm l → OnOk r (take_line scene_limits s l ≡ Now t) → OnOk r (IsReached t)
+reached_if s t l (Ok x) reached form e = reached_next s t l reached form e
+reached_if s t l (Err f) reached form e = tt

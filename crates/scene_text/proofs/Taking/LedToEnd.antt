@@ -79,7 +79,7 @@ finish_section limits s e =
     finish_more limits s t LSchedule tt (taken limits s LSchedule InSchedule e refl refl) (finish_schedule limits t.draft t.ops)
 
 -- a row of the first node
-first_row : (nodes : ℕ) → 1 ≤ nodes → is_row nodes (record { 0 = 1 } ∷ []) ≡ true
+pub first_row : (nodes : ℕ) → 1 ≤ nodes → is_row nodes (record { 0 = 1 } ∷ []) ≡ true
 first_row nodes some = and_from _ _ refl (and_from _ _ (and_from _ _ (up_to_holds nodes 1 (omega arith, some)) refl) refl)
 
 -- after the nodes

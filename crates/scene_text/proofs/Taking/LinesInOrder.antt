@@ -13,7 +13,7 @@ use Rattle.str_scene.specs.Scenes.{Scene}
 use Rattle.str_scene.specs.declared.names.Op.{Op}
 
 -- a line stands before this place
-abbrev began : Place → Bool
+abbrev pub began : Place → Bool
 began AtStart = false
 began _ = true
 
@@ -55,7 +55,7 @@ nodes_began : (place next : Place) → nodes_follow place ≡ Some next → bega
 nodes_began AfterVersion next e = ap began (sym (same_Some _ _ e))
 nodes_began _ next e = absurd (none-some _ e)
 
-no_version : (place next : Place) → version_follows place ≡ Some next → began place ≡ true → ⊥
+pub no_version : (place next : Place) → version_follows place ≡ Some next → began place ≡ true → ⊥
 no_version AtStart next e b = absurd (cc)
 no_version _ next e b = absurd (none-some _ e)
 
@@ -65,7 +65,7 @@ settle_version [] d = refl
 settle_version (o ∷ ops) d = refl
 
 -- after the first line the version stays
-goes : (place : Place) (d : Scene) (ops : List Op) (l : Line) (next : Place) → follows d.version place l ≡ Some next → began place ≡ true →
+pub goes : (place : Place) (d : Scene) (ops : List Op) (l : Line) (next : Place) → follows d.version place l ≡ Some next → began place ≡ true →
     ((after next (mk place d ops) l).draft.version ≡ d.version) × (began next ≡ true)
 goes place d ops (LVersion v) next e b = absurd (no_version place next e b)
 goes place d ops (LNodes n) next e b = (refl, nodes_began place next e)
@@ -91,7 +91,7 @@ pub record LeadsTo (version : ℕ) (place : Place) (ls : List Line) (t : State) 
   pub place_is : lead version (Some place) ls ≡ Some t.place
 
 -- the state after a line has the next place
-after_place : (next : Place) (s : State) (l : Line) → (after next s l).place ≡ next
+pub after_place : (next : Place) (s : State) (l : Line) → (after next s l).place ≡ next
 after_place next s (LVersion v) = refl
 after_place next s (LNodes n) = refl
 after_place next s (LPart p row) = refl
@@ -111,7 +111,7 @@ after_place next s LDrain = refl
 after_place next s LEnd = refl
 
 -- after the first line
-lead_on : (limits : Limits) (ls : List Line) (s t : State) (version : ℕ) → s.draft.version ≡ version → began s.place ≡ true → take_lines limits s ls ≡ Now t →
+pub lead_on : (limits : Limits) (ls : List Line) (s t : State) (version : ℕ) → s.draft.version ≡ version → began s.place ≡ true → take_lines limits s ls ≡ Now t →
     LeadsTo version s.place ls t
 lead_on limits [] s t version v b e =
     let same : s ≡ t = cc in
@@ -145,7 +145,7 @@ taken_leads limits l ls t e =
     subst (λ x. LeadsTo (version_of (x ∷ ls)) AtStart (x ∷ ls) t) (sym f.1) (record { version_is = rest.version_is; place_is = place_is })
 
 -- from a place by lines and then one more
-lead-append : (version : ℕ) (ls : List Line) (l : Line) (o : Option Place) → lead version o (ls ++ l ∷ []) ≡ lead version (lead version o ls) (l ∷ [])
+pub lead-append : (version : ℕ) (ls : List Line) (l : Line) (o : Option Place) → lead version o (ls ++ l ∷ []) ≡ lead version (lead version o ls) (l ∷ [])
 lead-append version [] l None = refl
 lead-append version [] l (Some p) = refl
 lead-append version (k ∷ ls) l None = refl

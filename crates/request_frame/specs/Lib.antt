@@ -1,0 +1,9 @@
+pub mod Frames
+pub mod FrameBytes
+pub mod FrameOrder
+pub mod FrameTaking
+pub mod Spelling
+pub mod FirstBad
+pub mod Reading
+pub mod Writing
+pub mod Laws

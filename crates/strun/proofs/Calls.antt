@@ -1,0 +1,187 @@
+-- What a call does for its words.
+use Rattle.std.proofs.Common.{Err, IfErr, List, Ok, OnOk, Option, Result, Some, inl, inr, refl, subst, sym, ℕ, ◌∙◌, ◌≡◌, ◌⊎◌}
+use Rattle.std.specs.Io.KnownBytes.{Consumes, IsAtEnd}
+use Rattle.str_outer.specs.Causes.{Rose}
+use Rattle.str_scene.specs.Scenes.{Scene}
+use Rattle.strun.proofs.Refusing.{not_refused}
+use Rattle.strun.specs.Inputs.{IsRefusal, IsSpelled, form_of}
+use Rattle.strun.specs.Tops.{Asked, CallFails, Completes, Done, IsPartial, IsRefused, Refuses, TaskFails}
+use Rattle.strun_words.proofs.Apart.{one_task}
+use Rattle.strun_words.specs.Tasks.{AskNothing, IsUnasked, words_of}
+use Rattle.strun_words.specs.declared.task.Task.{Task}
+use Rattle.top_status.proofs.Whole.{all_read, all_told}
+use Rattle.top_status.specs.Failures.{refusal_of, status_of}
+use Rattle.top_status.specs.Statuses.{IsQuiet, IsStopped}
+use Rattle.top_status.specs.declared.failure.Failure.{Failure}
+use Rattle.top_status.specs.declared.failure.Failure.TheVariants.{Memory, Read, Refused as Refusal, Usage, Write}
+use Rattle.top_status.specs.declared.status.Status.{Status}
+use Rattle.top_status.specs.declared.status.Status.TheVariants.{NoMemory, Ok as StatusOk, ReadFault, Refused, Usage as StatusUsage, WriteFault}
+
+-- the words ask for nothing, or memory was wanting
+pub nothing_asked : (words : List (List ℕ)) (left : Option (List ℕ)) (read : ℕ) (held : Option (List ℕ)) (write : ℕ) (f : Failure) → IsUnasked words f
+    → CallFails words left left read read held held write write f
+nothing_asked words left read held write Usage u = (u, refl)
+nothing_asked words left read held write Memory u = inl refl
+nothing_asked words left read held write Read u = absurd u
+nothing_asked words left read held write Write u = absurd u
+nothing_asked words left read held write (Refusal said) u = absurd u
+
+-- the task that the words ask for failed
+failed_task : (words : List (List ℕ)) (task : Task) (left left' : Option (List ℕ)) (read read' : ℕ) (held held' : Option (List ℕ)) (write write' : ℕ) (f : Failure) → words ≡ words_of task
+    → TaskFails task left left' read read' held held' write write' f → CallFails words left left' read read' held held' write write' f
+failed_task words task left left' read read' held held' write write' Usage q h = absurd h
+failed_task words task left left' read read' held held' write write' (Refusal said) q h = ((task, q, h.0), h.1)
+failed_task words task left left' read read' held held' write write' Read q h = ((task, q, h.0), h.1)
+failed_task words task left left' read read' held held' write write' Write q h = (h.0, (task, q, h.1))
+failed_task words task left left' read read' held held' write write' Memory q (inl e) = inl e
+failed_task words task left left' read read' held held' write write' Memory q (inr p) = inr (task, q, p)
+
+-- the same of what a task comes to
+pub task_failed : (words : List (List ℕ)) (task : Task) (left left' : Option (List ℕ)) (read read' : ℕ) (held held' : Option (List ℕ)) (write write' : ℕ) (r : Result (Unit {0}) Failure)
+    → words ≡ words_of task → IfErr r (TaskFails task left left' read read' held held' write write') → IfErr r (CallFails words left left' read read' held held' write write')
+task_failed words task left left' read read' held held' write write' (Ok u) q h = tt
+task_failed words task left left' read read' held held' write write' (Err f) q h = failed_task words task left left' read read' held held' write write' f q h
+
+-- the task that the words ask for was done
+pub asked_done : {E : Type 0} (words : List (List ℕ)) (task : Task) (left left' held held' : Option (List ℕ)) (r : Result (Unit {0}) E) → words ≡ words_of task
+    → OnOk r (Done task left left' held held') → OnOk r (Asked words (λ task. Done task left left' held held'))
+asked_done words task left left' held held' (Err e) q d = tt
+asked_done words task left left' held held' (Ok u) q d = (task, q, d)
+
+-- the status Ok comes where all was done
+pub ok_of : {A : Type 0} (done : Result (Unit {0}) Failure) → OnOk done A → status_of done ≡ StatusOk → A
+ok_of (Ok u) d e = d
+ok_of (Err Usage) d e = absurd (cc e)
+ok_of (Err (Refusal said)) d e = absurd (cc e)
+ok_of (Err Read) d e = absurd (cc e)
+ok_of (Err Write) d e = absurd (cc e)
+ok_of (Err Memory) d e = absurd (cc e)
+
+-- Usage comes where the words ask for nothing
+pub usage_of : (words : List (List ℕ)) (left left' : Option (List ℕ)) (read read' : ℕ) (held held' : Option (List ℕ)) (write write' : ℕ) (done : Result (Unit {0}) Failure)
+    → IfErr done (CallFails words left left' read read' held held' write write') → status_of done ≡ StatusUsage → AskNothing words
+usage_of words left left' read read' held held' write write' (Ok u) f e = absurd (cc e)
+usage_of words left left' read read' held held' write write' (Err Usage) f e = f.0
+usage_of words left left' read read' held held' write write' (Err (Refusal said)) f e = absurd (cc e)
+usage_of words left left' read read' held held' write write' (Err Read) f e = absurd (cc e)
+usage_of words left left' read read' held held' write write' (Err Write) f e = absurd (cc e)
+usage_of words left left' read read' held held' write write' (Err Memory) f e = absurd (cc e)
+
+-- where the words ask for nothing, Usage comes, or memory was wanting
+pub unknown_of : (words : List (List ℕ)) (left left' : Option (List ℕ)) (read read' : ℕ) (held held' : Option (List ℕ)) (write write' : ℕ) (done : Result (Unit {0}) Failure)
+    → OnOk done (Asked words (λ task. Done task left left' held held')) → IfErr done (CallFails words left left' read read' held held' write write')
+    → AskNothing words → (status_of done ≡ StatusUsage) ⊎ (status_of done ≡ NoMemory)
+unknown_of words left left' read read' held held' write write' (Ok u) d f n = absurd (n d.0 d.1)
+unknown_of words left left' read read' held held' write write' (Err Usage) d f n = inl refl
+unknown_of words left left' read read' held held' write write' (Err (Refusal said)) d f n = absurd (n f.0.0 f.0.1)
+unknown_of words left left' read read' held held' write write' (Err Read) d f n = absurd (n f.0.0 f.0.1)
+unknown_of words left left' read read' held held' write write' (Err Write) d f n = absurd (n f.1.0 f.1.1)
+unknown_of words left left' read read' held held' write write' (Err Memory) d f n = inr refl
+
+-- a read fault comes where the count of the source rose
+pub read_of : (words : List (List ℕ)) (left left' : Option (List ℕ)) (read read' : ℕ) (held held' : Option (List ℕ)) (write write' : ℕ) (done : Result (Unit {0}) Failure)
+    → IfErr done (CallFails words left left' read read' held held' write write') → status_of done ≡ ReadFault → Rose read read'
+read_of words left left' read read' held held' write write' (Ok u) f e = absurd (cc e)
+read_of words left left' read read' held held' write write' (Err Usage) f e = absurd (cc e)
+read_of words left left' read read' held held' write write' (Err (Refusal said)) f e = absurd (cc e)
+read_of words left left' read read' held held' write write' (Err Read) f e = f.0.2
+read_of words left left' read read' held held' write write' (Err Write) f e = absurd (cc e)
+read_of words left left' read read' held held' write write' (Err Memory) f e = absurd (cc e)
+
+-- a write fault comes where the count of the sink rose
+pub write_of : (words : List (List ℕ)) (left left' : Option (List ℕ)) (read read' : ℕ) (held held' : Option (List ℕ)) (write write' : ℕ) (done : Result (Unit {0}) Failure)
+    → IfErr done (CallFails words left left' read read' held held' write write') → status_of done ≡ WriteFault → Rose write write'
+write_of words left left' read read' held held' write write' (Ok u) f e = absurd (cc e)
+write_of words left left' read read' held held' write write' (Err Usage) f e = absurd (cc e)
+write_of words left left' read read' held held' write write' (Err (Refusal said)) f e = absurd (cc e)
+write_of words left left' read read' held held' write write' (Err Read) f e = absurd (cc e)
+write_of words left left' read read' held held' write write' (Err Write) f e = f.0
+write_of words left left' read read' held held' write write' (Err Memory) f e = absurd (cc e)
+
+-- with a quiet status nothing was written
+pub quiet_of : (words : List (List ℕ)) (left left' : Option (List ℕ)) (read read' : ℕ) (held held' : Option (List ℕ)) (write write' : ℕ) (done : Result (Unit {0}) Failure)
+    → IfErr done (CallFails words left left' read read' held held' write write') → IsQuiet (status_of done) → held' ≡ held
+quiet_of words left left' read read' held held' write write' (Ok u) f q = absurd q
+quiet_of words left left' read read' held held' write write' (Err Usage) f q = f.1
+quiet_of words left left' read read' held held' write write' (Err (Refusal said)) f q = f.1
+quiet_of words left left' read read' held held' write write' (Err Read) f q = f.1
+quiet_of words left left' read read' held held' write write' (Err Write) f q = absurd q
+quiet_of words left left' read read' held held' write write' (Err Memory) f q = absurd q
+
+-- after a write fault or want of memory a part may have been written
+pub partial_of : (words : List (List ℕ)) (left left' : Option (List ℕ)) (read read' : ℕ) (held held' : Option (List ℕ)) (write write' : ℕ) (done : Result (Unit {0}) Failure)
+    → IfErr done (CallFails words left left' read read' held held' write write') → IsStopped (status_of done) → IsPartial words left left' held held'
+partial_of words left left' read read' held held' write write' (Ok u) f p = absurd p
+partial_of words left left' read read' held held' write write' (Err Usage) f p = absurd p
+partial_of words left left' read read' held held' write write' (Err (Refusal said)) f p = absurd p
+partial_of words left left' read read' held held' write write' (Err Read) f p = absurd p
+partial_of words left left' read read' held held' write write' (Err Write) f p = inr f.1
+partial_of words left left' read read' held held' write write' (Err Memory) f p = f
+
+-- a call that ends refused has refused what it read
+pub refused_of : (words : List (List ℕ)) (left left' : Option (List ℕ)) (read read' : ℕ) (held held' : Option (List ℕ)) (write write' : ℕ) (done : Result (Unit {0}) Failure)
+    → IfErr done (CallFails words left left' read read' held held' write write') → status_of done ≡ Refused
+    → Asked words (λ task. IsRefused (form_of task) left left' (refusal_of done))
+refused_of words left left' read read' held held' write write' (Ok u) f e = absurd (cc e)
+refused_of words left left' read read' held held' write write' (Err Usage) f e = absurd (cc e)
+refused_of words left left' read read' held held' write write' (Err (Refusal said)) f e = f.0
+refused_of words left left' read read' held held' write write' (Err Read) f e = absurd (cc e)
+refused_of words left left' read read' held held' write write' (Err Write) f e = absurd (cc e)
+refused_of words left left' read read' held held' write write' (Err Memory) f e = absurd (cc e)
+
+-- words that ask for a task don't have an input refused that spells a scene for it
+told_not_refused : (words : List (List ℕ)) (task other : Task) (left left' : Option (List ℕ)) (bytes said : List ℕ) (scene : Scene) → words ≡ words_of task → words ≡ words_of other
+    → left ≡ Some bytes → IsSpelled (form_of task) bytes scene → IsRefused (form_of other) left left' said → ⊥
+told_not_refused words task other left left' bytes said scene q p e t g =
+    let one : other ≡ task = one_task other task (sym p ∙ q) in
+    let same : bytes ≡ g.bytes = all_told left left' bytes g.bytes e g.consumed g.whole t.short in
+    not_refused (form_of task) g.bytes said scene (subst (λ (xs : List ℕ). IsSpelled (form_of task) xs scene) same t)
+    (subst (λ (k : Task). IsRefusal (form_of k) g.bytes said) one g.refusal)
+
+-- where the words ask for a task and its input is told, the status is Ok or want of memory
+pub complete_of : (words : List (List ℕ)) (left left' : Option (List ℕ)) (read read' : ℕ) (held held' : Option (List ℕ)) (write write' : ℕ) (done : Result (Unit {0}) Failure)
+    → IfErr done (CallFails words left left' read read' held held' write write') → (task : Task) → words ≡ words_of task
+    → Completes (form_of task) left read read' write write' (status_of done)
+complete_of words left left' read read' held held' write write' (Ok u) f task q bytes scene e t r w = inl refl
+complete_of words left left' read read' held held' write write' (Err Usage) f task q bytes scene e t r w = absurd (f.0 task q)
+complete_of words left left' read read' held held' write write' (Err (Refusal said)) f task q bytes scene e t r w =
+    absurd (told_not_refused words task f.0.0 left left' bytes said.items scene q f.0.1 e t f.0.2)
+complete_of words left left' read read' held held' write write' (Err Read) f task q bytes scene e t r w = absurd (r f.0.2)
+complete_of words left left' read read' held held' write write' (Err Write) f task q bytes scene e t r w = absurd (w f.0)
+complete_of words left left' read read' held held' write write' (Err Memory) f task q bytes scene e t r w = inr refl
+
+-- words that ask for a task don't have a scene read from an input that spells none for it
+no_scene_read : (words : List (List ℕ)) (task other : Task) (left left' : Option (List ℕ)) (bytes taken : List ℕ) (scene : Scene) → words ≡ words_of task → words ≡ words_of other
+    → left ≡ Some bytes → ((s : Scene) → ¬ IsSpelled (form_of task) bytes s) → Consumes left left' taken → IsAtEnd left' → IsSpelled (form_of other) taken scene → ⊥
+no_scene_read words task other left left' bytes taken scene q p e n c a t =
+    let one : other ≡ task = one_task other task (sym p ∙ q) in
+    let same : bytes ≡ taken = all_read left left' bytes taken e c (inr a) t.short in
+    n scene (subst (λ (xs : List ℕ). IsSpelled (form_of task) xs scene) (sym same) (subst (λ (k : Task). IsSpelled (form_of k) taken scene) one t))
+
+-- where the words ask for a task and what is told spells no scene for it, it is refused, or memory was wanting
+pub refuses_of : (words : List (List ℕ)) (left left' : Option (List ℕ)) (read read' : ℕ) (held held' : Option (List ℕ)) (write write' : ℕ) (done : Result (Unit {0}) Failure)
+    → OnOk done (Asked words (λ task. Done task left left' held held')) → IfErr done (CallFails words left left' read read' held held' write write')
+    → (task : Task) → words ≡ words_of task → Refuses (form_of task) left read read' (status_of done)
+refuses_of words left left' read read' held held' write write' (Ok u) d f task q bytes e n r =
+    let g = d.2 in
+    absurd (no_scene_read words task d.0 left left' bytes g.bytes g.scene q d.1 e n g.consumed g.ended g.spelled)
+refuses_of words left left' read read' held held' write write' (Err Usage) d f task q bytes e n r = absurd (f.0 task q)
+refuses_of words left left' read read' held held' write write' (Err (Refusal said)) d f task q bytes e n r = inl refl
+refuses_of words left left' read read' held held' write write' (Err Read) d f task q bytes e n r = absurd (r f.0.2)
+refuses_of words left left' read read' held held' write write' (Err Write) d f task q bytes e n r =
+    let g = f.1.2 in
+    absurd (no_scene_read words task f.1.0 left left' bytes g.bytes g.scene q f.1.1 e n g.consumed g.ended g.spelled)
+refuses_of words left left' read read' held held' write write' (Err Memory) d f task q bytes e n r = inr refl
+
+-- the same of the status that a call ends with
+pub completes : (words : List (List ℕ)) (left left' : Option (List ℕ)) (read read' : ℕ) (held held' : Option (List ℕ)) (write write' : ℕ) (done : Result (Unit {0}) Failure) (status : Status)
+    → status ≡ status_of done → IfErr done (CallFails words left left' read read' held held' write write') → (task : Task) → words ≡ words_of task
+    → Completes (form_of task) left read read' write write' status
+completes words left left' read read' held held' write write' done status s f task q =
+    subst (λ (k : Status). Completes (form_of task) left read read' write write' k) (sym s) (complete_of words left left' read read' held held' write write' done f task q)
+
+pub refuses : (words : List (List ℕ)) (left left' : Option (List ℕ)) (read read' : ℕ) (held held' : Option (List ℕ)) (write write' : ℕ) (done : Result (Unit {0}) Failure) (status : Status)
+    → status ≡ status_of done → OnOk done (Asked words (λ task. Done task left left' held held')) → IfErr done (CallFails words left left' read read' held held' write write')
+    → (task : Task) → words ≡ words_of task → Refuses (form_of task) left read read' status
+refuses words left left' read read' held held' write write' done status s d f task q =
+    subst (λ (k : Status). Refuses (form_of task) left read read' k) (sym s) (refuses_of words left left' read read' held held' write write' done d f task q)

@@ -1,0 +1,48 @@
+-- What a task writes of its scene, and what is promised of that.
+use Rattle.request_frame.specs.Frames.{frames_of}
+use Rattle.request_frame.specs.Spelling.{bytes_of}
+use Rattle.si_laws.specs.GateLaw.{GateLaw}
+use Rattle.si_laws.specs.Laws.Answers.{AbortsAnswered, CommitsAnswered}
+use Rattle.si_laws.specs.SnapshotIsolation.{SIRun}
+use Rattle.si_laws.specs.SpeculativeIsolation.{SPSI}
+use Rattle.si_laws.specs.TrueCause.{TrueCause}
+use Rattle.spsi_laws.specs.Laws.Ends.{NoneOpen}
+use Rattle.std.specs.Prelude.{List, take, true, ℕ, ⊤, ◌≡◌}
+use Rattle.str_model.specs.Drains.{cluster_events, cluster_run}
+use Rattle.str_model.specs.Lines.{render}
+use Rattle.str_model.specs.Runs.{run}
+use Rattle.str_model.specs.Traces.{trace}
+use Rattle.str_scene.specs.Scenes.{Scene}
+use Rattle.str_scene.specs.Spelling.{spelling}
+use Rattle.strun_words.specs.declared.task.Task.{Task}
+use Rattle.strun_words.specs.declared.task.Task.TheVariants.{Pack, Run, Show}
+
+-- what a task writes: of its one run the rendering (the events of the schedule, and then those of the drain where it has one), or
+-- the scene's frames, or its text
+abbrev pub output : Task → Scene → List ℕ
+output (Run frames) scene = render scene (cluster_run scene)
+output Pack scene = bytes_of (frames_of scene)
+output Show scene = spelling scene
+
+-- what is promised of the answers of the run of a scene
+pub record RunHolds (scene : Scene) : Type 0 where
+  -- the answers of that run are a run of the snapshot isolation machine
+  pub isolation : SIRun scene (cluster_run scene).answers
+  -- after each event, what undecided transactions have read meets speculative snapshot isolation at their nodes
+  pub speculation : (n : ℕ) → SPSI (run scene (take n (cluster_events scene)))
+  -- nothing commits before what it depends on or has read from has committed, and where that aborts, all that depend on it abort in the same event
+  pub gate : GateLaw (trace scene (cluster_events scene))
+  -- each transaction that aborts has the cause that it names
+  pub causes : TrueCause scene (cluster_run scene) (trace scene (cluster_events scene))
+  -- each answer of an abort names the cause for which its transaction aborted in an event
+  pub aborts : AbortsAnswered scene (cluster_run scene) (trace scene (cluster_events scene))
+  -- each answer of a commit has the final timestamp and the gets with which its transaction committed in an event
+  pub commits : CommitsAnswered (cluster_run scene) (trace scene (cluster_events scene))
+  -- where the scene has a drain, the last line has `held=0` and `unbegun=0`
+  pub closed : scene.drain ≡ true → NoneOpen scene (cluster_run scene)
+
+-- what is promised of what a task writes
+abbrev pub Promised : Task → Scene → Type 0
+Promised (Run frames) scene = RunHolds scene
+Promised Pack scene = ⊤
+Promised Show scene = ⊤
