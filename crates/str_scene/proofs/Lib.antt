@@ -11,4 +11,3 @@ mod TableLemmas
 mod Weaker
 pub mod Mapped
 pub mod Without
-mod FirstTests

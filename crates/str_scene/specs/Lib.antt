@@ -1,7 +1,6 @@
 pub mod Scenes
 pub mod SceneLimits
 pub mod Spelling
-pub mod FirstScenes
 pub mod Keys
 pub mod KeyLaws
 pub mod Keeping

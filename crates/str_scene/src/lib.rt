@@ -6,7 +6,6 @@ pub mod build;
 mod build_tests;
 mod checks;
 pub mod faults;
-pub mod first;
 pub mod keys;
 pub mod names;
 mod numbered;
@@ -14,7 +13,6 @@ pub mod scenes;
 
 pub use build::SceneBuild;
 pub use faults::{SceneFault, Why};
-pub use first::is_first;
 pub use keys::{ByteText, KeyTable, Name, short_name, spells_name};
 pub use names::{Event, Op, OpList, TxPlace};
 pub use scenes::{Scene, SessionText};
