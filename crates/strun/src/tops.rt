@@ -93,12 +93,7 @@ fn do_task<S: Source, K: Sink>(
 }
 
 /// Writes what a task writes of its scene.
-fn write_task<K: Sink>(
-    alloc: Global,
-    task: Task,
-    scene: Scene,
-    out: &mut K,
-) -> Result<(), Failure>
+fn write_task<K: Sink>(alloc: Global, task: Task, scene: Scene, out: &mut K) -> Result<(), Failure>
     ensures written { OnOk result (Appends (K.held out.old) (K.held out.new) (output task scene)) }
     ensures partial { OnErr result (AppendsPrefix (K.held out.old) (K.held out.new) (output task scene)) }
     ensures failed { IfErr result (HasWriteCause (K.faults out.old) (K.faults out.new)) }
