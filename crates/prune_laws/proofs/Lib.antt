@@ -1,0 +1,9 @@
+pub mod PairedLists
+pub mod LowRises
+pub mod GoodViews
+pub mod LateMessages
+pub mod Alongside
+pub mod EventsAlike
+pub mod PruneHolds
+pub mod LateIdle
+pub mod DrainsAlike

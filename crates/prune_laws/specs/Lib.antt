@@ -1,0 +1,2 @@
+pub mod PrunedClusters
+pub mod PruneLaw
