@@ -6,7 +6,7 @@ use Rattle.prune_laws.proofs.PruneHolds.{alongside, one_more, pruned_one_more}
 use Rattle.prune_laws.specs.PrunedClusters.{pruned_cluster_events, pruned_cluster_run, pruned_drain_events}
 use Rattle.prune_laws.specs.PruneLaw.{DrainsAlike, IsDecidedIn, LeftAlike, OutputsAlike, WholeDrainsAlike}
 use Rattle.si_laws.proofs.Stages.LinkedStates.{one_of}
-use Rattle.std.proofs.Common.{Bool, List, None, Option, Some, [], add-one, ap, drop, false, find, flat_map, if◌then◌else◌, is_some, length, map, not, option_map, refl, slice_get, suc, sym, true, zero, ℕ, ◌++◌, ◌+◌, ◌-◌, ◌==◌, ◌∙◌, ◌∷◌, ◌≡◌}
+use Rattle.std.proofs.Common.{Bool, List, None, Option, Some, [], add-one, ap, drop, false, find, flat_map, fold, if◌then◌else◌, is_some, length, map, not, option_map, refl, slice_get, suc, sym, true, zero, ℕ, ◌++◌, ◌+◌, ◌-◌, ◌==◌, ◌∙◌, ◌∷◌, ◌≡◌}
 use Rattle.std.specs.List.{count_by, range_with_len, sum_by}
 use Rattle.str_base.proofs.Lists.{same_by_places}
 use Rattle.str_base.specs.declared.names.NodeId.{NodeId}
@@ -121,9 +121,12 @@ module _ (scene : Scene) (es : List Event) where
           ∙ (by_view i (slice_get (run scene es).nodes i) (slice_get (pruned_run scene es).world.nodes i) refl refl ∙ sym (get_map (run scene es).nodes i))
 
   -- a sum over views that sees no versions
+  fold_bare : (f : View → ℕ) → ((v : View) → f (bare v) ≡ f v) → (a : ℕ) (vs : List View) → fold (λ (b : ℕ) (v : View). b + f v) a (map bare vs) ≡ fold (λ (b : ℕ) (v : View). b + f v) a vs
+  fold_bare f h a [] = refl
+  fold_bare f h a (v ∷ vs) = ap (λ (n : ℕ). fold (λ (b : ℕ) (v : View). b + f v) (a + n) (map bare vs)) (h v) ∙ fold_bare f h (a + f v) vs
+
   sum_bare : (f : View → ℕ) → ((v : View) → f (bare v) ≡ f v) → (vs : List View) → sum_by f (map bare vs) ≡ sum_by f vs
-  sum_bare f h [] = refl
-  sum_bare f h (v ∷ vs) = (λ j. h v j + sum_bare f h vs j)
+  sum_bare f h vs = fold_bare f h 0 vs
 
   sum_alike : (f : View → ℕ) → ((v : View) → f (bare v) ≡ f v) → sum_by f (pruned_run scene es).world.nodes ≡ sum_by f (run scene es).nodes
   sum_alike f h = sym (sum_bare f h (pruned_run scene es).world.nodes) ∙ (ap (sum_by f) nodes_alike ∙ sum_bare f h (run scene es).nodes)

@@ -6,7 +6,7 @@ use Rattle.prune_laws.proofs.LowRises.{raises_self, same_self}
 use Rattle.prune_laws.proofs.PairedLists.{BothAlike, alike_at, last_push, paired_at}
 use Rattle.prune_laws.specs.PruneLaw.{IsDecidedIn}
 use Rattle.si_laws.proofs.Stages.LinkedStates.{one_of}
-use Rattle.std.proofs.Common.{Bool, List, None, Option, Some, [], add-one, ap, arith, false, inl, inr, max, option_map, refl, slice_get, slice_index, slice_set, sub-one, subst, subst₂, suc, sym, true, zero, ℕ, ◌++◌, ◌+◌, ◌-◌, ◌∙◌, ◌∷◌, ◌≡◌, ◌≢◌, ◌≤◌, ◌⊎◌}
+use Rattle.std.proofs.Common.{Bool, List, None, Option, Some, [], add-one, ap, arith, false, inl, inr, length, max, option_map, refl, slice_get, slice_index, slice_set, sub-one, subst, subst₂, suc, sym, true, zero, ℕ, ◌++◌, ◌+◌, ◌-◌, ◌∙◌, ◌∷◌, ◌≡◌, ◌≢◌, ◌≤◌, ◌⊎◌}
 use Rattle.std.proofs.lemmas.Bool.{cases_eq}
 use Rattle.std.proofs.lemmas.Option.{get_or_from_slice_get}
 use Rattle.std.specs.List.{last_or}

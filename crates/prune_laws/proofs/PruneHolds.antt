@@ -28,7 +28,7 @@ pruned_one_more scene es e = pruned_append scene (pruned_opening scene) es (e �
 
 -- ---- from the opening on
 
-there_replicate : {A : Type 0} (n k : ℕ) (x y z : A) → slice_get (replicate n x) k ≡ Some y → slice_get (replicate n z) k ≡ Some z
+there_replicate : {A B : Type 0} (n k : ℕ) (x y : A) (z : B) → slice_get (replicate n x) k ≡ Some y → slice_get (replicate n z) k ≡ Some z
 there_replicate zero k x y z q = absurd (cc q)
 there_replicate (suc n) zero x y z q = refl
 there_replicate (suc n) (suc k) x y z q = there_replicate n k x y z q
