@@ -5,13 +5,12 @@ use Rattle.prune_laws.proofs.PairedLists.{Paired, alike_length, alike_weaker, ne
 use Rattle.prune_laws.specs.PruneLaw.{IsDecidedIn}
 use Rattle.si_laws.proofs.Order.CertifiedVersions.{BegunAt, begun_at, begun_there}
 use Rattle.si_laws.proofs.Stages.LinkedStates.{one_of}
-use Rattle.std.proofs.Common.{Bool, List, None, Option, Some, [], add-one, ap, append-nil, arith, false, inl, inr, length, refl, replicate, slice_get, slice_set, subst, subst₂, sym, true, ℕ, ◌++◌, ◌+◌, ◌-◌, ◌∙◌, ◌∷◌, ◌≡◌, ◌≢◌, ◌≤◌, ◌⊎◌}
+use Rattle.std.proofs.Common.{Bool, List, None, Some, [], ap, append-nil, arith, false, inl, inr, length, refl, replicate, slice_get, slice_set, subst, subst₂, sym, true, ℕ, ◌++◌, ◌+◌, ◌-◌, ◌∙◌, ◌∷◌, ◌≡◌, ◌≢◌, ◌≤◌, ◌⊎◌}
 use Rattle.std.proofs.lemmas.Bool.{cases_eq}
 use Rattle.str_base.proofs.Lists.{get_set, get_set_other, got_set}
 use Rattle.str_base.specs.declared.names.NodeId.{NodeId}
 use Rattle.str_base.specs.declared.names.TxId.{TxId}
 use Rattle.str_base.specs.Members.{In}
-use Rattle.str_model.specs.declared.messages.Answer.{Answer}
 use Rattle.str_model.specs.declared.messages.Input.{Input}
 use Rattle.str_model.specs.declared.messages.Message.{Message}
 use Rattle.str_model.specs.declared.names.Done.{Done}
@@ -20,9 +19,9 @@ use Rattle.str_model.specs.PrunedRuns.{PrunedWorld, bound}
 use Rattle.str_model.specs.Pruning.{low, pruned}
 use Rattle.str_model.specs.Runs.{World, stepped}
 use Rattle.str_model.specs.Steps.{step}
-use Rattle.str_model.specs.Views.{Doing, Own, View, is_decided}
+use Rattle.str_model.specs.Views.{Doing, View}
 use Rattle.str_scene.specs.declared.names.Event.{Event}
-use Rattle.str_scene.specs.Scenes.{Here, Scene}
+use Rattle.str_scene.specs.Scenes.{Scene}
 use Rattle.str_model.proofs.Principle.Everywhere.{at_place, stage_of}
 use Rattle.str_model.proofs.Pruning.PruneBounds.{Raises, SameLength, bound_raises}
 use Rattle.str_model.proofs.Pruning.Twins.{AllAlike, Twin, alike_append}

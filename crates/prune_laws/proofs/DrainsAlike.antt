@@ -1,5 +1,4 @@
 -- A drain takes the same events in both runs, and what is left to be done and what is written is the same.
-use Rattle.prune_laws.proofs.Alongside.{Alongside}
 use Rattle.prune_laws.proofs.EventsAlike.{same_input}
 use Rattle.prune_laws.proofs.PairedLists.{alike_length}
 use Rattle.prune_laws.proofs.PruneHolds.{alongside, one_more, pruned_one_more}
@@ -9,19 +8,17 @@ use Rattle.si_laws.proofs.Stages.LinkedStates.{one_of}
 use Rattle.std.proofs.Common.{Bool, List, None, Option, Some, [], add-one, ap, drop, false, find, flat_map, fold, if◌then◌else◌, is_some, length, map, not, option_map, refl, slice_get, suc, sym, true, zero, ℕ, ◌++◌, ◌+◌, ◌-◌, ◌==◌, ◌∙◌, ◌∷◌, ◌≡◌}
 use Rattle.std.specs.List.{count_by, range_with_len, sum_by}
 use Rattle.str_base.proofs.Lists.{same_by_places}
-use Rattle.str_base.specs.declared.names.NodeId.{NodeId}
 use Rattle.str_base.specs.declared.names.SessionId.{SessionId}
 use Rattle.str_base.specs.declared.names.TxId.{TxId}
 use Rattle.str_model.specs.Clients.{client_rule}
-use Rattle.str_model.specs.declared.messages.Body.{Body}
 use Rattle.str_model.specs.declared.messages.Input.TheVariants.{Client}
 use Rattle.str_model.specs.declared.messages.Message.{Message}
 use Rattle.str_model.specs.Drains
 use Rattle.str_model.specs.Drains.{cluster_events, cluster_run, drain_events, moves, next_event, next_message, next_session}
 use Rattle.str_model.specs.Lines.{answer_line, counts, end_line, is_commit, journal_lines, render, render_j}
-use Rattle.str_model.specs.PrunedRuns.{PrunedWorld, bound, pruned_happens, pruned_run}
+use Rattle.str_model.specs.PrunedRuns.{bound, pruned_happens, pruned_run}
 use Rattle.str_model.specs.Pruning.{low, pruned}
-use Rattle.str_model.specs.Runs.{World, happens, run}
+use Rattle.str_model.specs.Runs.{happens, run}
 use Rattle.str_model.specs.Steps.{after_rule, rule, step}
 use Rattle.str_model.specs.Views.{Doing, Own, View, is_decided, starts}
 use Rattle.str_model.specs.Work

@@ -1,12 +1,12 @@
 -- Each event leads a run and the run that prunes from side by side to side by side.
-use Rattle.prune_laws.proofs.Alongside.{Alongside, Beside, Carries, Follows, acted, regiven, rested, thinned}
+use Rattle.prune_laws.proofs.Alongside.{Alongside, Carries, Follows, acted, regiven, rested, thinned}
 use Rattle.prune_laws.proofs.GoodViews.{Hears, good_at, high_input}
 use Rattle.prune_laws.proofs.LateMessages.{IsLate, late_refuse, late_reply, late_step}
 use Rattle.prune_laws.proofs.LowRises.{raises_self, same_self}
 use Rattle.prune_laws.proofs.PairedLists.{BothAlike, alike_at, last_push, paired_at}
 use Rattle.prune_laws.specs.PruneLaw.{IsDecidedIn}
 use Rattle.si_laws.proofs.Stages.LinkedStates.{one_of}
-use Rattle.std.proofs.Common.{Bool, List, None, Option, Some, [], add-one, ap, arith, false, inl, inr, length, max, option_map, refl, slice_get, slice_index, slice_set, sub-one, subst, subst₂, suc, sym, true, zero, ℕ, ◌++◌, ◌+◌, ◌-◌, ◌∙◌, ◌∷◌, ◌≡◌, ◌≢◌, ◌≤◌, ◌⊎◌}
+use Rattle.std.proofs.Common.{Bool, List, None, Option, Some, add-one, ap, arith, false, inl, inr, length, max, option_map, refl, slice_get, slice_index, slice_set, sub-one, subst, subst₂, suc, sym, true, zero, ℕ, ◌-◌, ◌∙◌, ◌≡◌, ◌≤◌}
 use Rattle.std.proofs.lemmas.Bool.{cases_eq}
 use Rattle.std.proofs.lemmas.Option.{get_or_from_slice_get}
 use Rattle.std.specs.List.{last_or}
@@ -24,12 +24,12 @@ use Rattle.str_model.specs.Steps.{step}
 use Rattle.str_model.specs.Views.{Doing, View}
 use Rattle.str_scene.specs.declared.names.Event.{Event}
 use Rattle.str_scene.specs.declared.names.Event.TheVariants.{Client as ClientEvent, Deliver as DeliverEvent}
-use Rattle.str_scene.specs.Scenes.{Here, Scene, Session, nth}
+use Rattle.str_scene.specs.Scenes.{Scene, Session, nth}
 use Rattle.str_model.proofs.Principle.Everywhere.{IsSeen, Sent, at_place, stage_of}
 use Rattle.str_model.proofs.Pruning.PruneBounds.{Raises, SameLength, raised_row}
 use Rattle.str_model.proofs.Pruning.TwinGood.{step_pruned}
 use Rattle.str_model.proofs.Pruning.TwinRules.{BothTo}
-use Rattle.str_model.proofs.Pruning.Twins.{Alike, Twin, a_refuse, a_reply, a_same}
+use Rattle.str_model.proofs.Pruning.Twins.{Alike, a_refuse, a_reply, a_same}
 
 -- what a row hears of one more number
 hears_more : (vs : List View) (n : ℕ) (row : List ℕ) (m : Message) (l : ℕ) → Hears vs n row → Carries vs m l → Hears vs n (slice_set row (m.sender.0 - 1) (max (slice_index row (m.sender.0 - 1)) l))
@@ -38,10 +38,11 @@ hears_more vs n row m l h c k u g =
     elim (cases_eq k (m.sender.0 - 1)) [
       | inl q ↦ (let there : slice_get row (m.sender.0 - 1) ≡ Some o.0 = ap (λ (i : ℕ). slice_get row i) (sym q) ∙ o.1 in
           let old : slice_index row (m.sender.0 - 1) ≡ o.0 = get_or_from_slice_get row (m.sender.0 - 1) o.0 0 there in
-          let le : l ≤ low u = c u (ap (λ (i : ℕ). slice_get vs i) (sym q) ∙ g) in
-          (max (slice_index row (m.sender.0 - 1)) l,
+          let le : l ≤ low u = c u (ap (λ (i : ℕ). slice_get vs i) (sym q) ∙ g) in (
+            max (slice_index row (m.sender.0 - 1)) l,
             ap (λ (i : ℕ). slice_get (slice_set row (m.sender.0 - 1) (max (slice_index row (m.sender.0 - 1)) l)) i) q ∙ get_set row (m.sender.0 - 1) o.0 (max (slice_index row (m.sender.0 - 1)) l) there,
-            λ other. let b = o.2 other in omega (arith, old, le, b)))
+            λ other. let b = o.2 other in omega (arith, old, le, b),
+          ))
       | inr q ↦ (o.0, get_set_other row (m.sender.0 - 1) k (max (slice_index row (m.sender.0 - 1)) l) q ∙ o.1, o.2)
     ]
 

@@ -6,7 +6,7 @@ use Rattle.si_laws.proofs.Order.CertifiedVersions.{begun_there}
 use Rattle.si_laws.proofs.Sources.LetterSources.{letter-act}
 use Rattle.si_laws.proofs.Stages.AllLinksKept.{linked}
 use Rattle.si_laws.proofs.Stages.LinkedStates.{AreWrites, Told, one_of}
-use Rattle.std.proofs.Common.{Bool, List, Some, ap, arith, false, inl, inr, refl, replicate, slice_get, subst, subst₂, sym, true, ℕ, ◌∙◌, ◌≡◌, ◌≢◌, ◌≤◌, ◌⊎◌}
+use Rattle.std.proofs.Common.{Bool, List, Some, ap, arith, false, inl, inr, refl, slice_get, subst, subst₂, sym, true, ℕ, ◌∙◌, ◌≡◌, ◌≢◌, ◌≤◌, ◌⊎◌}
 use Rattle.std.proofs.lemmas.Bool.{cases_eq}
 use Rattle.str_base.proofs.Lists.{get_set, get_set_other, got_replicate, got_set}
 use Rattle.str_base.proofs.Members.{in_at}
@@ -23,7 +23,7 @@ use Rattle.str_model.specs.declared.messages.Waiter.{Waiter}
 use Rattle.str_model.specs.declared.messages.Waiter.TheVariants.{Held, Read}
 use Rattle.str_model.specs.PrunedRuns.{bound}
 use Rattle.str_model.specs.Pruning.{low}
-use Rattle.str_model.specs.Runs.{World, opening, opening_view, run}
+use Rattle.str_model.specs.Runs.{opening_view, run}
 use Rattle.str_model.specs.Steps.{step}
 use Rattle.str_model.specs.Views.{Doing, View, is_decided, starts}
 use Rattle.str_scene.specs.declared.names.Event.{Event}

@@ -1,12 +1,12 @@
 -- Messages that differ in the two runs are idle whenever they are given.
-use Rattle.prune_laws.proofs.Alongside.{Alongside, regiven}
+use Rattle.prune_laws.proofs.Alongside.{regiven}
 use Rattle.prune_laws.proofs.LateMessages.{IsLate, late_refuse, late_reply, late_step}
 use Rattle.prune_laws.proofs.PairedLists.{BothAlike, alike_at, last_push}
 use Rattle.prune_laws.proofs.PruneHolds.{alongside, one_more, pruned_one_more}
-use Rattle.prune_laws.specs.PruneLaw.{Differ, EndsIdle, IsDecidedIn, LateIdle}
+use Rattle.prune_laws.specs.PruneLaw.{EndsIdle, IsDecidedIn, LateIdle}
 use Rattle.si_laws.proofs.Stages.LinkedStates.{one_of}
 use Rattle.std.specs.List.{last_or}
-use Rattle.std.proofs.Common.{Bool, List, None, Option, Some, [], add-one, ap, false, if◌then◌else◌, refl, slice_get, slice_set, sub-one, subst, subst₂, suc, sym, true, zero, ℕ, ◌++◌, ◌-◌, ◌∙◌, ◌∷◌, ◌≡◌, ◌≢◌}
+use Rattle.std.proofs.Common.{Bool, List, None, Option, Some, add-one, ap, false, if◌then◌else◌, refl, slice_get, slice_set, sub-one, subst, subst₂, suc, sym, true, zero, ℕ, ◌-◌, ◌≡◌, ◌≢◌}
 use Rattle.str_base.specs.declared.names.NodeId.{NodeId}
 use Rattle.str_model.specs.declared.messages.Input.TheVariants.{Deliver}
 use Rattle.str_model.specs.declared.messages.Message.{Message}
@@ -74,11 +74,10 @@ late_idle scene es i c =
     let w : World = run scene es in
     let p : PrunedWorld = pruned_run scene es in
     let a = alongside scene es in
-    let late = by_alike m n (subst₂ (BothAlike (IsDecidedIn w)) q r (both_nth i)) c.4 in
-    (
+    let late = by_alike m n (subst₂ (BothAlike (IsDecidedIn w)) q r (both_nth i)) c.4 in (
       subst (λ (z : World). EndsIdle z.journal) (sym (one_more scene es (DeliverEvent i))) (late_event scene w w (λ k x g. (x, g, refl)) i m q late.0),
       subst (λ (z : PrunedWorld). EndsIdle z.world.journal) (sym (pruned_one_more scene es (DeliverEvent i)))
-      (subst (λ (xs : List Done). EndsIdle xs) (sym (happens_journal scene p (DeliverEvent i))) (late_event scene w p.world same_own i n r late.1)),
+          (subst (λ (xs : List Done). EndsIdle xs) (sym (happens_journal scene p (DeliverEvent i))) (late_event scene w p.world same_own i n r late.1)),
     )
   where
     both_nth : (k : ℕ) → BothAlike (IsDecidedIn (run scene es)) (nth (run scene es).sent k) (nth (pruned_run scene es).world.sent k)

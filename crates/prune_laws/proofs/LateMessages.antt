@@ -2,7 +2,7 @@
 use Rattle.prune_laws.specs.PruneLaw.{IsDecidedIn}
 use Rattle.si_laws.proofs.Stages.LinkedStates.{one_of}
 use Rattle.si_laws.proofs.Stages.ParticipantSeats.{to_nth}
-use Rattle.std.proofs.Common.{Bool, List, None, Option, Some, ap, eqb-true, false, if◌then◌else◌, option_map, refl, slice_get, subst, sym, true, ℕ, ◌+◌, ◌∙◌, ◌≡◌}
+use Rattle.std.proofs.Common.{Bool, List, None, Option, Some, ap, eqb-true, false, if◌then◌else◌, option_map, refl, slice_get, subst, true, ℕ, ◌+◌, ◌∙◌, ◌≡◌}
 use Rattle.str_base.specs.declared.names.KeyId.{KeyId}
 use Rattle.str_base.specs.declared.names.NodeId.{NodeId}
 use Rattle.str_base.specs.declared.names.PartId.{PartId}
@@ -18,8 +18,8 @@ use Rattle.str_model.specs.Returns.{own_named}
 use Rattle.str_model.specs.Runs.{World}
 use Rattle.str_model.specs.Steps.{after_rule, body_rule, rule, step}
 use Rattle.str_model.specs.Strange.{is_valid}
-use Rattle.str_model.specs.Views.{Doing, Own, View, is_decided, starts}
-use Rattle.str_scene.specs.Scenes.{Here, Scene, nth}
+use Rattle.str_model.specs.Views.{Own, View, is_decided, starts}
+use Rattle.str_scene.specs.Scenes.{Scene, nth}
 use Rattle.str_model.proofs.Principle.Everywhere.{at_place}
 use Rattle.str_model.proofs.Pruning.TwinRules.{idle_refuse, idle_reply}
 

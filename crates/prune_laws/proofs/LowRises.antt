@@ -1,9 +1,8 @@
 -- Over a whole step the low mark doesn't fall, and what came to the same when it was pruned does so at each greater mark.
-use Rattle.std.proofs.Common.{List, Some, [], ap, arith, refl, subst, sym, true, ℕ, ◌∙◌, ◌∷◌, ◌≡◌, ◌≤◌}
-use Rattle.str_base.specs.declared.names.TxId.{TxId}
+use Rattle.std.proofs.Common.{List, Some, [], ap, arith, subst, sym, true, ℕ, ◌∙◌, ◌∷◌, ◌≡◌, ◌≤◌}
 use Rattle.str_model.specs.declared.messages.Input.{Input}
 use Rattle.str_model.specs.Owned.{Owns}
-use Rattle.str_model.specs.Pruning.{low, pruned, pruned_versions}
+use Rattle.str_model.specs.Pruning.{low, pruned}
 use Rattle.str_model.specs.Steps.{step}
 use Rattle.str_model.specs.Views.{Doing, Own, View, is_decided, starts}
 use Rattle.str_scene.specs.Scenes.{Here}

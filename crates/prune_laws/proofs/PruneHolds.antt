@@ -1,10 +1,8 @@
 -- The run and the run that prunes are side by side after every list of events; so the law Prune holds.
 use Rattle.prune_laws.proofs.Alongside.{Alongside, Follows}
 use Rattle.prune_laws.proofs.EventsAlike.{event_follows}
-use Rattle.prune_laws.proofs.GoodViews.{Hears}
-use Rattle.prune_laws.proofs.PairedLists.{BothAlike, alike_at}
-use Rattle.prune_laws.specs.PruneLaw.{AreAlike, Differ, EndsIdle, IsAlike, IsDecidedIn, LateIdle, MessagesAlike, PruneHolds, SendsAlike, ViewsPruned, one_message, pruned_view, refusals, replies}
-use Rattle.std.proofs.Common.{List, None, Option, Some, [], ap, append-nil, append_assoc, arith, option_map, refl, replicate, slice_get, subst, subst₂, suc, sym, zero, ℕ, ◌++◌, ◌∙◌, ◌∷◌, ◌≡◌, ◌≢◌}
+use Rattle.prune_laws.specs.PruneLaw.{AreAlike, IsAlike, IsDecidedIn, MessagesAlike, PruneHolds, ViewsPruned, one_message, pruned_view, refusals, replies}
+use Rattle.std.proofs.Common.{List, None, Option, Some, [], ap, append-nil, append_assoc, arith, option_map, refl, replicate, slice_get, subst, subst₂, suc, sym, zero, ℕ, ◌++◌, ◌∙◌, ◌∷◌, ◌≡◌}
 use Rattle.str_base.proofs.Lists.{got_replicate}
 use Rattle.str_model.specs.declared.messages.Message.{Message}
 use Rattle.str_model.specs.PrunedRuns.{PrunedWorld, bound, pruned_from, pruned_happens, pruned_opening, pruned_run, row_or}
