@@ -1,5 +1,6 @@
 pub mod PairedLists
 pub mod LowRises
+pub mod LowNeverFalls
 pub mod GoodViews
 pub mod LateMessages
 pub mod Alongside

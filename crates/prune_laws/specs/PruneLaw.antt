@@ -1,6 +1,6 @@
 -- The law Prune: over every scene and every list of events a cluster that prunes does what one does that keeps all versions.
 use Rattle.std.specs.List.{last_or}
-use Rattle.std.specs.Prelude.{List, None, Option, Some, [], option_map, slice_get, true, ℕ, ◌++◌, ◌∷◌, ◌≡◌, ◌≢◌}
+use Rattle.std.specs.Prelude.{List, None, Option, Some, [], false, length, option_map, slice_get, true, ℕ, ◌++◌, ◌∷◌, ◌≡◌, ◌≢◌, ◌≤◌, ◌⊎◌}
 use Rattle.prune_laws.specs.PrunedClusters.{pruned_cluster_events, pruned_cluster_run}
 use Rattle.si_laws.specs.Standing.{Begun}
 use Rattle.str_base.specs.declared.names.KeyId.{KeyId}
@@ -14,6 +14,7 @@ use Rattle.str_model.specs.declared.messages.Message.{Message}
 use Rattle.str_model.specs.declared.names.Done.{Done}
 use Rattle.str_model.specs.Drains.{cluster_events, cluster_run, next_event}
 use Rattle.str_model.specs.Lines.{render, render_j}
+use Rattle.str_model.specs.Owned.{IsView, Owns}
 use Rattle.str_model.specs.PrunedRuns.{PrunedWorld, bound, pruned_run, row_or}
 use Rattle.str_model.specs.Pruning.{low, pruned}
 use Rattle.str_model.specs.Runs.{World, run}
@@ -76,6 +77,17 @@ ArePruned w p = (n : ℕ) → slice_get p.world.nodes n ≡ option_map (pruned_v
 -- the law of the views
 abbrev pub ViewsPruned : Type 0
 ViewsPruned = (scene : Scene) (events : List Event) → ArePruned (run scene events) (pruned_run scene events)
+
+-- the low mark is at least this, and so is the snapshot of each own transaction that is undecided or stands at the k-th place or after
+pub record IsAbove (g k : ℕ) (v : View) : Type 0 where
+  pub mark : g ≤ low v
+  pub above : (i : ℕ) (x : Own) → Owns v i x → (is_decided x.phase ≡ false) ⊎ (k ≤ i) → g ≤ x.snap.rs
+
+-- the law of the low mark: it never falls, and no transaction that is undecided later or begins later has a snapshot below it
+abbrev pub LowNeverFalls : Type 0
+LowNeverFalls =
+    (scene : Scene) (early late : List Event) (n : ℕ) (v u : View) → IsView scene early n v → IsView scene (early ++ late) n u
+    → IsAbove (low v) (length v.own) u
 
 -- the last entry of the journal is of an idle event
 abbrev pub EndsIdle : List Done → Type 0

@@ -1,5 +1,5 @@
 //! Laws of every run that prunes: functions without effect, each of which carries one law.
-ghost use Rattle.prune_laws.specs.PruneLaw.{DrainsAlike, LateIdle, LeftAlike, MessagesAlike, OutputsAlike, PruneHolds, ViewsPruned, WholeDrainsAlike};
+ghost use Rattle.prune_laws.specs.PruneLaw.{DrainsAlike, LateIdle, LeftAlike, LowNeverFalls, MessagesAlike, OutputsAlike, PruneHolds, ViewsPruned, WholeDrainsAlike};
 
 /// A cluster that prunes has the journal and the answers of one that doesn't, over every list of events: each event is idle alike.
 pub fn prune_holds()
@@ -10,6 +10,11 @@ pub fn prune_holds()
 /// where its transaction had its decision before the event.
 pub fn messages_alike()
     ensures { MessagesAlike }
+{}
+
+/// A node's low mark never falls, and no transaction of the node that is undecided later or begins later has a snapshot below it.
+pub fn low_never_falls()
+    ensures { LowNeverFalls }
 {}
 
 /// Each node's view is that of the run, pruned at the least of its low mark and all that it has heard of other nodes.
