@@ -10,7 +10,7 @@ use Rattle.str_model.specs.Owned.{Owns}
 use Rattle.str_model.specs.Pruning.{low}
 use Rattle.str_model.specs.Runs.{World, opening, run}
 use Rattle.str_model.specs.Views.{Doing, Own, View}
-use Rattle.str_scene.specs.Scenes.{Here, Scene}
+use Rattle.str_scene.specs.Scenes.{Scene}
 use Rattle.str_model.proofs.Changes.OwnChanges.{Becomes, OwnStep, aborts, certifies, closes, commits, goes_on, own_step, rests, starts_one, turns_one}
 use Rattle.str_model.proofs.Principle.Everywhere.{IsSeen, Stage, at_place, during, ever_after, run-append, stage_of}
 use Rattle.str_model.proofs.Principle.SingleChanges.{Act, Where}
