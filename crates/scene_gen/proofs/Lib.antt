@@ -1,0 +1,4 @@
+pub mod Tables
+pub mod Numbering
+pub mod Drafts
+pub mod Steps

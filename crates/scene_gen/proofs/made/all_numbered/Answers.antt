@@ -1,0 +1,18 @@
+use Rattle.std.proofs.Common.{ap, length, ◌+◌, ◌∙◌}
+use Rattle.scene_gen.proofs.Steps.{keys_end, keys_next, numbers_end, numbers_next}
+use Rattle.str_scene.proofs.Drafting.{push_length}
+use Rattle.scene_gen.proofs.made.all_numbered.Goals as goal
+
+pub loop-op-preserved : goal.loop-op-preserved
+loop-op-preserved c = record {
+  long = ap length c.push.ensures ∙ push_length c.loop-op.ops c.in_ok-op.op ∙ ap (λ n. n + 1) c.loop-op.invariant.long;
+  built = keys_next c.args.script.now c.loop-op.op-index _ c.loop-op.build c.numbered.new.build _ c.loop-op-test.true c.in_ok-op.ensures.added c.loop-op.invariant.built;
+  ops = numbers_next c.args.script.now c.loop-op.op-index _ c.loop-op.ops c.push.new.self c.in_ok-op.op c.loop-op.build c.numbered.new.build _ c.loop-op-test.true
+      c.in_ok-op.ensures.value c.in_ok-op.ensures.added c.push.ensures c.loop-op.invariant.ops;
+}
+
+pub returns : goal.returns
+returns c = record {
+  value = numbers_end c.args.script.now c.loop-op.op-index c.loop-op.ops c.loop-op.build _ c.loop-op-test.false c.loop-op.invariant.ops;
+  added = keys_end c.args.script.now c.loop-op.op-index c.loop-op.build _ c.loop-op-test.false c.loop-op.invariant.built;
+}
