@@ -79,8 +79,8 @@ built_from seed g h d0 d1 d2 d3 d4 d5 eg e0 e1 e2 e3 eh e4 e5 =
     let f1 : d1 ≡ with_nodes 3 (empty_draft 1) = e1 ∙ ap (with_nodes 3) e0 in
     let f2 : d2 ≡ head = e2 ∙ ap (with_rows (made_rows 6 1)) f1 in
     let f3 : d3 ≡ with_sessions (made_sessions 12 1 (generator seed)) head =
-        e3 ∙ ap (λ x. with_sessions (made_sessions 12 1 x) d2) eg ∙ ap (with_sessions (made_sessions 12 1 (generator seed))) f2 in
+    e3 ∙ ap (λ x. with_sessions (made_sessions 12 1 x) d2) eg ∙ ap (with_sessions (made_sessions 12 1 (generator seed))) f2 in
     let fh : h ≡ after_sessions 12 (generator seed) = eh ∙ ap (after_sessions 12) eg in
     let f4 : d4 ≡ with_entries (made_entries 6000 1 (after_sessions 12 (generator seed))) (with_sessions (made_sessions 12 1 (generator seed)) head) =
-        e4 ∙ ap (λ x. with_entries (made_entries 6000 1 x) d3) fh ∙ ap (with_entries (made_entries 6000 1 (after_sessions 12 (generator seed)))) f3 in
+    e4 ∙ ap (λ x. with_entries (made_entries 6000 1 x) d3) fh ∙ ap (with_entries (made_entries 6000 1 (after_sessions 12 (generator seed)))) f3 in
     e5 ∙ ap with_drain f4 ∙ built (made_sessions 12 1 (generator seed)) (made_entries 6000 1 (after_sessions 12 (generator seed)))

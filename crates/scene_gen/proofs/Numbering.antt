@@ -45,10 +45,10 @@ scripts_stay (ops ∷ ss) ks table =
     let later = flat_map (map key_of) ss in
     let split : (mine ++ later) ++ ks ≡ mine ++ (later ++ ks) = append_assoc mine later ks in
     let whole : with_pairs ((mine ++ later) ++ ks) table ≡ with_pairs (later ++ ks) (with_pairs mine table) =
-        ap (λ xs. with_pairs xs table) split ∙ with_both mine (later ++ ks) table in
+    ap (λ xs. with_pairs xs table) split ∙ with_both mine (later ++ ks) table in
     ap (λ o. o ∷ all_numbers (with_pairs mine table) ss) (ops_stay ops (later ++ ks) table ∙ ap (λ xs. map (numbered (with_pairs xs table)) ops) (sym split))
     ∙ ap (λ os. map (numbered (with_pairs ((mine ++ later) ++ ks) table)) ops ∷ os)
-        (scripts_stay ss ks (with_pairs mine table) ∙ ap (λ t. map (map (numbered t)) ss) (sym whole))
+    (scripts_stay ss ks (with_pairs mine table) ∙ ap (λ t. map (map (numbered t)) ss) (sym whole))
 
 -- sessions
 pub sessions_stay : (ss : List MadeSession) (table : List (List ℕ × PartId)) → all_sessions table ss ≡ map (session_in (with_pairs (keys_of ss) table)) ss

@@ -3,5 +3,7 @@
 
 pub mod draws;
 pub mod made;
+#[cfg(test)]
+mod tests;
 
 pub use made::make;

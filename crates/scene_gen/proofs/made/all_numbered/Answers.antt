@@ -1,11 +1,11 @@
 use Rattle.std.proofs.Common.{ap, length, ◌+◌, ◌∙◌}
 use Rattle.scene_gen.proofs.Steps.{keys_end, keys_next, numbers_end, numbers_next}
-use Rattle.str_scene.proofs.Drafting.{push_length}
+use Rattle.std.proofs.lemmas.List.{length_push}
 use Rattle.scene_gen.proofs.made.all_numbered.Goals as goal
 
 pub loop-op-preserved : goal.loop-op-preserved
 loop-op-preserved c = record {
-  long = ap length c.push.ensures ∙ push_length c.loop-op.ops c.in_ok-op.op ∙ ap (λ n. n + 1) c.loop-op.invariant.long;
+  long = ap length c.push.ensures ∙ length_push c.loop-op.ops c.in_ok-op.op ∙ ap (λ n. n + 1) c.loop-op.invariant.long;
   built = keys_next c.args.script.now c.loop-op.op-index _ c.loop-op.build c.numbered.new.build _ c.loop-op-test.true c.in_ok-op.ensures.added c.loop-op.invariant.built;
   ops = numbers_next c.args.script.now c.loop-op.op-index _ c.loop-op.ops c.push.new.self c.in_ok-op.op c.loop-op.build c.numbered.new.build _ c.loop-op-test.true
       c.in_ok-op.ensures.value c.in_ok-op.ensures.added c.push.ensures c.loop-op.invariant.ops;
