@@ -4,7 +4,7 @@ use Rattle.std.proofs.lemmas.List.{append-nil}
 use Rattle.rand_pcg.specs.Lcg.{Lcg}
 use Rattle.scene_gen.proofs.Numbering.{all_numbers, all_sessions, sessions_stay}
 use Rattle.scene_gen.proofs.Tables.{with_both}
-use Rattle.scene_gen.specs.Building.{numbers, with_entries, with_rows, with_script, with_scripts, with_sessions}
+use Rattle.scene_gen.specs.Building.{numbers, with_entries, with_rows, with_scripts, with_sessions}
 use Rattle.scene_gen.specs.Drawn.{generator}
 use Rattle.scene_gen.specs.Made.{MadeSession, after_sessions, made_entries, key_of, keys_of, made, made_rows, scene_of, made_sessions, with_pairs}
 use Rattle.scene_gen.specs.declared.draws.MadeOp.{MadeOp}
@@ -12,7 +12,7 @@ use Rattle.str_base.specs.declared.names.NodeId.{NodeId}
 use Rattle.str_base.specs.declared.names.PartId.{PartId}
 use Rattle.str_scene.specs.declared.names.Event.{Event}
 use Rattle.str_scene.specs.declared.names.Op.{Op}
-use Rattle.str_scene.specs.Drafts.{add_tx, empty_draft, with_drain, with_nodes, with_session}
+use Rattle.str_scene.specs.Drafts.{add_tx, empty_draft, with_drain, with_nodes}
 use Rattle.str_scene.specs.Scenes.{Scene, Session}
 
 -- a scene so far with these sessions and this table of keys

@@ -6,7 +6,6 @@ use Rattle.scene_gen.specs.Building.{numbers, with_entries, with_keys, with_rows
 use Rattle.scene_gen.specs.Drawn.{after_entry, after_script, entry, script}
 use Rattle.scene_gen.specs.Made.{after_scripts, after_sessions, made_entries, key_of, node_of, numbered, row_of, made_rows, made_scripts, made_sessions}
 use Rattle.scene_gen.specs.declared.draws.MadeOp.{MadeOp}
-use Rattle.str_base.specs.declared.names.NodeId.{NodeId}
 use Rattle.str_scene.specs.declared.names.Event.{Event}
 use Rattle.str_scene.specs.declared.names.Op.{Op}
 use Rattle.str_scene.specs.Drafts.{with_entry, with_key, with_row, with_session}
