@@ -2,3 +2,11 @@ pub mod Tables
 pub mod Numbering
 pub mod Drafts
 pub mod Steps
+pub mod Eaches
+pub mod MadeRows
+pub mod MadeEntries
+pub mod DrawnScripts
+pub mod NamedKeys
+pub mod KeyOrder
+pub mod SessionsHold
+pub mod MadeLimits

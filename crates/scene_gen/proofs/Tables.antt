@@ -6,7 +6,7 @@ use Rattle.str_scene.specs.KeyLaws.{same_pair_self}
 use Rattle.str_scene.specs.Keys.{place_of, same_pair, with_pair}
 
 -- a table with one more key is as long, or longer
-longer : (b : List ℕ × PartId) (table : List (List ℕ × PartId)) → length table ≤ length (with_pair b table)
+pub longer : (b : List ℕ × PartId) (table : List (List ℕ × PartId)) → length table ≤ length (with_pair b table)
 longer b [] = omega arith
 longer b (c ∷ cs) = by (same_pair b c) (longer b cs)
   where
@@ -30,7 +30,7 @@ kept a b (c ∷ cs) l = by (same_pair b c) (λ m. kept a b cs m)
     by false h = rest (same_pair a c) h l
 
 -- a key comes to its place
-placed : (a : List ℕ × PartId) (table : List (List ℕ × PartId)) → place_of a (with_pair a table) ≡ place_of a table
+pub placed : (a : List ℕ × PartId) (table : List (List ℕ × PartId)) → place_of a (with_pair a table) ≡ place_of a table
 placed a [] = rw (same_pair_self a a refl) refl
 placed a (c ∷ cs) = by (same_pair a c) refl (placed a cs)
   where
@@ -40,7 +40,7 @@ placed a (c ∷ cs) = by (same_pair a c) refl (placed a cs)
     by false e h = rw e (ap suc h)
 
 -- and is there then
-there : (a : List ℕ × PartId) (table : List (List ℕ × PartId)) → place_of a table < length (with_pair a table)
+pub there : (a : List ℕ × PartId) (table : List (List ℕ × PartId)) → place_of a table < length (with_pair a table)
 there a [] = omega arith
 there a (c ∷ cs) = by (same_pair a c) (there a cs)
   where
@@ -49,7 +49,7 @@ there a (c ∷ cs) = by (same_pair a c) (there a cs)
     by false m = omega arith
 
 -- a key that is there keeps its place while more keys come
-all_kept : (a : List ℕ × PartId) (ks table : List (List ℕ × PartId)) → place_of a table < length table → place_of a (with_pairs ks table) ≡ place_of a table
+pub all_kept : (a : List ℕ × PartId) (ks table : List (List ℕ × PartId)) → place_of a table < length table → place_of a (with_pairs ks table) ≡ place_of a table
 all_kept a [] table l = refl
 all_kept a (k ∷ ks) table l =
     let same = kept a k table l in

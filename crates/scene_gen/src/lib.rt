@@ -2,6 +2,7 @@
 #![tactic(auto)]
 
 pub mod draws;
+pub mod laws;
 pub mod made;
 #[cfg(test)]
 mod tests;
