@@ -16,7 +16,7 @@ use Rattle.str_scene.specs.Drafts.{add_tx, empty_draft, with_drain, with_nodes}
 use Rattle.str_scene.specs.Scenes.{Scene, Session}
 
 -- a scene so far with these sessions and this table of keys
-abbrev over : List Session → List (List ℕ × PartId) → Scene → Scene
+abbrev pub over : List Session → List (List ℕ × PartId) → Scene → Scene
 over ss table d = record d { sessions = ss; keys = record d.keys { names = table } }
 
 -- a session
@@ -47,7 +47,7 @@ scripts_added (ops ∷ rest) ss node txs table d =
     ∙ ap (λ t. over (then_one ss node (txs ++ one ∷ all_numbers more rest)) t d) (sym (with_both (map key_of ops) (flat_map (map key_of) rest) table))
 
 -- sessions
-sessions_added : (rest : List MadeSession) (ss : List Session) (table : List (List ℕ × PartId)) (d : Scene) →
+pub sessions_added : (rest : List MadeSession) (ss : List Session) (table : List (List ℕ × PartId)) (d : Scene) →
     with_sessions rest (over ss table d) ≡ over (ss ++ all_sessions table rest) (with_pairs (keys_of rest) table) d
 unfolding with_sessions
 sessions_added [] ss table d = ap (λ us. over us table d) (sym (append-nil ss))
@@ -61,7 +61,7 @@ sessions_added (s ∷ rest) ss table d =
     ∙ ap (λ t. over (ss ++ session_of s.node txs ∷ all_sessions more rest) t d) (sym (with_both mine (keys_of rest) table))
 
 -- before the first session
-abbrev head : Scene
+abbrev pub head : Scene
 head = with_rows (made_rows 6 1) (with_nodes 3 (empty_draft 1))
 
 -- all items

@@ -10,3 +10,7 @@ pub mod NamedKeys
 pub mod KeyOrder
 pub mod SessionsHold
 pub mod MadeLimits
+pub mod Within
+pub mod Allowed
+pub mod Rooms
+pub mod Starting

@@ -13,7 +13,7 @@ use Rattle.str_scene.specs.Scenes.{Scene}
 
 -- ---- what is still to come of n where p are done
 
-left_one : (n p : ℕ) → p < n → n - p ≡ suc (n - (p + 1))
+pub left_one : (n p : ℕ) → p < n → n - p ≡ suc (n - (p + 1))
 left_one n p l = omega arith
 
 left_none : (n p : ℕ) → n ≤ p → n - p ≡ 0
@@ -42,7 +42,7 @@ rows_end n p d want l h = sym (no_row (p + 1) d) ∙ ap (λ k. with_rows (made_r
 
 -- ---- sessions
 
-one_session : (m p : ℕ) (g : Lcg) (d : Scene) →
+pub one_session : (m p : ℕ) (g : Lcg) (d : Scene) →
     with_sessions (made_sessions m (p + 1) (after_scripts 25 g)) (with_scripts (made_scripts 25 g) (with_session (node_of p) d)) ≡ with_sessions (made_sessions (suc m) p g) d
 unfolding made_sessions with_sessions
 one_session m p g d = refl
@@ -80,7 +80,7 @@ after_sessions_end n p g want l w = sym (after_no_session g) ∙ ap (λ k. after
 
 -- ---- transactions
 
-one_script : (m : ℕ) (g : Lcg) (d : Scene) → with_scripts (made_scripts m (after_script g)) (with_script (script g) d) ≡ with_scripts (made_scripts (suc m) g) d
+pub one_script : (m : ℕ) (g : Lcg) (d : Scene) → with_scripts (made_scripts m (after_script g)) (with_script (script g) d) ≡ with_scripts (made_scripts (suc m) g) d
 unfolding made_scripts with_scripts
 one_script m g d = refl
 

@@ -1,8 +1,13 @@
 //! The made scene of a seed.
-ghost use Rattle.std.specs.Prelude.{◌≡◌, ◌≤◌, IfOk, OnOk, length};
-ghost use Rattle.scene_gen.specs.Building.{numbers, with_entries, with_keys, with_rows, with_script, with_scripts, with_sessions};
-ghost use Rattle.scene_gen.specs.Made.{after_scripts, after_sessions, made_entries, key_of, made, named, node_of, number_in, numbered, row_of, made_rows, made_scripts, made_sessions};
-ghost use Rattle.str_scene.specs.Drafts.{with_key};
+ghost use Rattle.std.specs.Prelude.{◌≡◌, ◌≤◌, IfErr, IfOk, None, OnOk, length, map, true};
+ghost use Rattle.scene_gen.specs.Building.{IsDrawn, IsSmall, TakesScripts, TakesSessions, numbers, with_entries, with_keys, with_rows, with_script, with_scripts, with_sessions};
+ghost use Rattle.scene_gen.specs.Made.{after_scripts, after_sessions, made_entries, key_of, made, named, node_of, number_in, numbered, row_of, made_rows, made_scripts, made_sessions, with_pairs};
+ghost use Rattle.str_base.specs.declared.limits.TheConstants.{KEYS};
+ghost use Rattle.str_scene.specs.Drafts.{empty_draft, may_have_entry, with_key, with_nodes};
+ghost use Rattle.str_scene.specs.Lists.{Each};
+ghost use Rattle.str_scene.specs.Refusals.{key_fault};
+ghost use Rattle.str_scene.specs.SceneLimits.{IsKey};
+ghost use Rattle.str_scene.specs.declared.faults.SceneFault.TheVariants.{Memory};
 
 use crate::draws::{Draws, MadeKey, MadeOp};
 use partition_map::PartRow;
@@ -32,13 +37,15 @@ pub fn make(alloc: Global, seed: u64) -> Result<Scene, AllocError>
 {
     match build_scene(alloc, seed) {
         Ok(scene) => Ok(scene),
-        Err(_) => Err(AllocError),
+        Err(SceneFault::Memory) => Err(AllocError),
+        Err(_) => unreachable!(),
     }
 }
 
 /// The made scene of a seed, built item by item.
 fn build_scene(alloc: Global, seed: u64) -> Result<Scene, SceneFault>
-    ensures { IfOk result (λ s. s ≡ made seed) }
+    ensures scene { IfOk result (λ s. s ≡ made seed) }
+    ensures refused { IfErr result (λ f. f ≡ Memory) }
 {
     let mut draws = Draws::new(seed);
     let mut build = SceneBuild::new(alloc, 1);
@@ -50,9 +57,11 @@ fn build_scene(alloc: Global, seed: u64) -> Result<Scene, SceneFault>
     build.finish()
 }
 
-/// All partitions, each with a master and one slave.
+/// All partitions, each with a master and one slave. It fails where memory runs out, as do those below.
 fn add_parts(build: &mut SceneBuild) -> Result<(), SceneFault>
-    ensures { OnOk result (build.new ≡ with_rows (made_rows 6 1) build.old) }
+    requires { build.old ≡ with_nodes 3 (empty_draft 1) }
+    ensures built { OnOk result (build.new ≡ with_rows (made_rows 6 1) build.old) }
+    ensures refused { IfErr result (λ f. f ≡ Memory) }
 {
     for place in 0..MADE_PARTS {
         build.part(row_of(place + 1))?;
@@ -74,8 +83,11 @@ fn row_of(part: u8) -> PartRow
 
 /// All sessions, one after the other.
 fn add_sessions(build: &mut SceneBuild, draws: &mut Draws) -> Result<(), SceneFault>
+    requires place { TakesSessions build.old }
+    requires room { IsSmall (with_sessions (made_sessions 12 1 draws.old) build.old) }
     ensures built { OnOk result (build.new ≡ with_sessions (made_sessions 12 1 draws.old) build.old) }
     ensures rest { OnOk result (draws.new ≡ after_sessions 12 draws.old) }
+    ensures refused { IfErr result (λ f. f ≡ Memory) }
 {
     for place in 0..MADE_SESSIONS {
         build.session(node_of(place + 1))?;
@@ -94,8 +106,11 @@ fn node_of(session: u8) -> NodeId
 
 /// The transactions of a session.
 fn add_scripts(build: &mut SceneBuild, draws: &mut Draws) -> Result<(), SceneFault>
+    requires place { TakesScripts build.old }
+    requires room { IsSmall (with_scripts (made_scripts 25 draws.old) build.old) }
     ensures built { OnOk result (build.new ≡ with_scripts (made_scripts 25 draws.old) build.old) }
     ensures rest { OnOk result (draws.new ≡ after_scripts 25 draws.old) }
+    ensures refused { IfErr result (λ f. f ≡ Memory) }
 {
     for _place in 0..MADE_TRANSACTIONS {
         let script = draws.script();
@@ -106,8 +121,11 @@ fn add_scripts(build: &mut SceneBuild, draws: &mut Draws) -> Result<(), SceneFau
 
 /// One more transaction, whose keys are put into the table.
 fn add_script(build: &mut SceneBuild, script: &[MadeOp]) -> Result<(), SceneFault>
-    requires { length script.now ≤ 3 }
-    ensures { OnOk result (build.new ≡ with_script script.now build.old) }
+    requires drawn { IsDrawn script.now }
+    requires place { TakesScripts build.old }
+    requires room { IsSmall (with_script script.now build.old) }
+    ensures built { OnOk result (build.new ≡ with_script script.now build.old) }
+    ensures refused { IfErr result (λ f. f ≡ Memory) }
 {
     let ops = all_numbered(build, script)?;
     build.tx(ops)
@@ -115,9 +133,13 @@ fn add_script(build: &mut SceneBuild, script: &[MadeOp]) -> Result<(), SceneFaul
 
 /// Operations by the numbers of their keys, which are put into the table.
 fn all_numbered(build: &mut SceneBuild, script: &[MadeOp]) -> Result<OpList, SceneFault>
-    requires { length script.now ≤ 3 }
+    requires short { length script.now ≤ 3 }
+    requires keys { Each (IsKey 6) (map key_of script.now) }
+    requires place { TakesScripts build.old }
+    requires room { length (with_pairs (map key_of script.now) build.old.keys.names) ≤ KEYS }
     ensures value { IfOk result (λ ops. ops ≡ numbers build.old.keys.names script.now) }
     ensures added { OnOk result (build.new ≡ with_keys script.now build.old) }
+    ensures refused { IfErr result (λ f. f ≡ Memory) }
 {
     let mut ops = OpList::new();
     for op in script {
@@ -129,8 +151,10 @@ fn all_numbered(build: &mut SceneBuild, script: &[MadeOp]) -> Result<OpList, Sce
 
 /// An operation by the number of its key.
 fn numbered(build: &mut SceneBuild, op: MadeOp) -> Result<Op, SceneFault>
+    requires { key_fault (key_of op) build.old ≡ None }
     ensures value { IfOk result (λ o. o ≡ numbered build.old.keys.names op) }
     ensures added { OnOk result (build.new ≡ with_key (key_of op) build.old) }
+    ensures refused { IfErr result (λ f. f ≡ Memory) }
 {
     match op {
         MadeOp::Get(key) => Ok(Op::Get(number_of(build, key)?)),
@@ -141,8 +165,10 @@ fn numbered(build: &mut SceneBuild, op: MadeOp) -> Result<Op, SceneFault>
 
 /// The number of a key, which is put into the table where it is not there.
 fn number_of(build: &mut SceneBuild, key: MadeKey) -> Result<KeyId, SceneFault>
+    requires { key_fault (named key) build.old ≡ None }
     ensures value { IfOk result (λ k. k ≡ number_in build.old.keys.names key) }
     ensures added { OnOk result (build.new ≡ with_key (named key) build.old) }
+    ensures refused { IfErr result (λ f. f ≡ Memory) }
 {
     let name = [b'k', key.digit];
     build.key(&name, key.part)
@@ -150,7 +176,11 @@ fn number_of(build: &mut SceneBuild, key: MadeKey) -> Result<KeyId, SceneFault>
 
 /// The schedule.
 fn add_entries(build: &mut SceneBuild, draws: &mut Draws) -> Result<(), SceneFault>
-    ensures { OnOk result (build.new ≡ with_entries (made_entries 6000 1 draws.old) build.old) }
+    requires place { may_have_entry build.old ≡ true }
+    requires sessions { length build.old.sessions ≡ 12 }
+    requires room { length build.old.schedule ≡ 0 }
+    ensures built { OnOk result (build.new ≡ with_entries (made_entries 6000 1 draws.old) build.old) }
+    ensures refused { IfErr result (λ f. f ≡ Memory) }
 {
     for place in 0..MADE_ENTRIES {
         build.entry(draws.entry(place + 1))?;
