@@ -1,0 +1,11 @@
+pub mod AccountSums
+pub mod ScriptWrites
+pub mod ValuesAfter
+pub mod Amounts
+pub mod Movements
+pub mod Walk
+pub mod Law
+pub mod Tallied
+pub mod Gets
+pub mod FirstUnfit
+pub mod NoBook

@@ -1,0 +1,5 @@
+pub mod BankScenes
+pub mod Books
+pub mod Balances
+pub mod Tallies
+pub mod BankLaw
