@@ -1,5 +1,5 @@
 -- The first transaction that is neither a transfer nor a statement, session after session.
-use Rattle.std.proofs.Common.{List, None, Option, Some, [], add-one, ap, arith, false, get_or, if◌then◌else◌, inl, inr, length, refl, sum_by, slice_get, subst, suc, sym, true, zero, ℕ, ◌+◌, ◌<◌, ◌==◌, ◌∙◌, ◌∷◌, ◌≡◌, ◌≢◌, ◌≤◌, ◌⊎◌}
+use Rattle.std.proofs.Common.{Bool, List, None, Option, Some, [], add-one, ap, arith, eqb-true, false, get_or, if◌then◌else◌, inl, inr, length, refl, sum_by, slice_get, subst, suc, sym, true, zero, ℕ, ◌+◌, ◌<◌, ◌==◌, ◌∙◌, ◌∷◌, ◌≡◌, ◌≢◌, ◌≤◌, ◌⊎◌}
 use Rattle.std.proofs.lemmas.List.Sums.{get_or-le-sum_by}
 use Rattle.std.proofs.lemmas.Option.{get_or_from_slice_get, slice_get-get_or, slice_get_within}
 use Rattle.str_base.specs.declared.limits.TheConstants.{TRANSACTIONS}
@@ -18,11 +18,22 @@ nth_at : {X : Type 0} (xs : List X) (n : ℕ) (x : X) → nth xs n ≡ Some x �
 nth_at xs zero x e = absurd (cc e)
 nth_at xs (suc a) x e = (a, refl, e)
 
+not_zero : (a : ℕ) → (suc a == 0) ≡ false
+not_zero a = by_test (suc a == 0) refl
+  where
+    by_test : (t : Bool) → (suc a == 0) ≡ t → (suc a == 0) ≡ false
+    by_test true e = let q : suc a ≡ 0 = eqb-true (suc a) 0 e in absurd (cc q)
+    by_test false e = e
+
+-- later sessions have no opening
+skipped_later : (a : ℕ) → skipped (suc a) ≡ 0
+skipped_later a = rw (not_zero a) refl
+
 -- a place after the opening is past what is skipped
 past_opening : (p : TxPlace) (a b : ℕ) → p.session.0 ≡ suc a → p.index ≡ suc b → p ≢ opening_place → skipped a ≤ b
 past_opening p zero zero e f n = absurd (n (place_by_numbers p e f))
 past_opening p zero (suc b) e f n = omega arith
-past_opening p (suc a) b e f n = omega arith
+past_opening p (suc a) b e f n = let z : skipped (suc a) ≡ 0 = skipped_later a in subst (λ m. m ≤ b) (sym z) (omega arith)
 
 not_opening : (j n : ℕ) → suc j ≡ 1 → n ≡ 1 → skipped j < n → ⊥
 not_opening zero n e f h = omega arith

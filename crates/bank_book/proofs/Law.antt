@@ -2,7 +2,7 @@
 use Rattle.std.proofs.Common.{Bool, List, None, Option, Some, [], ap, append-nil, arith, false, filter, if◌then◌else◌, inl, inr, length, map, pos, refl, slice_get, subst, suc, sym, take, take_all, true, zero, ℕ, ℤ, ◌&&◌, ◌++◌, ◌+◌, ◌+ℤ◌, ◌<◌, ◌^◌, ◌∙◌, ◌∷◌, ◌≡◌, ◌≢◌, ◌≤◌, ◌⊎◌}
 use Rattle.std.specs.Int.{int_wrap, w64}
 use Rattle.std.specs.List.{list_all, list_any, sum_by}
-use Rattle.std.proofs.lemmas.Int.{ints}
+use Rattle.std.proofs.lemmas.Int.{int_wrap-add_right, ints}
 use Rattle.str_base.proofs.Members.{all_in, at_in}
 use Rattle.str_base.specs.declared.names.KeyId.{KeyId}
 use Rattle.str_base.specs.declared.names.Ts.{Ts}
@@ -26,10 +26,10 @@ use Rattle.si_laws.proofs.CommitLists.SnapshotValues.{members_order}
 use Rattle.bank_book.specs.Balances.{balances_of, holdings, value_after}
 use Rattle.bank_book.specs.BankLaw.{AddUp, AllAbsent, Bank, BankHolds, total}
 use Rattle.bank_book.specs.BankScenes.{IsBank, IsStatement, account, amount, is_among, is_opening, opening_place, opens}
-use Rattle.bank_book.specs.Tallies.{added, tallied, tally}
+use Rattle.bank_book.specs.Tallies.{added, gained, tallied}
 use Rattle.bank_book.proofs.AccountSums.{at_most}
 use Rattle.bank_book.proofs.Amounts.{among_account, amount_deposit, deposit, deposits, deposits_total, held_numbers, held_total, wrap_natural}
-use Rattle.bank_book.proofs.Movements.{none_committed, opening_adds, shifts, some_committed, tally_shifts}
+use Rattle.bank_book.proofs.Movements.{none_committed, opening_adds, gained_shifts, shifts, some_committed}
 use Rattle.bank_book.proofs.ScriptWrites.{statement_gets}
 use Rattle.bank_book.proofs.ValuesAfter.{Front, front, look_front}
 use Rattle.bank_book.proofs.Walk.{Goes, Gone, Good, after_first, at_first, first_has, first_opens, opening_parts, sum_small}
@@ -162,7 +162,7 @@ module _ (scene : Scene) (accounts : List KeyId) (amounts : List ℤ) (all : Lis
 
   tallied_first : (d : Commit) (ds : List Commit) → commits all ≡ d ∷ ds → (op : Op) → In op (script_at scene opening_place) → tallied scene (account op) (amount op) all ≡ value_after (members scene all) (account op)
   tallied_first d ds e op h =
-      rw (some_committed all d ds e) (ap (λ (z : ℤ). Num z) (ap (int_wrap w64) counted ∙ wrap_natural (g.then_has (account op)) few) ∙ sym valued)
+      rw (some_committed all d ds e) (ap (λ (z : ℤ). Num z) (int_wrap-add_right w64 (amount op) (gained scene (account op) all) ∙ (ap (int_wrap w64) counted ∙ wrap_natural (g.then_has (account op)) few)) ∙ sym valued)
     where
       go : Goes scene all [] (d ∷ ds)
       go = all_goes scene all (d ∷ ds) (named all (whole_run scene all run).placed.names) e
@@ -194,9 +194,9 @@ module _ (scene : Scene) (accounts : List KeyId) (amounts : List ℤ) (all : Lis
       sums : (t b a m o s : ℤ) → t ≡ b +ℤ s → a ≡ b → m ≡ o +ℤ s → o ≡ pos 0 → a +ℤ m ≡ t
       sums t b a m o s p q r v = omega (arith, ints)
 
-      counted : tally scene (account op) (amount op) all ≡ pos (g.then_has (account op))
+      counted : amount op +ℤ gained scene (account op) all ≡ pos (g.then_has (account op))
       counted =
-          tally_shifts scene (account op) (amount op) all
+          ap (λ (z : ℤ). amount op +ℤ z) (gained_shifts scene (account op) all)
           ∙ sums (pos (g.then_has (account op))) (pos (deposit op)) (amount op) (shifts scene (account op) (commits all)) (added (account op) (script_at scene d.answer.place)) (shifts scene (account op) ds)
               (g.moves (account op) ∙ (ap (λ n. pos n +ℤ shifts scene (account op) (take (length ds) ds)) (first_has scene accounts amounts all limits bank (whole_run scene all run) d ds go op h)
                   ∙ ap (λ cs. pos (deposit op) +ℤ shifts scene (account op) cs) (take_all (length ds) ds (omega arith))))

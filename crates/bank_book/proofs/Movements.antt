@@ -14,7 +14,7 @@ use Rattle.str_scene.specs.declared.names.Op.TheVariants.{Abort, Add, Del, Get, 
 use Rattle.str_scene.specs.Scenes.{Scene, script_at}
 use Rattle.si_laws.specs.Commits.{Commit, commits, fc_before, insert_commit, with_commit}
 use Rattle.bank_book.specs.BankScenes.{opens}
-use Rattle.bank_book.specs.Tallies.{added, adds, has_committed, moved, tally}
+use Rattle.bank_book.specs.Tallies.{added, adds, gained, has_committed, moved}
 use Rattle.bank_book.proofs.AccountSums.{after, apart, not_same}
 use Rattle.bank_book.proofs.ScriptWrites.{pays}
 
@@ -105,13 +105,13 @@ answers_shifts : (scene : Scene) (k : KeyId) (all : List Answer) → shifts scen
 answers_shifts scene k [] = refl
 answers_shifts scene k (a ∷ all) = with_shifts scene k a a.outcome (commits all) ∙ ap (λ (z : ℤ). moved scene k a +ℤ z) (answers_shifts scene k all)
 
-tally_sum : (scene : Scene) (k : KeyId) (z : ℤ) (all : List Answer) → tally scene k z all ≡ z +ℤ sum_moved scene k all
-tally_sum scene k z [] = ends z
-tally_sum scene k z (a ∷ all) = tally_sum scene k (z +ℤ moved scene k a) all ∙ step z (moved scene k a) (sum_moved scene k all)
+moved_sum : (scene : Scene) (k : KeyId) (z : ℤ) (all : List Answer) → fold (λ (sum : ℤ) (a : Answer). sum +ℤ moved scene k a) z all ≡ z +ℤ sum_moved scene k all
+moved_sum scene k z [] = ends z
+moved_sum scene k z (a ∷ all) = moved_sum scene k (z +ℤ moved scene k a) all ∙ step z (moved scene k a) (sum_moved scene k all)
 
--- the tally of the answers is what the commit list adds
-pub tally_shifts : (scene : Scene) (k : KeyId) (z : ℤ) (all : List Answer) → tally scene k z all ≡ z +ℤ shifts scene k (commits all)
-tally_shifts scene k z all = tally_sum scene k z all ∙ ap (λ (s : ℤ). z +ℤ s) (sym (answers_shifts scene k all))
+-- what the answers add is what the commit list adds
+pub gained_shifts : (scene : Scene) (k : KeyId) (all : List Answer) → gained scene k all ≡ shifts scene k (commits all)
+gained_shifts scene k all = moved_sum scene k (pos 0) all ∙ (sym (nothing_more (sum_moved scene k all)) ∙ sym (answers_shifts scene k all))
 
 -- ---- whether anything has committed
 

@@ -35,14 +35,12 @@ use Rattle.bank_book.specs.BankScenes.{Fits, IsBank, IsStatement, IsTransfer, ac
 use Rattle.bank_book.specs.Tallies.{added}
 use Rattle.bank_book.proofs.AccountSums.{after, after_sum, at_most}
 use Rattle.bank_book.proofs.Amounts.{Holds, account_among, amount_deposit, deposit, deposits, deposits_few, gets_more, opened_sum, pays_less}
+use Rattle.bank_book.proofs.FirstUnfit.{place_by_numbers}
 use Rattle.bank_book.proofs.Movements.{shifts, transfer_adds}
 use Rattle.bank_book.proofs.ScriptWrites.{IsPaid, absent_below, find_any, found, is_paid, opened_value, pays, statement_gets}
 use Rattle.bank_book.proofs.ValuesAfter.{both, fc_le, look_after, paid_value, value_wrote}
 
 -- ---- places
-
-place_by_numbers : (p : TxPlace) → p.session.0 ≡ 1 → p.index ≡ 1 → p ≡ opening_place
-place_by_numbers p e f = λ j. record { session = record { 0 = e j }; index = f j }
 
 pub cases_place : (p : TxPlace) → (p ≡ opening_place) ⊎ (p ≢ opening_place)
 cases_place p = by_session (p.session.0 == 1) refl

@@ -38,13 +38,14 @@ has_committed (Aborted cause) = false
 abbrev pub moved : Scene → KeyId → Answer → ℤ
 moved scene k a = if has_committed a.outcome then added k (script_at scene a.place) else pos 0
 
--- an amount and what the answers add to it
-abbrev pub tally : Scene → KeyId → ℤ → List Answer → ℤ
-tally scene k amount all = fold (λ sum a. sum +ℤ moved scene k a) amount all
+-- what the answers add to a key
+abbrev pub gained : Scene → KeyId → List Answer → ℤ
+gained scene k all = fold (λ sum a. sum +ℤ moved scene k a) (pos 0) all
 
 -- the value of an account that is opened with the amount: none before anything has committed
 abbrev pub tallied : Scene → KeyId → ℤ → List Answer → Value
-tallied scene k amount all = if list_any (λ a. has_committed a.outcome) all then Num (int_wrap w64 (tally scene k amount all)) else Absent
+tallied scene k amount all =
+    if list_any (λ a. has_committed a.outcome) all then Num (int_wrap w64 (amount +ℤ int_wrap w64 (gained scene k all))) else Absent
 
 -- each account with its value, where they are opened with these amounts
 abbrev pub tallies : Scene → List Answer → List KeyId → List ℤ → List Got

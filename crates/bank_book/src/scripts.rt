@@ -1,5 +1,6 @@
 //! The scripts of a bank scene: the opening, transfers and statements.
-ghost use Rattle.std.specs.Prelude.{◌≡◌, ◌↔◌, IfOk, IsTrue, list_all, map};
+ghost use Rattle.std.specs.Prelude.{◌≡◌, ◌↔◌, IfOk, IsTrue, map};
+ghost use Rattle.std.specs.List.{list_all};
 ghost use Rattle.bank_book.specs.BankScenes.{Fits, IsStatement, IsTransfer, account as account_of, amount as amount_of, are_distinct, are_gets, is_among, is_amount, is_get, is_opening, opens};
 ghost use Rattle.str_scene.specs.SceneLimits.{IsScene};
 ghost use Rattle.str_scene.specs.Scenes.{script_at};

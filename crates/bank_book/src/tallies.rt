@@ -1,7 +1,8 @@
 //! What the committed transfers come to at an account.
-ghost use Rattle.std.specs.Prelude.{◌≡◌, IfOk, length, list_any};
+ghost use Rattle.std.specs.Prelude.{◌≡◌, IfOk, length, ◌+ℤ◌};
+ghost use Rattle.std.specs.List.{list_any};
 ghost use Rattle.std.specs.Int.{int_wrap, w64};
-ghost use Rattle.bank_book.specs.Tallies.{added as added_to, adds as adds_to, has_committed as is_commit, moved as moved_to, tallied, tallies as all_tallied, tally};
+ghost use Rattle.bank_book.specs.Tallies.{added as added_to, adds as adds_to, has_committed as is_commit, moved as moved_to, gained, tallied, tallies as all_tallied};
 
 use crate::scripts::script;
 use std::alloc::{AllocError, Global};
@@ -37,14 +38,21 @@ fn balance(scene: &Scene, answers: &[Answer], key: KeyId, amount: i64) -> Value
     if !any_committed(answers) {
         return Value::Absent;
     }
-    Value::Num(tally(scene, answers, key, amount))
+    Value::Num(credited(amount, gained(scene, answers, key)))
 }
 
-/// An amount and what the answers add to it, in any order: that sum may leave 64 bits on the way and wraps, and comes back.
-fn tally(scene: &Scene, answers: &[Answer], key: KeyId, amount: i64) -> i64
-    ensures { result ≡ int_wrap w64 (tally scene.now key amount answers.now) }
+/// An amount and what was gained, wrapped to 64 bits.
+fn credited(amount: i64, gained: i64) -> i64
+    ensures { result ≡ int_wrap w64 (amount +ℤ gained) }
 {
-    let mut sum = amount;
+    amount.wrapping_add(gained)
+}
+
+/// What the answers add to a key, in any order: that sum may leave 64 bits on the way and wraps, and comes back.
+fn gained(scene: &Scene, answers: &[Answer], key: KeyId) -> i64
+    ensures { result ≡ int_wrap w64 (gained scene.now key answers.now) }
+{
+    let mut sum: i64 = 0;
     for answer in answers {
         sum = sum.wrapping_add(moved(scene, key, answer));
     }
