@@ -123,3 +123,45 @@ few_scripts scene i s limits l is =
   where
     within : (a b c : ℕ) → a ≤ b → b ≤ c → a ≤ c
     within a b c p q = omega arith
+
+-- ---- one session more
+
+-- the first of the session that is looked at
+pub first_of_session : (scene : Scene) (accounts : List KeyId) (sessions : List Session) (j : ℕ) (s : Session) (txs : List (List Op)) (skips index : ℕ)
+    → sessions ≡ scene.sessions → j < length sessions → s ≡ get_or sessions j s → txs ≡ s.txs → skips ≡ skipped j → Passed accounts sessions j → IsFirstIn accounts txs skips index
+    → IsFirstUnfit scene accounts (record { session = record { 0 = j + 1 }; index = index })
+first_of_session scene accounts sessions j s txs skips index e l is t k passed r =
+    first_here scene accounts j s (record { session = record { 0 = j + 1 }; index = index }) (add-one j)
+    (subst (λ zs. slice_get zs j ≡ Some s) e (slice_get-get_or sessions j s l ∙ ap (λ z. Some z) (sym is)))
+    (subst (λ zs. Passed accounts zs j) e passed)
+    (subst (λ m. IsFirstIn accounts s.txs m index) k (subst (λ ts. IsFirstIn accounts ts skips index) t r))
+
+-- the session that is looked at fits too
+pub passed_more : (accounts : List KeyId) (sessions : List Session) (j : ℕ) (s : Session) (txs : List (List Op)) (skips : ℕ)
+    → j < length sessions → s ≡ get_or sessions j s → txs ≡ s.txs → skips ≡ skipped j → Passed accounts sessions j → AllFitIn accounts txs skips → Passed accounts sessions (j + 1)
+passed_more accounts sessions j s txs skips l is t k passed fit = λ a z b q. by_order a z q (below_or_same a j b)
+  where
+    below_or_same : (a j : ℕ) → a < j + 1 → (a < j) ⊎ (a ≡ j)
+    below_or_same zero zero b = inr refl
+    below_or_same zero (suc j) b = inl (omega arith)
+    below_or_same (suc a) zero b = absurd (omega arith)
+    below_or_same (suc a) (suc j) b = elim (below_or_same a j (omega arith)) [ inl h ↦ inl (omega arith) | inr e ↦ inr (ap suc e) ]
+
+    fit_here : AllFitIn accounts s.txs (skipped j)
+    fit_here = subst (λ m. AllFitIn accounts s.txs m) k (subst (λ ts. AllFitIn accounts ts skips) t fit)
+
+    by_order : (a : ℕ) (z : Session) → slice_get sessions a ≡ Some z → (a < j) ⊎ (a ≡ j) → AllFitIn accounts z.txs (skipped a)
+    by_order a z q (inl h) = passed a z h q
+    by_order a z q (inr e) =
+        let u : Some s ≡ Some z = ap (λ x. Some x) is ∙ (sym (slice_get-get_or sessions j s l) ∙ (ap (slice_get sessions) (sym e) ∙ q)) in
+        let same : s ≡ z = cc u in
+        subst (λ (x : Session). AllFitIn accounts x.txs (skipped a)) same (subst (λ m. AllFitIn accounts s.txs (skipped m)) (sym e) fit_here)
+
+-- all have been looked at
+pub all_passed : (scene : Scene) (accounts : List KeyId) (sessions : List Session) (i : ℕ) → sessions ≡ scene.sessions → length sessions ≤ i → Passed accounts sessions i → AllFit scene accounts
+all_passed scene accounts sessions i e l passed = all_fit_here scene accounts (λ a s q.
+  let r : slice_get sessions a ≡ Some s = ap (λ zs. slice_get zs a) e ∙ q in
+  passed a s (within a (length sessions) i (slice_get_within sessions a s r) l) r)
+  where
+    within : (a n i : ℕ) → a < n → n ≤ i → a < i
+    within a n i p q = omega arith

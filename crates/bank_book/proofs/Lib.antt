@@ -6,6 +6,7 @@ pub mod Movements
 pub mod Walk
 pub mod Law
 pub mod Tallied
+pub mod WrappedSums
 pub mod Gets
 pub mod FirstUnfit
 pub mod NoBook

@@ -2,8 +2,10 @@
 use Rattle.std.proofs.Common.{List, [], add-one, ap, arith, get_or, inl, inr, length, map, refl, subst, suc, sym, take, zero, ℕ, ℤ, ◌++◌, ◌+◌, ◌<◌, ◌∙◌, ◌∷◌, ◌≡◌}
 use Rattle.std.proofs.lemmas.List.{length-take-le, take_more}
 use Rattle.str_base.specs.declared.names.KeyId.{KeyId}
+use Rattle.str_base.specs.declared.names.Value.{Value}
 use Rattle.str_base.specs.Members.{In}
 use Rattle.str_model.specs.declared.messages.Answer.{Answer}
+use Rattle.str_model.specs.declared.names.Got.{Got}
 use Rattle.str_scene.specs.declared.names.Op.{Op}
 use Rattle.str_scene.specs.SceneLimits.{IsScene}
 use Rattle.str_scene.specs.Scenes.{Scene, script_at}
@@ -54,3 +56,10 @@ pub tallies_more : (scene : Scene) (all : List Answer) (ks : List KeyId) (ns : L
 tallies_more scene all ks ns i d e p q =
     (λ j. tallies scene all (take_more ks i d p j) (take_more ns i e q j))
     ∙ tallies_push scene all (take i ks) (take i ns) (get_or ks i d) (get_or ns i e) (length-take-le i ks (omega arith) ∙ sym (length-take-le i ns (omega arith)))
+
+-- in the list that the code makes
+pub tallies_pushed : (scene : Scene) (all : List Answer) (ks : List KeyId) (ns : List ℤ) (i : ℕ) (d : KeyId) (e number : ℤ) (v : Value) (had have : List Got) → i < length ks → length ks ≡ length ns
+    → had ≡ tallies scene all (take i ks) (take i ns) → number ≡ get_or ns i e → v ≡ tallied scene (get_or ks i d) number all → have ≡ had ++ record { key = get_or ks i d; value = v } ∷ []
+    → have ≡ tallies scene all (take (i + 1) ks) (take (i + 1) ns)
+tallies_pushed scene all ks ns i d e number v had have l same p n q r =
+    r ∙ ((λ j. p j ++ record { key = get_or ks i d; value = (q ∙ ap (λ z. tallied scene (get_or ks i d) z all) n) j } ∷ []) ∙ sym (tallies_more scene all ks ns i d e l (subst (λ m. i < m) same l)))
