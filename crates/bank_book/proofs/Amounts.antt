@@ -1,16 +1,15 @@
 -- Amounts of an opening, values that accounts hold, and their sums as numbers with a sign.
-use Rattle.std.proofs.Common.{Bool, FitsSigned, List, Option, Some, [], ap, arith, false, inl, inr, length, ltb-true, map, neg_ℤ, negsuc, nat_lt, not, pos, refl, subst, suc, sym, true, zero, ℕ, ℤ, ◌&&◌, ◌*◌, ◌+◌, ◌+ℤ◌, ◌-◌, ◌<◌, ◌^◌, ◌∙◌, ◌∷◌, ◌≡◌, ◌≤◌, ◌⊎◌, ◌||◌}
-use Rattle.std.specs.Int.{int_wrap, int_wrapping_add, w64}
+use Rattle.std.proofs.Common.{FitsSigned, List, [], ap, arith, inl, inr, length, ltb-true, map, neg_ℤ, negsuc, pos, refl, subst, suc, sym, true, zero, ℕ, ℤ, ◌*◌, ◌+◌, ◌+ℤ◌, ◌-◌, ◌<◌, ◌^◌, ◌∙◌, ◌∷◌, ◌≡◌, ◌≤◌}
+use Rattle.std.specs.Int.{int_wrap, w64}
 use Rattle.std.specs.Int.RustNames.{unsigned_abs}
 use Rattle.std.specs.List.{fold, list_all, sum_by}
 use Rattle.std.proofs.lemmas.Bool.{and_parts, or_cases, or_left, or_right}
 use Rattle.std.proofs.lemmas.Int.{int_wrap_fits, ints, wrapping_add_is}
 use Rattle.std.proofs.lemmas.List.Sums.{sum_by-cons}
-use Rattle.str_base.proofs.Members.{all_in}
 use Rattle.str_base.proofs.SameNames.{is-same_key, same_key-is}
 use Rattle.str_base.specs.declared.names.KeyId.{KeyId}
 use Rattle.str_base.specs.declared.names.Value.{Value}
-use Rattle.str_base.specs.declared.names.Value.TheVariants.{Absent, Num}
+use Rattle.str_base.specs.declared.names.Value.TheVariants.{Num}
 use Rattle.str_base.specs.Members.{In}
 use Rattle.str_base.specs.Values.{number_or_zero, sum_with}
 use Rattle.str_base.specs.Versions.{same_key}
@@ -20,7 +19,6 @@ use Rattle.si_laws.specs.Commits.{Member}
 use Rattle.bank_book.specs.Balances.{holdings, value_after}
 use Rattle.bank_book.specs.BankLaw.{total}
 use Rattle.bank_book.specs.BankScenes.{account, amount, is_among, opens}
-use Rattle.bank_book.specs.Tallies.{added, adds}
 
 -- ---- the amounts of an opening
 

@@ -1,7 +1,7 @@
 -- The first transaction that is neither a transfer nor a statement, session after session.
-use Rattle.std.proofs.Common.{Bool, List, None, Option, Some, [], add-one, ap, arith, eqb-true, false, get_or, if◌then◌else◌, inl, inr, length, refl, sum_by, slice_get, subst, suc, sym, true, zero, ℕ, ◌+◌, ◌<◌, ◌==◌, ◌∙◌, ◌∷◌, ◌≡◌, ◌≢◌, ◌≤◌, ◌⊎◌}
+use Rattle.std.proofs.Common.{Bool, List, Some, add-one, ap, arith, eqb-true, false, get_or, inl, inr, length, refl, sum_by, slice_get, subst, suc, sym, true, zero, ℕ, ◌+◌, ◌<◌, ◌==◌, ◌∙◌, ◌≡◌, ◌≢◌, ◌≤◌, ◌⊎◌}
 use Rattle.std.proofs.lemmas.List.Sums.{get_or-le-sum_by}
-use Rattle.std.proofs.lemmas.Option.{get_or_from_slice_get, slice_get-get_or, slice_get_within}
+use Rattle.std.proofs.lemmas.Option.{slice_get-get_or, slice_get_within}
 use Rattle.str_base.specs.declared.limits.TheConstants.{TRANSACTIONS}
 use Rattle.str_base.specs.declared.names.KeyId.{KeyId}
 use Rattle.str_scene.specs.declared.names.Op.{Op}
@@ -160,8 +160,8 @@ passed_more accounts sessions j s txs skips l is t k passed fit = λ a z b q. by
 -- all have been looked at
 pub all_passed : (scene : Scene) (accounts : List KeyId) (sessions : List Session) (i : ℕ) → sessions ≡ scene.sessions → length sessions ≤ i → Passed accounts sessions i → AllFit scene accounts
 all_passed scene accounts sessions i e l passed = all_fit_here scene accounts (λ a s q.
-  let r : slice_get sessions a ≡ Some s = ap (λ zs. slice_get zs a) e ∙ q in
-  passed a s (within a (length sessions) i (slice_get_within sessions a s r) l) r)
+    let r : slice_get sessions a ≡ Some s = ap (λ zs. slice_get zs a) e ∙ q in
+    passed a s (within a (length sessions) i (slice_get_within sessions a s r) l) r)
   where
     within : (a n i : ℕ) → a < n → n ≤ i → a < i
     within a n i p q = omega arith

@@ -1,9 +1,8 @@
 -- A statement, told by its operations one after the other.
-use Rattle.std.proofs.Common.{Bool, IsTrue, List, [], ap, arith, eqb-true, false, inl, inr, length, map, refl, subst, sym, true, ℕ, ◌&&◌, ◌==◌, ◌∙◌, ◌∷◌, ◌≡◌}
+use Rattle.std.proofs.Common.{Bool, IsTrue, List, [], ap, arith, eqb-true, length, map, refl, sym, true, ◌∙◌, ◌∷◌, ◌≡◌}
 use Rattle.std.proofs.lemmas.Bool.{and_parts}
 use Rattle.str_base.proofs.SameNames.{is-same_key, same_key-is}
 use Rattle.str_base.specs.declared.names.KeyId.{KeyId}
-use Rattle.str_base.specs.Versions.{same_key}
 use Rattle.str_scene.specs.declared.names.Op.{Op}
 use Rattle.str_scene.specs.declared.names.Op.TheVariants.{Abort, Add, Del, Get, Need, Put, Puts}
 use Rattle.bank_book.specs.BankScenes.{IsStatement, are_gets, is_get}

@@ -1,31 +1,30 @@
 -- The law Bank, and the balances by a tally.
-use Rattle.std.proofs.Common.{Bool, List, None, Option, Some, [], ap, append-nil, arith, false, filter, if◌then◌else◌, inl, inr, length, map, pos, refl, slice_get, subst, suc, sym, take, take_all, true, zero, ℕ, ℤ, ◌&&◌, ◌++◌, ◌+◌, ◌+ℤ◌, ◌<◌, ◌^◌, ◌∙◌, ◌∷◌, ◌≡◌, ◌≢◌, ◌≤◌, ◌⊎◌}
+use Rattle.std.proofs.Common.{List, None, Option, Some, [], ap, arith, filter, inl, inr, length, map, pos, refl, slice_get, subst, suc, sym, take, take_all, true, zero, ℕ, ℤ, ◌++◌, ◌+ℤ◌, ◌<◌, ◌^◌, ◌∙◌, ◌∷◌, ◌≡◌, ◌≢◌, ◌≤◌, ◌⊎◌}
 use Rattle.std.specs.Int.{int_wrap, w64}
-use Rattle.std.specs.List.{list_all, list_any, sum_by}
+use Rattle.std.specs.List.{list_all, sum_by}
 use Rattle.std.proofs.lemmas.Int.{int_wrap-add_right, ints}
 use Rattle.str_base.proofs.Members.{all_in, at_in}
 use Rattle.str_base.specs.declared.names.KeyId.{KeyId}
 use Rattle.str_base.specs.declared.names.Ts.{Ts}
 use Rattle.str_base.specs.declared.names.Value.{Value}
-use Rattle.str_base.specs.declared.names.Value.TheVariants.{Absent, Num}
+use Rattle.str_base.specs.declared.names.Value.TheVariants.{Num}
 use Rattle.str_base.specs.Members.{In}
-use Rattle.str_base.specs.Values.{number_or_zero}
 use Rattle.str_model.specs.declared.messages.Answer.{Answer}
 use Rattle.str_model.specs.declared.messages.Outcome.{Outcome}
-use Rattle.str_model.specs.declared.messages.Outcome.TheVariants.{Aborted, Committed}
+use Rattle.str_model.specs.declared.messages.Outcome.TheVariants.{Committed}
 use Rattle.str_model.specs.declared.names.Got.{Got}
 use Rattle.str_model.specs.Evaluation.{AtEnd, Evaluated, eval}
 use Rattle.str_scene.specs.declared.names.Op.{Op}
 use Rattle.str_scene.specs.SceneLimits.{IsScene}
 use Rattle.str_scene.specs.Scenes.{Scene, script_at}
-use Rattle.si_laws.specs.Commits.{Commit, Member, commits, counts_for, evaluated, look_up, member_of, members, members_from, seen}
+use Rattle.si_laws.specs.Commits.{Commit, Member, commits, counts_for, look_up, member_of, members, members_from, seen}
 use Rattle.si_laws.specs.SnapshotIsolation.{IsCommittedSnapshot, IsFinal, SI, SIRun}
 use Rattle.si_laws.proofs.CommitLists.CommitMembers.{filter_all, members_rest, rest}
 use Rattle.si_laws.proofs.CommitLists.CommitOrder.{InOrder, Named, commits_order, named}
 use Rattle.si_laws.proofs.CommitLists.SnapshotValues.{members_order}
-use Rattle.bank_book.specs.Balances.{balances_of, holdings, value_after}
+use Rattle.bank_book.specs.Balances.{holdings, value_after}
 use Rattle.bank_book.specs.BankLaw.{AddUp, AllAbsent, Bank, BankHolds, total}
-use Rattle.bank_book.specs.BankScenes.{IsBank, IsStatement, account, amount, is_among, is_opening, opening_place, opens}
+use Rattle.bank_book.specs.BankScenes.{IsBank, IsStatement, account, amount, is_among, opening_place, opens}
 use Rattle.bank_book.specs.Tallies.{added, gained, tallied}
 use Rattle.bank_book.proofs.AccountSums.{at_most}
 use Rattle.bank_book.proofs.Amounts.{among_account, amount_deposit, deposit, deposits, deposits_total, held_numbers, held_total, wrap_natural}
@@ -140,10 +139,12 @@ module _ (scene : Scene) (accounts : List KeyId) (amounts : List ℤ) (all : Lis
           by_snapshot r =
               let none : fc ≡ None = no_time fc r.2 in
               let every : filter (counts_for a a.outcome) (members scene all) ≡ members scene all =
-                  ap (λ (z : Outcome). filter (counts_for a z) (members scene all)) o ∙ filter_all (counts_for a (Committed fc gets)) (members scene all) (λ m i. counts_all fc none m) in
-              (f.size, ap (map (λ (g : Got). g.value)) (sym r.1 ∙ ap (λ (e : Evaluated). e.gets) gives)
-              ∙ values_of (look_up (filter (counts_for a a.outcome) (members scene all)) a.rs.0) (take f.size (members scene all)) accounts
-                  (λ k. ap (λ ms. look_up ms a.rs.0 k) every ∙ look_front (members scene all) a.rs.0 f k))
+              ap (λ (z : Outcome). filter (counts_for a z) (members scene all)) o ∙ filter_all (counts_for a (Committed fc gets)) (members scene all) (λ m i. counts_all fc none m) in (
+                f.size,
+                ap (map (λ (g : Got). g.value)) (sym r.1 ∙ ap (λ (e : Evaluated). e.gets) gives)
+                    ∙ values_of (look_up (filter (counts_for a a.outcome) (members scene all)) a.rs.0) (take f.size (members scene all)) accounts
+                    (λ k. ap (λ ms. look_up ms a.rs.0 k) every ∙ look_front (members scene all) a.rs.0 f k),
+              )
 
   statements : (a : Answer) (fc : Option Ts) (gets : List Got) → In a all → a.outcome ≡ Committed fc gets → IsStatement accounts (script_at scene a.place)
       → AddUp amounts (map (λ (g : Got). g.value) gets) ⊎ AllAbsent (map (λ (g : Got). g.value) gets)
@@ -198,12 +199,12 @@ module _ (scene : Scene) (accounts : List KeyId) (amounts : List ℤ) (all : Lis
       counted =
           ap (λ (z : ℤ). amount op +ℤ z) (gained_shifts scene (account op) all)
           ∙ sums (pos (g.then_has (account op))) (pos (deposit op)) (amount op) (shifts scene (account op) (commits all)) (added (account op) (script_at scene d.answer.place)) (shifts scene (account op) ds)
-              (g.moves (account op) ∙ (ap (λ n. pos n +ℤ shifts scene (account op) (take (length ds) ds)) (first_has scene accounts amounts all limits bank (whole_run scene all run) d ds go op h)
-                  ∙ ap (λ cs. pos (deposit op) +ℤ shifts scene (account op) cs) (take_all (length ds) ds (omega arith))))
-              (amount_deposit op (all_in opens (script_at scene opening_place) op open_ops h))
-              (ap (shifts scene (account op)) e)
-              (ap (λ p. added (account op) (script_at scene p)) (first_opens scene accounts amounts all limits bank (whole_run scene all run) d ds go)
-                  ∙ opening_adds (account op) (script_at scene opening_place) open_ops)
+          (g.moves (account op) ∙ (ap (λ n. pos n +ℤ shifts scene (account op) (take (length ds) ds)) (first_has scene accounts amounts all limits bank (whole_run scene all run) d ds go op h)
+          ∙ ap (λ cs. pos (deposit op) +ℤ shifts scene (account op) cs) (take_all (length ds) ds (omega arith))))
+          (amount_deposit op (all_in opens (script_at scene opening_place) op open_ops h))
+          (ap (shifts scene (account op)) e)
+          (ap (λ p. added (account op) (script_at scene p)) (first_opens scene accounts amounts all limits bank (whole_run scene all run) d ds go)
+          ∙ opening_adds (account op) (script_at scene opening_place) open_ops)
 
   tallied_by : (cs : List Commit) → commits all ≡ cs → (op : Op) → In op (script_at scene opening_place) → tallied scene (account op) (amount op) all ≡ value_after (members scene all) (account op)
   tallied_by [] e op h = rw (none_committed all e) (sym (ap (λ ms. value_after ms (account op)) (no_members scene all e)))

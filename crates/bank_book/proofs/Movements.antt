@@ -1,5 +1,5 @@
 -- What scripts add to an account, and what the answers add to it, in the order of the commit list or in any other.
-use Rattle.std.proofs.Common.{Bool, List, None, Option, Some, [], ap, arith, false, if◌then◌else◌, inl, inr, neg_ℤ, not, pos, refl, subst, sym, true, ℕ, ℤ, ◌&&◌, ◌+◌, ◌+ℤ◌, ◌-◌, ◌∙◌, ◌∷◌, ◌≡◌, ◌≤◌, ◌⊎◌, ◌||◌}
+use Rattle.std.proofs.Common.{Bool, List, None, Some, [], ap, arith, false, if◌then◌else◌, neg_ℤ, pos, refl, subst, sym, true, ℕ, ℤ, ◌+◌, ◌+ℤ◌, ◌-◌, ◌∙◌, ◌∷◌, ◌≡◌, ◌≤◌, ◌||◌}
 use Rattle.std.specs.List.{fold, list_all, list_any}
 use Rattle.std.proofs.lemmas.Bool.{and_parts}
 use Rattle.std.proofs.lemmas.Int.{ints}

@@ -6,7 +6,7 @@ use Rattle.str_scene.specs.declared.names.Op.{Op}
 use Rattle.str_scene.specs.declared.names.TxPlace.{TxPlace}
 use Rattle.str_scene.specs.Scenes.{Scene, script_at}
 use Rattle.bank_book.specs.BankScenes.{Fits, IsBank, account, amount, is_opening, opening_place}
-use Rattle.bank_book.specs.Books.{AllFit, IsFirstUnfit, IsNoBank, IsNotBankAt, IsReason, no_opening, unfit}
+use Rattle.bank_book.specs.Books.{AllFit, IsFirstUnfit, IsReason, no_opening, unfit}
 
 pub without_opening : (scene : Scene) → is_opening (script_at scene opening_place) ≡ false → IsReason scene (Not opening_place)
 without_opening scene e = (λ accounts amounts bank. absurd (cc (bank.opening, e)), no_opening e refl)
@@ -15,7 +15,7 @@ pub with_unfit : (scene : Scene) (place : TxPlace) (accounts : List KeyId) → i
     → IsFirstUnfit scene accounts place → IsReason scene (Not place)
 with_unfit scene place accounts o e f = (
   λ others amounts bank. f.unfit (subst (λ ks. Fits ks f.script) (bank.opened ∙ sym e) (bank.others place f.script f.there f.after)),
-  unfit o (subst (λ ks. IsFirstUnfit scene ks place) e f)
+  unfit o (subst (λ ks. IsFirstUnfit scene ks place) e f),
 )
 
 pub all_fit : (scene : Scene) (accounts : List KeyId) (amounts : List ℤ) → is_opening (script_at scene opening_place) ≡ true → accounts ≡ map account (script_at scene opening_place)

@@ -1,5 +1,5 @@
 -- What the scripts of a bank write and get.
-use Rattle.std.proofs.Common.{Bool, List, None, Option, Some, [], ap, append-nil, append_assoc, arith, false, find, if◌then◌else◌, inl, inr, lt-ltb, map, neg_ℤ, negsuc, not, pos, refl, subst, sym, true, ℕ, ℤ, ◌&&◌, ◌++◌, ◌<◌, ◌∙◌, ◌∷◌, ◌≡◌, ◌≤◌, ◌⊎◌, ◌||◌}
+use Rattle.std.proofs.Common.{Bool, List, Option, Some, [], ap, append-nil, append_assoc, arith, false, find, if◌then◌else◌, inl, inr, lt-ltb, map, not, pos, refl, subst, sym, true, ℕ, ℤ, ◌++◌, ◌∙◌, ◌∷◌, ◌≡◌, ◌≤◌, ◌||◌}
 use Rattle.std.specs.List.{list_all, list_any}
 use Rattle.std.proofs.lemmas.Bool.{and_parts, not-true, or_parts}
 use Rattle.str_base.proofs.SameNames.{is-same_key, same_key-is}

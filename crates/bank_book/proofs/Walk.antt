@@ -1,13 +1,12 @@
 -- Along the commit list of a bank: what the accounts have after the opening and after each transfer.
-use Rattle.std.proofs.Common.{Bool, List, None, Option, Some, [], ap, append-nil, append_assoc, arith, eq-eqb, eqb-true, false, filter, find, if◌then◌else◌, inl, inr, length, lt-ltb, map, neg_ℤ, not, pos, refl, slice_get, subst, suc, sym, take, true, zero, ℕ, ℤ, ◌&&◌, ◌*◌, ◌++◌, ◌+◌, ◌+ℤ◌, ◌-◌, ◌<◌, ◌==◌, ◌^◌, ◌∙◌, ◌∷◌, ◌≡◌, ◌≢◌, ◌≤◌, ◌⊎◌, ◌||◌}
+use Rattle.std.proofs.Common.{Bool, List, None, Option, Some, [], ap, append-nil, append_assoc, arith, eq-eqb, eqb-true, false, filter, inl, inr, length, lt-ltb, map, neg_ℤ, not, pos, refl, slice_get, subst, suc, sym, take, true, zero, ℕ, ℤ, ◌&&◌, ◌*◌, ◌++◌, ◌+◌, ◌+ℤ◌, ◌-◌, ◌<◌, ◌==◌, ◌^◌, ◌∙◌, ◌∷◌, ◌≡◌, ◌≢◌, ◌≤◌, ◌⊎◌, ◌||◌}
 use Rattle.std.specs.Int.RustNames.{unsigned_abs}
-use Rattle.std.specs.List.{last_or, list_all, list_any, sum_by}
+use Rattle.std.specs.List.{list_all, sum_by}
 use Rattle.std.proofs.lemmas.Bool.{and_parts, or_left, or_right}
 use Rattle.std.proofs.lemmas.Int.{ints}
 use Rattle.str_base.proofs.Lists.{slice_get_there}
 use Rattle.str_base.proofs.Members.{all_in, at_in, in_left}
 use Rattle.str_base.proofs.SameNames.{is-same_key}
-use Rattle.str_base.specs.declared.limits.TheConstants.{OPERATIONS}
 use Rattle.str_base.specs.declared.names.KeyId.{KeyId}
 use Rattle.str_base.specs.declared.names.Value.{Value}
 use Rattle.str_base.specs.declared.names.Value.TheVariants.{Absent, Num}
@@ -17,18 +16,18 @@ use Rattle.str_base.specs.Values.{is_below, number_or_zero, sum_with}
 use Rattle.str_base.specs.Versions.{same_key, stamp}
 use Rattle.str_model.specs.declared.messages.Answer.{Answer}
 use Rattle.str_model.specs.declared.messages.Outcome.{Outcome}
-use Rattle.str_model.specs.declared.messages.Outcome.TheVariants.{Aborted, Committed}
-use Rattle.str_model.specs.Evaluation.{AtEnd, Evaluated, eval, write_or}
+use Rattle.str_model.specs.declared.messages.Outcome.TheVariants.{Committed}
+use Rattle.str_model.specs.Evaluation.{AtEnd, eval, write_or}
 use Rattle.str_model.specs.Owned.{wrote_key}
 use Rattle.str_scene.specs.declared.names.Op.{Op}
 use Rattle.str_scene.specs.declared.names.TxPlace.{TxPlace}
 use Rattle.str_scene.specs.SceneLimits.{Exists, IsScene}
 use Rattle.str_scene.specs.Scenes.{Scene, Session, nth, ops_at, or_none, script_at}
-use Rattle.si_laws.specs.Commits.{Commit, Member, commits, counts_for, evaluated, fc_before, look_up, member_of, members, members_from, seen, written_value}
-use Rattle.si_laws.specs.SnapshotIsolation.{IsAnswer, IsCommittedAt, IsCommittedSnapshot, IsPlaced, SI}
+use Rattle.si_laws.specs.Commits.{Commit, Member, commits, counts_for, evaluated, fc_before, look_up, member_of, members, seen}
+use Rattle.si_laws.specs.SnapshotIsolation.{IsCommittedAt, IsCommittedSnapshot, IsPlaced, SI}
 use Rattle.si_laws.proofs.CommitLists.AnswerAdded.{not_before_itself}
 use Rattle.si_laws.proofs.CommitLists.CommitMembers.{AllBefore, all_before_next, before_first, le_or_above, rest, stands_before}
-use Rattle.si_laws.proofs.CommitLists.CommitOrder.{InOrder, Named, commits_order, in_commits, named}
+use Rattle.si_laws.proofs.CommitLists.CommitOrder.{InOrder, Named, in_commits, named}
 use Rattle.si_laws.proofs.CommitLists.SnapshotValues.{IsOf, is_of, one_time}
 use Rattle.bank_book.specs.Balances.{value_after}
 use Rattle.bank_book.specs.BankScenes.{Fits, IsBank, IsStatement, IsTransfer, account, amount, are_distinct, is_among, is_opening, opening_place, opens}
@@ -37,7 +36,7 @@ use Rattle.bank_book.proofs.AccountSums.{after, after_sum, at_most}
 use Rattle.bank_book.proofs.Amounts.{Holds, account_among, amount_deposit, deposit, deposits, deposits_few, gets_more, opened_sum, pays_less}
 use Rattle.bank_book.proofs.FirstUnfit.{place_by_numbers}
 use Rattle.bank_book.proofs.Movements.{shifts, transfer_adds}
-use Rattle.bank_book.proofs.ScriptWrites.{IsPaid, absent_below, find_any, found, is_paid, opened_value, pays, statement_gets}
+use Rattle.bank_book.proofs.ScriptWrites.{IsPaid, absent_below, find_any, found, is_paid, opened_value, statement_gets}
 use Rattle.bank_book.proofs.ValuesAfter.{both, fc_le, look_after, paid_value, value_wrote}
 
 -- ---- places
@@ -227,9 +226,9 @@ module _ (scene : Scene) (accounts : List KeyId) (amounts : List ℤ) (all : Lis
       wrote_numbers =
           wrote
           ∙ (ap (λ (v : Value). record { key = t.payer; value = v } ∷ record { key = t.payee; value = sum_with (look_up past d.answer.rs.0 t.payee) (pos t.paid) } ∷ [])
-              (ap (λ (v : Value). sum_with v (neg_ℤ (pos t.paid))) payer_seen ∙ pays_less (has t.payer) t.paid enough payer_few t.most)
+          (ap (λ (v : Value). sum_with v (neg_ℤ (pos t.paid))) payer_seen ∙ pays_less (has t.payer) t.paid enough payer_few t.most)
           ∙ ap (λ (v : Value). record { key = t.payer; value = Num (pos (has t.payer - t.paid)) } ∷ record { key = t.payee; value = v } ∷ [])
-              (ap (λ (v : Value). sum_with v (pos t.paid)) payee_seen ∙ gets_more (has t.payee) t.paid payee_few))
+          (ap (λ (v : Value). sum_with v (pos t.paid)) payee_seen ∙ gets_more (has t.payee) t.paid payee_few))
 
       pub good_after : Good accounts sum (past ++ member_of scene past d ∷ []) (after t.payer t.payee t.paid has)
       good_after = record {
@@ -313,10 +312,10 @@ module _ (scene : Scene) (accounts : List KeyId) (amounts : List ℤ) (all : Lis
     first_value : (op : Op) → In op (script_at scene opening_place) → value_after (member_of scene [] d ∷ []) (account op) ≡ Num (amount op)
     first_value op h =
         let w : (evaluated scene [] d.answer).writes ≡ (eval (script_at scene opening_place) (look_up [] d.answer.rs.0)).writes =
-            ap (λ p. (eval (script_at scene p) (look_up [] d.answer.rs.0)).writes) (first_opens d ds go) in
+        ap (λ p. (eval (script_at scene p) (look_up [] d.answer.rs.0)).writes) (first_opens d ds go) in
         let f : found (account op) (evaluated scene [] d.answer).writes ≡ Some (record { key = account op; value = Num (amount op) }) =
-            ap (found (account op)) w
-            ∙ opened_value (look_up [] d.answer.rs.0) (script_at scene opening_place) op [] [] all_open (opening_parts (script_at scene opening_place) bank.opening).1 h in
+        ap (found (account op)) w
+        ∙ opened_value (look_up [] d.answer.rs.0) (script_at scene opening_place) op [] [] all_open (opening_parts (script_at scene opening_place) bank.opening).1 h in
         value_wrote [] (member_of scene [] d) (account op) (find_any (account op) (evaluated scene [] d.answer).writes (record { key = account op; value = Num (amount op) }) f)
         ∙ ap (λ (o : Option Write). write_or o Absent) f
 

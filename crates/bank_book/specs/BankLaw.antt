@@ -35,7 +35,7 @@ pub record Bank (scene : Scene) (accounts : List KeyId) (amounts : List ℤ) (al
   pub begins : (c : Commit) → slice_get (commits all) 0 ≡ Some c → c.answer.place ≡ opening_place
   pub prefixes : (n : ℕ) → take n (members scene all) ≢ [] → AddUp amounts (holdings accounts (take n (members scene all)))
   pub statements : (a : Answer) (fc : Option Ts) (gets : List Got) → In a all → a.outcome ≡ Committed fc gets → IsStatement accounts (script_at scene a.place)
-    → AddUp amounts (map (λ g. g.value) gets) ⊎ AllAbsent (map (λ g. g.value) gets)
+      → AddUp amounts (map (λ g. g.value) gets) ⊎ AllAbsent (map (λ g. g.value) gets)
 
 -- the law
 abbrev pub BankHolds : Type 0

@@ -1,7 +1,7 @@
 -- What transfers do to an account, as a tally of the committed ones.
 use Rattle.std.specs.Int.{int_wrap, w64}
 use Rattle.std.specs.List.{fold, list_any}
-use Rattle.std.specs.Prelude.{Bool, List, None, Option, Some, [], false, if◌then◌else◌, pos, true, ℤ, ◌+ℤ◌, ◌∷◌}
+use Rattle.std.specs.Prelude.{Bool, List, None, Some, [], false, if◌then◌else◌, pos, true, ℤ, ◌+ℤ◌, ◌∷◌}
 use Rattle.str_base.specs.declared.names.KeyId.{KeyId}
 use Rattle.str_base.specs.declared.names.Value.{Value}
 use Rattle.str_base.specs.declared.names.Value.TheVariants.{Absent, Num}

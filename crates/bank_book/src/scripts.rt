@@ -124,7 +124,12 @@ pub(crate) fn is_opening(ops: &[Op], accounts: &[KeyId]) -> bool
 fn is_transfer(accounts: &[KeyId], ops: &[Op]) -> bool
     ensures { IsTrue result ↔ IsTransfer accounts.now ops.now }
 {
-    let [Op::Need(payer, paid), Op::Add(giver, less), Op::Add(payee, more)] = ops else {
+    let [
+        Op::Need(payer, paid),
+        Op::Add(giver, less),
+        Op::Add(payee, more),
+    ] = ops
+    else {
         return false;
     };
     1 <= *paid

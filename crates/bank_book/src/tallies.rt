@@ -63,9 +63,7 @@ fn gained(scene: &Scene, answers: &[Answer], key: KeyId) -> i64
 fn any_committed(answers: &[Answer]) -> bool
     ensures { result ≡ list_any (λ a. is_commit a.outcome) answers.now }
 {
-    answers
-        .iter()
-        .any(|answer| has_committed(&answer.outcome))
+    answers.iter().any(|answer| has_committed(&answer.outcome))
 }
 
 /// Whether an answer is in the commit list.

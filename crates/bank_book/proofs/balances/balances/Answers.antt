@@ -10,5 +10,5 @@ pub returns : goal.returns
 returns c =
     subst (λ gs. IfOk c.tallies.result (λ gots. gots.items ≡ gs))
     (tallies_of c.args.scene.now c.args.book.now.accounts.items c.args.book.now.amounts.items c.args.answers.now.items c.keeps_limits.ensures c.requires.bank c.requires.run
-        c.as_slice.result.now c.as_slice-2.result.now c.as_slice-3.result.now c.as_slice.ensures.value c.as_slice-2.ensures.value c.as_slice-3.ensures.value)
+    c.as_slice.result.now c.as_slice-2.result.now c.as_slice-3.result.now c.as_slice.ensures.value c.as_slice-2.ensures.value c.as_slice-3.ensures.value)
     c.tallies.ensures

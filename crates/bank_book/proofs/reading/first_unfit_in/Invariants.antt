@@ -1,4 +1,3 @@
-use Rattle.std.proofs.Common.{Some, slice_get, ℕ, ◌<◌, ◌≡◌, ◌≤◌}
 use Rattle.bank_book.proofs.FirstUnfit.{FitBefore}
 use Rattle.bank_book.proofs.reading.first_unfit_in.Given as goal
 

@@ -1,4 +1,4 @@
-use Rattle.std.proofs.Common.{take, ℤ, ◌+ℤ◌, ◌≡◌}
+use Rattle.std.proofs.Common.{take, ◌≡◌}
 use Rattle.std.specs.Int.{int_wrap, w64}
 use Rattle.bank_book.specs.Tallies.{gained}
 use Rattle.bank_book.proofs.tallies.gained.Given as goal
