@@ -4,10 +4,13 @@ use Rattle.std.specs.Io.KnownBytes.{Consumes, IsAtEnd}
 use Rattle.str_outer.specs.Causes.{Rose}
 use Rattle.str_scene.specs.Scenes.{Scene}
 use Rattle.strun.proofs.Refusing.{not_refused}
-use Rattle.strun.specs.Inputs.{IsRefusal, IsSpelled, form_of}
-use Rattle.strun.specs.Tops.{Asked, CallFails, Completes, Done, IsPartial, IsRefused, Refuses, TaskFails}
+use Rattle.strun.specs.Failing.{CallFails, TaskFails}
+use Rattle.strun.specs.Inputs.{HasScene, IsRefusal, IsRefused, IsSpelled, Offers, OffersNone, ReadFailed, ReadsNothing, origin_of}
+use Rattle.strun.specs.Tops.{Asked, Completes, Done, IsPartial, PartlyDone, Refuses}
+use Rattle.strun.specs.declared.inputs.Origin.{Origin}
+use Rattle.strun.specs.declared.inputs.Origin.TheVariants.{Input, Seed}
 use Rattle.strun_words.proofs.Apart.{one_task}
-use Rattle.strun_words.specs.Tasks.{AskNothing, IsUnasked, words_of}
+use Rattle.strun_words.specs.Tasks.{AskFor, AskNothing, IsUnasked}
 use Rattle.strun_words.specs.declared.task.Task.{Task}
 use Rattle.top_status.proofs.Whole.{all_read, all_told}
 use Rattle.top_status.specs.Failures.{refusal_of, status_of}
@@ -27,7 +30,7 @@ nothing_asked words left read held write Write u = absurd u
 nothing_asked words left read held write (Refusal said) u = absurd u
 
 -- the task that the words ask for failed
-failed_task : (words : List (List ℕ)) (task : Task) (left left' : Option (List ℕ)) (read read' : ℕ) (held held' : Option (List ℕ)) (write write' : ℕ) (f : Failure) → words ≡ words_of task
+failed_task : (words : List (List ℕ)) (task : Task) (left left' : Option (List ℕ)) (read read' : ℕ) (held held' : Option (List ℕ)) (write write' : ℕ) (f : Failure) → AskFor words task
     → TaskFails task left left' read read' held held' write write' f → CallFails words left left' read read' held held' write write' f
 failed_task words task left left' read read' held held' write write' Usage q h = absurd h
 failed_task words task left left' read read' held held' write write' (Refusal said) q h = ((task, q, h.0), h.1)
@@ -38,12 +41,12 @@ failed_task words task left left' read read' held held' write write' Memory q (i
 
 -- the same of what a task comes to
 pub task_failed : (words : List (List ℕ)) (task : Task) (left left' : Option (List ℕ)) (read read' : ℕ) (held held' : Option (List ℕ)) (write write' : ℕ) (r : Result (Unit {0}) Failure)
-    → words ≡ words_of task → IfErr r (TaskFails task left left' read read' held held' write write') → IfErr r (CallFails words left left' read read' held held' write write')
+    → AskFor words task → IfErr r (TaskFails task left left' read read' held held' write write') → IfErr r (CallFails words left left' read read' held held' write write')
 task_failed words task left left' read read' held held' write write' (Ok u) q h = tt
 task_failed words task left left' read read' held held' write write' (Err f) q h = failed_task words task left left' read read' held held' write write' f q h
 
 -- the task that the words ask for was done
-pub asked_done : {E : Type 0} (words : List (List ℕ)) (task : Task) (left left' held held' : Option (List ℕ)) (r : Result (Unit {0}) E) → words ≡ words_of task
+pub asked_done : {E : Type 0} (words : List (List ℕ)) (task : Task) (left left' held held' : Option (List ℕ)) (r : Result (Unit {0}) E) → AskFor words task
     → OnOk r (Done task left left' held held') → OnOk r (Asked words (λ task. Done task left left' held held'))
 asked_done words task left left' held held' (Err e) q d = tt
 asked_done words task left left' held held' (Ok u) q d = (task, q, d)
@@ -78,13 +81,13 @@ unknown_of words left left' read read' held held' write write' (Err Read) d f n 
 unknown_of words left left' read read' held held' write write' (Err Write) d f n = absurd (n f.1.0 f.1.1)
 unknown_of words left left' read read' held held' write write' (Err Memory) d f n = inr refl
 
--- a read fault comes where the count of the source rose
+-- a read fault comes where the task reads and the count of the source rose
 pub read_of : (words : List (List ℕ)) (left left' : Option (List ℕ)) (read read' : ℕ) (held held' : Option (List ℕ)) (write write' : ℕ) (done : Result (Unit {0}) Failure)
-    → IfErr done (CallFails words left left' read read' held held' write write') → status_of done ≡ ReadFault → Rose read read'
+    → IfErr done (CallFails words left left' read read' held held' write write') → status_of done ≡ ReadFault → Asked words (λ task. ReadFailed (origin_of task) read read')
 read_of words left left' read read' held held' write write' (Ok u) f e = absurd (cc e)
 read_of words left left' read read' held held' write write' (Err Usage) f e = absurd (cc e)
 read_of words left left' read read' held held' write write' (Err (Refusal said)) f e = absurd (cc e)
-read_of words left left' read read' held held' write write' (Err Read) f e = f.0.2
+read_of words left left' read read' held held' write write' (Err Read) f e = f.0
 read_of words left left' read read' held held' write write' (Err Write) f e = absurd (cc e)
 read_of words left left' read read' held held' write write' (Err Memory) f e = absurd (cc e)
 
@@ -121,7 +124,7 @@ partial_of words left left' read read' held held' write write' (Err Memory) f p 
 -- a call that ends refused has refused what it read
 pub refused_of : (words : List (List ℕ)) (left left' : Option (List ℕ)) (read read' : ℕ) (held held' : Option (List ℕ)) (write write' : ℕ) (done : Result (Unit {0}) Failure)
     → IfErr done (CallFails words left left' read read' held held' write write') → status_of done ≡ Refused
-    → Asked words (λ task. IsRefused (form_of task) left left' (refusal_of done))
+    → Asked words (λ task. IsRefused (origin_of task) left left' (refusal_of done))
 refused_of words left left' read read' held held' write write' (Ok u) f e = absurd (cc e)
 refused_of words left left' read read' held held' write write' (Err Usage) f e = absurd (cc e)
 refused_of words left left' read read' held held' write write' (Err (Refusal said)) f e = f.0
@@ -129,59 +132,62 @@ refused_of words left left' read read' held held' write write' (Err Read) f e = 
 refused_of words left left' read read' held held' write write' (Err Write) f e = absurd (cc e)
 refused_of words left left' read read' held held' write write' (Err Memory) f e = absurd (cc e)
 
--- words that ask for a task don't have an input refused that spells a scene for it
-told_not_refused : (words : List (List ℕ)) (task other : Task) (left left' : Option (List ℕ)) (bytes said : List ℕ) (scene : Scene) → words ≡ words_of task → words ≡ words_of other
-    → left ≡ Some bytes → IsSpelled (form_of task) bytes scene → IsRefused (form_of other) left left' said → ⊥
-told_not_refused words task other left left' bytes said scene q p e t g =
-    let one : other ≡ task = one_task other task (sym p ∙ q) in
-    let same : bytes ≡ g.bytes = all_told left left' bytes g.bytes e g.consumed g.whole t.short in
-    not_refused (form_of task) g.bytes said scene (subst (λ (xs : List ℕ). IsSpelled (form_of task) xs scene) same t)
-    (subst (λ (k : Task). IsRefusal (form_of k) g.bytes said) one g.refusal)
+-- an input that spells a scene is not refused
+told_not_refused : (origin : Origin) (left left' : Option (List ℕ)) (said : List ℕ) → Offers origin left → IsRefused origin left left' said → ⊥
+told_not_refused (Input form) left left' said o g =
+    let same : o.0 ≡ g.bytes = all_told left left' o.0 g.bytes o.2 g.consumed g.whole o.3.short in
+    not_refused form g.bytes said o.1 (subst (λ (xs : List ℕ). IsSpelled form xs o.1) same o.3) g.refusal
+told_not_refused (Seed seed) left left' said o g = g
 
--- where the words ask for a task and its input is told, the status is Ok or want of memory
+-- the one task of the words has what another task of the words has
+of_task : {words : List (List ℕ)} (P : Task → Type 0) (task : Task) → AskFor words task → Asked words P → P task
+of_task {words} P task q a = subst P (one_task words a.0 task a.1 q) a.2
+
+-- where the words ask for a task and its scene is offered, the status is Ok or want of memory
 pub complete_of : (words : List (List ℕ)) (left left' : Option (List ℕ)) (read read' : ℕ) (held held' : Option (List ℕ)) (write write' : ℕ) (done : Result (Unit {0}) Failure)
-    → IfErr done (CallFails words left left' read read' held held' write write') → (task : Task) → words ≡ words_of task
-    → Completes (form_of task) left read read' write write' (status_of done)
-complete_of words left left' read read' held held' write write' (Ok u) f task q bytes scene e t r w = inl refl
-complete_of words left left' read read' held held' write write' (Err Usage) f task q bytes scene e t r w = absurd (f.0 task q)
-complete_of words left left' read read' held held' write write' (Err (Refusal said)) f task q bytes scene e t r w =
-    absurd (told_not_refused words task f.0.0 left left' bytes said.items scene q f.0.1 e t f.0.2)
-complete_of words left left' read read' held held' write write' (Err Read) f task q bytes scene e t r w = absurd (r f.0.2)
-complete_of words left left' read read' held held' write write' (Err Write) f task q bytes scene e t r w = absurd (w f.0)
-complete_of words left left' read read' held held' write write' (Err Memory) f task q bytes scene e t r w = inr refl
+    → IfErr done (CallFails words left left' read read' held held' write write') → (task : Task) → AskFor words task
+    → Completes (origin_of task) left read read' write write' (status_of done)
+complete_of words left left' read read' held held' write write' (Ok u) f task q o r w = inl refl
+complete_of words left left' read read' held held' write write' (Err Usage) f task q o r w = absurd (f.0 task q)
+complete_of words left left' read read' held held' write write' (Err (Refusal said)) f task q o r w =
+    absurd (told_not_refused (origin_of task) left left' said.items o (of_task (λ t. IsRefused (origin_of t) left left' said.items) task q f.0))
+complete_of words left left' read read' held held' write write' (Err Read) f task q o r w = absurd (r (of_task (λ t. ReadFailed (origin_of t) read read') task q f.0))
+complete_of words left left' read read' held held' write write' (Err Write) f task q o r w = absurd (w f.0)
+complete_of words left left' read read' held held' write write' (Err Memory) f task q o r w = inr refl
 
--- words that ask for a task don't have a scene read from an input that spells none for it
-no_scene_read : (words : List (List ℕ)) (task other : Task) (left left' : Option (List ℕ)) (bytes taken : List ℕ) (scene : Scene) → words ≡ words_of task → words ≡ words_of other
-    → left ≡ Some bytes → ((s : Scene) → ¬ IsSpelled (form_of task) bytes s) → Consumes left left' taken → IsAtEnd left' → IsSpelled (form_of other) taken scene → ⊥
-no_scene_read words task other left left' bytes taken scene q p e n c a t =
-    let one : other ≡ task = one_task other task (sym p ∙ q) in
-    let same : bytes ≡ taken = all_read left left' bytes taken e c (inr a) t.short in
-    n scene (subst (λ (xs : List ℕ). IsSpelled (form_of task) xs scene) (sym same) (subst (λ (k : Task). IsSpelled (form_of k) taken scene) one t))
+-- no scene is read from an input that spells none
+no_scene_read : (origin : Origin) (left left' : Option (List ℕ)) (scene : Scene) → OffersNone origin left → HasScene origin left left' scene → ⊥
+no_scene_read (Input form) left left' scene o h =
+    let same : o.0 ≡ h.bytes = all_read left left' o.0 h.bytes o.1 h.consumed (inr h.ended) h.spelled.short in
+    o.2 scene (subst (λ (xs : List ℕ). IsSpelled form xs scene) (sym same) h.spelled)
+no_scene_read (Seed seed) left left' scene o h = o
 
 -- where the words ask for a task and what is told spells no scene for it, it is refused, or memory was wanting
 pub refuses_of : (words : List (List ℕ)) (left left' : Option (List ℕ)) (read read' : ℕ) (held held' : Option (List ℕ)) (write write' : ℕ) (done : Result (Unit {0}) Failure)
     → OnOk done (Asked words (λ task. Done task left left' held held')) → IfErr done (CallFails words left left' read read' held held' write write')
-    → (task : Task) → words ≡ words_of task → Refuses (form_of task) left read read' (status_of done)
-refuses_of words left left' read read' held held' write write' (Ok u) d f task q bytes e n r =
-    let g = d.2 in
-    absurd (no_scene_read words task d.0 left left' bytes g.bytes g.scene q d.1 e n g.consumed g.ended g.spelled)
-refuses_of words left left' read read' held held' write write' (Err Usage) d f task q bytes e n r = absurd (f.0 task q)
-refuses_of words left left' read read' held held' write write' (Err (Refusal said)) d f task q bytes e n r = inl refl
-refuses_of words left left' read read' held held' write write' (Err Read) d f task q bytes e n r = absurd (r f.0.2)
-refuses_of words left left' read read' held held' write write' (Err Write) d f task q bytes e n r =
-    let g = f.1.2 in
-    absurd (no_scene_read words task f.1.0 left left' bytes g.bytes g.scene q f.1.1 e n g.consumed g.ended g.spelled)
-refuses_of words left left' read read' held held' write write' (Err Memory) d f task q bytes e n r = inr refl
+    → (task : Task) → AskFor words task → Refuses (origin_of task) left read read' (status_of done)
+refuses_of words left left' read read' held held' write write' (Ok u) d f task q o r =
+    let g = of_task (λ t. Done t left left' held held') task q d in absurd (no_scene_read (origin_of task) left left' g.scene o g.has)
+refuses_of words left left' read read' held held' write write' (Err Usage) d f task q o r = absurd (f.0 task q)
+refuses_of words left left' read read' held held' write write' (Err (Refusal said)) d f task q o r = inl refl
+refuses_of words left left' read read' held held' write write' (Err Read) d f task q o r = absurd (r (of_task (λ t. ReadFailed (origin_of t) read read') task q f.0))
+refuses_of words left left' read read' held held' write write' (Err Write) d f task q o r =
+    let g = of_task (λ t. PartlyDone t left left' held held') task q f.1 in absurd (no_scene_read (origin_of task) left left' g.scene o g.has)
+refuses_of words left left' read read' held held' write write' (Err Memory) d f task q o r = inr refl
+
+-- a task of the words reads nothing where that is told of one
+pub reads_nothing : (words : List (List ℕ)) (task : Task) → AskFor words task → Asked words (λ t. ReadsNothing (origin_of t)) → ReadsNothing (origin_of task)
+reads_nothing words task q a = of_task (λ t. ReadsNothing (origin_of t)) task q a
 
 -- the same of the status that a call ends with
 pub completes : (words : List (List ℕ)) (left left' : Option (List ℕ)) (read read' : ℕ) (held held' : Option (List ℕ)) (write write' : ℕ) (done : Result (Unit {0}) Failure) (status : Status)
-    → status ≡ status_of done → IfErr done (CallFails words left left' read read' held held' write write') → (task : Task) → words ≡ words_of task
-    → Completes (form_of task) left read read' write write' status
+    → status ≡ status_of done → IfErr done (CallFails words left left' read read' held held' write write') → (task : Task) → AskFor words task
+    → Completes (origin_of task) left read read' write write' status
 completes words left left' read read' held held' write write' done status s f task q =
-    subst (λ (k : Status). Completes (form_of task) left read read' write write' k) (sym s) (complete_of words left left' read read' held held' write write' done f task q)
+    subst (λ (k : Status). Completes (origin_of task) left read read' write write' k) (sym s) (complete_of words left left' read read' held held' write write' done f task q)
 
 pub refuses : (words : List (List ℕ)) (left left' : Option (List ℕ)) (read read' : ℕ) (held held' : Option (List ℕ)) (write write' : ℕ) (done : Result (Unit {0}) Failure) (status : Status)
     → status ≡ status_of done → OnOk done (Asked words (λ task. Done task left left' held held')) → IfErr done (CallFails words left left' read read' held held' write write')
-    → (task : Task) → words ≡ words_of task → Refuses (form_of task) left read read' status
+    → (task : Task) → AskFor words task → Refuses (origin_of task) left read read' status
 refuses words left left' read read' held held' write write' done status s d f task q =
-    subst (λ (k : Status). Refuses (form_of task) left read read' k) (sym s) (refuses_of words left left' read read' held held' write write' done d f task q)
+    subst (λ (k : Status). Refuses (origin_of task) left read read' k) (sym s) (refuses_of words left left' read read' held held' write write' done d f task q)

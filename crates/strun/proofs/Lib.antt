@@ -1,5 +1,8 @@
 pub mod WholeRun
+pub mod Behind
 pub mod Written
+pub mod Events
+pub mod Going
 pub mod Said
 pub mod Refusing
 pub mod Doing

@@ -15,7 +15,7 @@ use Rattle.str_scene.specs.Scenes.{Scene}
 use Rattle.str_scene.specs.declared.faults.Why.{Why}
 use Rattle.strun.specs.Inputs.{IsFirstBad, IsRefusal, IsSpelled, Spells, bad_said, too_many}
 use Rattle.strun.specs.Inputs.IsRefusal.{bad, long}
-use Rattle.strun.specs.Tops.{RefusesInput}
+use Rattle.strun.specs.Failing.{RefusesInput}
 use Rattle.strun.specs.declared.inputs.Form.{Form}
 use Rattle.strun.specs.declared.inputs.Form.TheVariants.{Frames, Text}
 use Rattle.top_status.specs.Failures.{RefusesWith}

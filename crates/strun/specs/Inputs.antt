@@ -1,8 +1,11 @@
--- What a task reads, and which bytes are refused.
+-- Where a task has its scene from, and which bytes are refused.
 use Rattle.request_frame.specs.FirstBad.{FirstBad as FirstBadFrame}
 use Rattle.request_frame.specs.Spelling.{IsFrames}
+use Rattle.scene_gen.specs.Made.{made}
 use Rattle.scene_text.specs.FirstBad.{FirstBad as FirstBadLine}
-use Rattle.std.specs.Prelude.{List, codes, decimal, false, length, true, ℕ, ◌++◌, ◌≡◌, ◌≤◌}
+use Rattle.std.specs.Io.KnownBytes.{Consumes, IsAtEnd}
+use Rattle.std.specs.Prelude.{List, Option, Some, codes, decimal, false, length, true, ℕ, ⊤, ◌++◌, ◌≡◌, ◌≤◌, ◌⊎◌}
+use Rattle.str_outer.specs.Causes.{Rose}
 use Rattle.str_scene.specs.SceneLimits.{IsScene}
 use Rattle.str_scene.specs.Scenes.{Scene}
 use Rattle.str_scene.specs.Spelling.{IsText}
@@ -10,15 +13,18 @@ use Rattle.str_scene.specs.declared.faults.Why.{Why}
 use Rattle.str_scene.specs.declared.faults.Why.TheVariants.{Count, Cut, Form as NoForm, Range}
 use Rattle.strun.specs.declared.inputs.Form.{Form}
 use Rattle.strun.specs.declared.inputs.Form.TheVariants.{Frames, Text}
+use Rattle.strun.specs.declared.inputs.Origin.{Origin}
+use Rattle.strun.specs.declared.inputs.Origin.TheVariants.{Input, Seed}
 use Rattle.strun_words.specs.declared.task.Task.{Task}
-use Rattle.strun_words.specs.declared.task.Task.TheVariants.{Pack, Run, Show}
+use Rattle.strun_words.specs.declared.task.Task.TheVariants.{Generate, Pack, Run, Show}
 
--- the form in which a task reads its scene
-abbrev pub form_of : Task → Form
-form_of (Run false) = Text
-form_of (Run true) = Frames
-form_of Pack = Text
-form_of Show = Frames
+-- where a task has its scene from
+abbrev pub origin_of : Task → Origin
+origin_of (Run false journal) = Input Text
+origin_of (Run true journal) = Input Frames
+origin_of Pack = Input Text
+origin_of Show = Input Frames
+origin_of (Generate seed run) = Seed seed
 
 -- the bytes are the spelling of the scene in a form
 abbrev pub Spells : Form → List ℕ → Scene → Type 0
@@ -30,6 +36,38 @@ pub record IsSpelled (form : Form) (bytes : List ℕ) (scene : Scene) : Type 0 w
   pub short : length bytes ≤ 1048576
   pub scene_ : IsScene scene
   pub spelled : Spells form bytes scene
+
+-- the source gave bytes, to its end, that spell this scene
+pub record HasRead (form : Form) (left left' : Option (List ℕ)) (scene : Scene) : Type 0 where
+  pub bytes : List ℕ
+  pub consumed : Consumes left left' bytes
+  pub ended : IsAtEnd left'
+  pub spelled : IsSpelled form bytes scene
+
+-- this is the scene: it was read, or nothing was read and it is the one that is made of the seed
+abbrev pub HasScene : Origin → Option (List ℕ) → Option (List ℕ) → Scene → Type 0
+HasScene (Input form) left left' scene = HasRead form left left' scene
+HasScene (Seed seed) left left' scene = (left' ≡ left) × (scene ≡ made seed)
+
+-- nothing is to be read
+abbrev pub ReadsNothing : Origin → Type 0
+ReadsNothing (Input form) = ⊥
+ReadsNothing (Seed seed) = ⊤
+
+-- a read failed: the source's count rose
+abbrev pub ReadFailed : Origin → ℕ → ℕ → Type 0
+ReadFailed (Input form) read read' = Rose read read'
+ReadFailed (Seed seed) read read' = ⊥
+
+-- the source tells the spelling of a scene, or nothing is to be read
+abbrev pub Offers : Origin → Option (List ℕ) → Type 0
+Offers (Input form) left = (bytes : List ℕ) × (scene : Scene) × (left ≡ Some bytes) × IsSpelled form bytes scene
+Offers (Seed seed) left = ⊤
+
+-- the source tells bytes that spell no scene
+abbrev pub OffersNone : Origin → Option (List ℕ) → Type 0
+OffersNone (Input form) left = (bytes : List ℕ) × (left ≡ Some bytes) × ((scene : Scene) → ¬ IsSpelled form bytes scene)
+OffersNone (Seed seed) left = ⊥
 
 -- the first bad line of a text is the one of this number; the first bad frame is the one that begins at this place
 abbrev pub IsFirstBad : Form → List ℕ → ℕ → Why → Type 0
@@ -60,3 +98,15 @@ bad_said form place why = place_said form ++ decimal place ++ why_said why
 pub data IsRefusal (form : Form) (bytes said : List ℕ) : Type 0 where
   long : length bytes ≡ 1048577 → said ≡ too_many → IsRefusal form bytes said
   bad : (place : ℕ) (why : Why) → length bytes ≤ 1048576 → IsFirstBad form bytes place why → said ≡ bad_said form place why → IsRefusal form bytes said
+
+-- the source was read to its end or to 1,048,577 bytes, and what was read is refused with these words
+pub record HasRefused (form : Form) (left left' : Option (List ℕ)) (said : List ℕ) : Type 0 where
+  pub bytes : List ℕ
+  pub consumed : Consumes left left' bytes
+  pub whole : (length bytes ≡ 1048577) ⊎ IsAtEnd left'
+  pub refusal : IsRefusal form bytes said
+
+-- what is to be read was refused with these words
+abbrev pub IsRefused : Origin → Option (List ℕ) → Option (List ℕ) → List ℕ → Type 0
+IsRefused (Input form) left left' said = HasRefused form left left' said
+IsRefused (Seed seed) left left' said = ⊥

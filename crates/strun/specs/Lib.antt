@@ -1,3 +1,5 @@
 pub mod Inputs
 pub mod Outputs
+pub mod Journal
 pub mod Tops
+pub mod Failing

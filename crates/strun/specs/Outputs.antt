@@ -7,22 +7,26 @@ use Rattle.si_laws.specs.SnapshotIsolation.{SIRun}
 use Rattle.si_laws.specs.SpeculativeIsolation.{SPSI}
 use Rattle.si_laws.specs.TrueCause.{TrueCause}
 use Rattle.spsi_laws.specs.Laws.Ends.{NoneOpen}
-use Rattle.std.specs.Prelude.{List, take, true, ℕ, ⊤, ◌≡◌}
+use Rattle.std.specs.Prelude.{List, false, take, true, ℕ, ⊤, ◌≡◌}
 use Rattle.str_model.specs.Drains.{cluster_events, cluster_run}
-use Rattle.str_model.specs.Lines.{render}
+use Rattle.str_model.specs.Lines.{counts, end_line, render, render_j}
 use Rattle.str_model.specs.Runs.{run}
 use Rattle.str_model.specs.Traces.{trace}
+use Rattle.str_scene.specs.SceneLimits.{IsScene}
 use Rattle.str_scene.specs.Scenes.{Scene}
 use Rattle.str_scene.specs.Spelling.{spelling}
 use Rattle.strun_words.specs.declared.task.Task.{Task}
-use Rattle.strun_words.specs.declared.task.Task.TheVariants.{Pack, Run, Show}
+use Rattle.strun_words.specs.declared.task.Task.TheVariants.{Generate, Pack, Run, Show}
 
--- what a task writes: of its one run the rendering (the events of the schedule, and then those of the drain where it has one), or
--- the scene's frames, or its text
+-- what a task writes: of its one run the rendering (the events of the schedule, and then those of the drain where it has one), with or
+-- without its journal, or the last line alone; or the scene's frames, or its text
 abbrev pub output : Task → Scene → List ℕ
-output (Run frames) scene = render scene (cluster_run scene)
+output (Run frames false) scene = render scene (cluster_run scene)
+output (Run frames true) scene = render_j scene (cluster_run scene)
 output Pack scene = bytes_of (frames_of scene)
 output Show scene = spelling scene
+output (Generate seed false) scene = spelling scene
+output (Generate seed true) scene = end_line (counts scene (cluster_run scene))
 
 -- what is promised of the answers of the run of a scene
 pub record RunHolds (scene : Scene) : Type 0 where
@@ -41,8 +45,10 @@ pub record RunHolds (scene : Scene) : Type 0 where
   -- where the scene has a drain, the last line has `held=0` and `unbegun=0`
   pub closed : scene.drain ≡ true → NoneOpen scene (cluster_run scene)
 
--- what is promised of what a task writes
+-- what is promised of what a task writes; a made scene keeps the limits of a scene
 abbrev pub Promised : Task → Scene → Type 0
-Promised (Run frames) scene = RunHolds scene
+Promised (Run frames journal) scene = RunHolds scene
 Promised Pack scene = ⊤
 Promised Show scene = ⊤
+Promised (Generate seed false) scene = IsScene scene
+Promised (Generate seed true) scene = RunHolds scene

@@ -1,15 +1,19 @@
-//! What a task reads: a scene, as its text or as its frames.
+//! The scene of a task: what it reads as its text or as its frames, or what is made of its seed.
+ghost use Rattle.scene_gen.specs.Made.{made};
 ghost use Rattle.std.specs.Prelude.{◌≡◌, ◌≤◌, length, IfErr, IfOk};
-ghost use Rattle.strun.specs.Inputs.{IsSpelled, bad_said, form_of, place_said, why_said};
-ghost use Rattle.strun.specs.Tops.{RefusesInput};
+ghost use Rattle.str_scene.specs.SceneLimits.{IsScene};
+ghost use Rattle.strun.specs.Inputs.{HasRead, HasScene, IsSpelled, ReadsNothing, bad_said, origin_of, place_said, why_said};
+ghost use Rattle.strun.specs.Failing.{IsWant, RefusesInput, SceneFails};
 ghost use Rattle.top_status.specs.Failures.{RefusesWith};
 
 use request_frame::{FrameFault, read_frames};
+use scene_gen::make;
 use scene_text::{TextFault, read_scene};
 use std::alloc::Global;
+use str_outer::Source;
 use str_scene::{Scene, Why};
 use strun_words::Task;
-use top_status::{Failure, refuse, refuse_at};
+use top_status::{Failure, read_input, refuse, refuse_at};
 
 /// The form of a scene that is read.
 #[derive(Clone, Copy, Debug, PartialEq, Eq)]
@@ -20,18 +24,63 @@ pub enum Form {
     Frames,
 }
 
-/// The form in which a task reads its scene.
-pub(crate) fn form_of(task: Task) -> Form
-    ensures { result ≡ form_of task }
+/// Where a task has its scene from.
+#[derive(Clone, Copy, Debug, PartialEq, Eq)]
+pub enum Origin {
+    /// It is read in this form.
+    Input(Form),
+    /// It is made of this seed, and nothing is read.
+    Seed(u64),
+}
+
+/// Where a task has its scene from.
+pub(crate) fn origin_of(task: Task) -> Origin
+    ensures { result ≡ origin_of task }
 {
     match task {
-        Task::Run { frames: false } | Task::Pack => Form::Text,
-        Task::Run { frames: true } | Task::Show => Form::Frames,
+        Task::Run { frames: false, .. } | Task::Pack => Origin::Input(Form::Text),
+        Task::Run { frames: true, .. } | Task::Show => Origin::Input(Form::Frames),
+        Task::Generate { seed, .. } => Origin::Seed(seed),
     }
 }
 
+/// The scene of a task. Where nothing is to be read the source stays as it was.
+pub(crate) fn take_scene<S: Source>(
+    alloc: Global,
+    origin: Origin,
+    src: &mut S,
+) -> Result<Scene, Failure>
+    ensures taken { IfOk result (λ scene. HasScene origin (S.left src.old) (S.left src.new) scene) }
+    ensures limits { IfOk result (λ scene. IsScene scene) }
+    ensures failed { IfErr result (SceneFails origin (S.left src.old) (S.left src.new) (S.faults src.old) (S.faults src.new)) }
+    ensures unread { ReadsNothing origin → src.new ≡ src.old }
+{
+    match origin {
+        Origin::Input(form) => read_form(alloc, form, src),
+        Origin::Seed(seed) => made_scene(alloc, seed),
+    }
+}
+
+/// The scene that is made of a seed.
+fn made_scene(alloc: Global, seed: u64) -> Result<Scene, Failure>
+    ensures made { IfOk result (λ scene. scene ≡ made seed) }
+    ensures limits { IfOk result (λ scene. IsScene scene) }
+    ensures failed { IfErr result IsWant }
+{
+    Ok(make(alloc, seed)?)
+}
+
+/// Reads a scene in this form.
+fn read_form<S: Source>(alloc: Global, form: Form, src: &mut S) -> Result<Scene, Failure>
+    ensures taken { IfOk result (λ scene. HasRead form (S.left src.old) (S.left src.new) scene) }
+    ensures failed { IfErr result (SceneFails (Origin.Input form) (S.left src.old) (S.left src.new) (S.faults src.old) (S.faults src.new)) }
+{
+    let bytes = read_input(alloc, src)?;
+    accept(alloc, form, bytes.as_slice())
+}
+
 /// The scene that bytes spell. All other bytes are refused.
-pub(crate) fn accept(alloc: Global, form: Form, bytes: &[u8]) -> Result<Scene, Failure>
+fn accept(alloc: Global, form: Form, bytes: &[u8]) -> Result<Scene, Failure>
     requires { length bytes.now ≤ 1048577 }
     ensures accepted { IfOk result (λ scene. IsSpelled form bytes.now scene) }
     ensures refused { IfErr result (RefusesInput form bytes.now) }
@@ -44,7 +93,6 @@ pub(crate) fn accept(alloc: Global, form: Form, bytes: &[u8]) -> Result<Scene, F
         Form::Frames => accept_frames(alloc, bytes),
     }
 }
-
 /// The scene of a text.
 fn accept_text(alloc: Global, text: &[u8]) -> Result<Scene, Failure>
     requires { length text.now ≤ 1048576 }

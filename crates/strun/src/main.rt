@@ -1,7 +1,9 @@
-//! The program `strun`: it runs a scene and writes the released answers, or writes a scene's text as frames, or the other way.
+//! The program `strun`: it runs a scene and writes the released answers, or writes a scene's text as frames or the other way, or makes
+//! a scene.
 #![tactic(auto)]
 
 mod inputs;
+mod journal;
 #[cfg(test)]
 mod tests;
 mod tops;

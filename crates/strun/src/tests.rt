@@ -34,6 +34,16 @@ const ONE_PUT_FRAMES: &[u8] =
 const ONE_PUT_LINES: &[u8] =
     b"1.1 s1/1 commit rs=10 fc=11\nend commits=1 aborts=0 held=0 unbegun=0 messages=0\n";
 
+const ONE_PUT_JOURNAL: &[u8] =
+    b"j c 1 10\nj c 1 0\nj c 1 0\n1.1 s1/1 commit rs=10 fc=11\nend commits=1 aborts=0 held=0 unbegun=0 messages=0\n";
+
+const EARLY_JOURNAL: &[u8] =
+    b"j c 1 10\nj c 1 0\nj c 1 0\nj c 2 0\nj c 2 0\nj c 2 0\nj c 2 0\nj d 2\nj d 3\nj d 1\nj d 4\n\
+    1.1 s1/1 commit rs=10 fc=11\n1.2 s2/1 commit rs=11 fc=12 a@1=1\nj d 5\nj d 6\nend commits=2 aborts=0 held=0 unbegun=0 messages=6\n";
+
+/// The last line of the run of the scene that is made of 7.
+const SEVEN_END: &[u8] = b"end commits=287 aborts=13 held=0 unbegun=0 messages=1451\n";
+
 /// A call: its words, its input, which read and which write are to fail (0: none), and what comes of it.
 #[derive(Clone, Copy)]
 struct Call {
@@ -55,11 +65,17 @@ fn failing(alloc: Global, call: u64) -> Result<Vec<u64>, AllocError> {
     Ok(calls)
 }
 
-fn check(rt: &(impl Abort + AllocGlobal), call: &Call) -> Result<(), Fail> {
-    let mut words = Vec::new(rt.alloc());
-    for word in call.words {
-        words.push(String::from_str(rt.alloc(), *word)?)?;
+/// The words, owned.
+fn owned(alloc: Global, texts: &[&str]) -> Result<Vec<String>, AllocError> {
+    let mut words = Vec::new(alloc);
+    for text in texts {
+        words.push(String::from_str(alloc, *text)?)?;
     }
+    Ok(words)
+}
+
+fn check(rt: &(impl Abort + AllocGlobal), call: &Call) -> Result<(), Fail> {
+    let words = owned(rt.alloc(), call.words)?;
     let text = call.text.to_vec(rt.alloc())?;
     let mut src = MemSource::new(text, failing(rt.alloc(), call.failing_read)?, 8);
     let mut out = MemSink::new(rt.alloc(), failing(rt.alloc(), call.failing_write)?, 16);
@@ -300,4 +316,95 @@ fn frames(rt: HostRuntime) -> Result<(), Fail> {
             ..packs
         },
     )
+}
+
+#[test]
+fn journals(rt: HostRuntime) -> Result<(), Fail> {
+    let early = Call {
+        words: &["run", "--journal"],
+        text: EARLY,
+        failing_read: 0,
+        failing_write: 0,
+        status: Status::Ok,
+        out: EARLY_JOURNAL,
+        err: b"",
+    };
+    check(&rt, &early)?;
+    check(
+        &rt,
+        &Call {
+            words: &["run", "--frames", "--journal"],
+            text: ONE_PUT_FRAMES,
+            out: ONE_PUT_JOURNAL,
+            ..early
+        },
+    )?;
+    check(
+        &rt,
+        &Call {
+            failing_write: 3,
+            status: Status::WriteFault,
+            out: &EARLY_JOURNAL[..32],
+            err: b"strun: write fault\n",
+            ..early
+        },
+    )?;
+    check(
+        &rt,
+        &Call {
+            words: &["run", "--journal", "--frames"],
+            status: Status::Usage,
+            out: b"",
+            err: b"strun: usage\n",
+            ..early
+        },
+    )
+}
+
+#[test]
+fn made_scenes(rt: HostRuntime) -> Result<(), Fail> {
+    // Nothing is read, so that the first read would fail changes nothing.
+    let seven = Call {
+        words: &["gen", "7", "--run"],
+        text: b"x",
+        failing_read: 1,
+        failing_write: 0,
+        status: Status::Ok,
+        out: SEVEN_END,
+        err: b"",
+    };
+    check(&rt, &seven)?;
+    let unknown = Call {
+        words: &["gen", "07"],
+        status: Status::Usage,
+        out: b"",
+        err: b"strun: usage\n",
+        ..seven
+    };
+    check(&rt, &unknown)?;
+    check(
+        &rt,
+        &Call {
+            words: &["gen", "-1"],
+            ..unknown
+        },
+    )
+}
+
+/// What a call writes of a text, in a few writes.
+fn output_of(alloc: Global, words: &[&str], text: Vec<u8>) -> Result<Vec<u8>, Fail> {
+    let words = owned(alloc, words)?;
+    let mut src = MemSource::new(text, Vec::new(alloc), 65_536);
+    let mut out = MemSink::new(alloc, Vec::new(alloc), 65_536);
+    let mut err = MemSink::new(alloc, Vec::new(alloc), 65_536);
+    let _ = top(alloc, words.as_slice(), &mut src, &mut out, &mut err);
+    Ok(out.bytes().to_vec(alloc)?)
+}
+
+#[test]
+fn a_made_text_is_run(rt: HostRuntime) -> Result<(), Fail> {
+    let text = output_of(rt.alloc(), &["gen", "7"], Vec::new(rt.alloc()))?;
+    let lines = output_of(rt.alloc(), &["run"], text)?;
+    assert!(rt; lines.as_slice().ends_with(SEVEN_END));
+    Ok(())
 }

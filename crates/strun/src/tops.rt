@@ -1,36 +1,37 @@
 //! The top call of the program.
-ghost use Rattle.std.specs.Prelude.{◌≡◌, ◌⊎◌, map, OnErr, OnOk, IfErr, IfOk};
+ghost use Rattle.std.specs.Prelude.{◌≡◌, ◌⊎◌, map, OnErr, OnOk, IfErr};
 ghost use Rattle.std.specs.String.{string_bytes};
 ghost use Rattle.std.specs.Io.KnownBytes.{Appends};
-ghost use Rattle.str_model.specs.Drains.{cluster_run};
-ghost use Rattle.str_model.specs.Lines.{render};
 ghost use Rattle.str_outer.specs.Causes.{Rose};
 ghost use Rattle.str_outer.specs.Pieces.{AppendsPrefix};
-ghost use Rattle.strun.specs.Inputs.{form_of};
+ghost use Rattle.strun.specs.Failing.{CallFails, TaskFails};
+ghost use Rattle.strun.specs.Inputs.{ReadFailed, ReadsNothing, origin_of};
 ghost use Rattle.strun.specs.Outputs.{output};
-ghost use Rattle.strun.specs.Tops.{Asked, CallFails, Completes, Done, IsPartial, IsTold, Refuses, TaskFails, own_name};
-ghost use Rattle.strun_words.specs.Tasks.{AskNothing, words_of};
+ghost use Rattle.strun.specs.Tops.{Asked, Completes, Done, IsPartial, IsTold, Refuses, own_name};
+ghost use Rattle.strun_words.specs.Tasks.{AskFor, AskNothing};
 ghost use Rattle.top_status.specs.Failures.{HasWriteCause, refusal_of, status_of};
 ghost use Rattle.top_status.specs.Statuses.{IsQuiet, IsStopped, line_of};
 ghost use Rattle.top_status.specs.Telling.{Tells};
 
-use crate::inputs::{accept, form_of};
-use crate::writing::write_cluster;
-use cluster_run::Cluster;
+use crate::inputs::{origin_of, take_scene};
+use crate::journal::write_journal;
+use crate::writing::{write_end, write_run};
 use request_frame::write_frames;
 use scene_text::write_scene;
-use std::alloc::{AllocError, Global};
+use std::alloc::Global;
 use str_outer::{Sink, Source};
 use str_scene::Scene;
 use strun_words::{Task, read_task};
-use top_status::{Failure, Status, answer, read_input, write_piece};
+use top_status::{Failure, Status, answer, write_piece};
 
-/// Does what the words ask for: `run` reads the text of a scene, and `run --frames` its frames, runs it, and writes the
-/// answers and the end line; `pack` writes the frames of a text's scene, and `show` the text of the frames' scene.
+/// Does what the words ask for. `run` reads the text of a scene, and `run --frames` its frames, runs it, and writes the answers and
+/// the last line; with `--journal` each event has a line before its answers. `pack` writes the frames of a text's scene, and `show`
+/// the text of the frames' scene. `gen N` reads nothing and writes the text of the scene that is made of N; with `--run` it runs that
+/// scene and writes the last line alone.
 ///
-/// It reads `src` to its end or to 1,048,577 bytes. Where the status isn't `Ok`, one line is written on `err`; a
-/// refusal of `err` changes no status. Refused are more than 1,048,576 bytes, a text with a bad line and frames with a
-/// bad frame; the line says which.
+/// Where it reads `src`, it does so to its end or to 1,048,577 bytes. Where the status isn't `Ok`, one line is written on `err`; a
+/// refusal of `err` changes no status. Refused are more than 1,048,576 bytes, a text with a bad line and frames with a bad frame; the
+/// line says which. After a write fault or want of memory `out` has taken a prefix of what would have been written.
 ///
 /// What is written, and what is promised of it, is the clause `done`: `Done` of `specs/Tops.antt`.
 pub fn top<S: Source, K: Sink, E: Sink>(
@@ -44,15 +45,17 @@ pub fn top<S: Source, K: Sink, E: Sink>(
         Done task (S.left src.old) (S.left src.new) (K.held out.old) (K.held out.new)) }
     ensures usage { result ≡ Status.Usage → AskNothing (map string_bytes words.now) }
     ensures unknown { AskNothing (map string_bytes words.now) → (result ≡ Status.Usage) ⊎ (result ≡ Status.NoMemory) }
-    ensures read_fault { result ≡ Status.ReadFault → Rose (S.faults src.old) (S.faults src.new) }
+    ensures unread { Asked (map string_bytes words.now) (λ task. ReadsNothing (origin_of task)) → src.new ≡ src.old }
+    ensures read_fault { result ≡ Status.ReadFault → Asked (map string_bytes words.now) (λ task.
+        ReadFailed (origin_of task) (S.faults src.old) (S.faults src.new)) }
     ensures write_fault { result ≡ Status.WriteFault → Rose (K.faults out.old) (K.faults out.new) }
     ensures quiet { IsQuiet result → K.held out.new ≡ K.held out.old }
     ensures partial { IsStopped result
         → IsPartial (map string_bytes words.now) (S.left src.old) (S.left src.new) (K.held out.old) (K.held out.new) }
-    ensures complete { (task : _) → map string_bytes words.now ≡ words_of task
-        → Completes (form_of task) (S.left src.old) (S.faults src.old) (S.faults src.new) (K.faults out.old) (K.faults out.new) result }
-    ensures refuses { (task : _) → map string_bytes words.now ≡ words_of task
-        → Refuses (form_of task) (S.left src.old) (S.faults src.old) (S.faults src.new) result }
+    ensures complete { (task : _) → AskFor (map string_bytes words.now) task
+        → Completes (origin_of task) (S.left src.old) (S.faults src.old) (S.faults src.new) (K.faults out.old) (K.faults out.new) result }
+    ensures refuses { (task : _) → AskFor (map string_bytes words.now) task
+        → Refuses (origin_of task) (S.left src.old) (S.faults src.old) (S.faults src.new) result }
     ensures told { IsTold (map string_bytes words.now) (S.left src.old) (S.left src.new) result (E.held err.old) (E.held err.new)
         (E.faults err.old) (E.faults err.new) (E.wants err.old) (E.wants err.new) }
 {
@@ -69,6 +72,7 @@ fn do_words<S: Source, K: Sink>(
 ) -> Result<(), Failure>
     ensures done { OnOk result (Asked (map string_bytes words.now) (λ task.
         Done task (S.left src.old) (S.left src.new) (K.held out.old) (K.held out.new))) }
+    ensures unread { Asked (map string_bytes words.now) (λ task. ReadsNothing (origin_of task)) → src.new ≡ src.old }
     ensures failed { IfErr result (CallFails (map string_bytes words.now) (S.left src.old) (S.left src.new) (S.faults src.old) (S.faults src.new)
         (K.held out.old) (K.held out.new) (K.faults out.old) (K.faults out.new)) }
 {
@@ -76,7 +80,7 @@ fn do_words<S: Source, K: Sink>(
     do_task(alloc, task, src, out)
 }
 
-/// Reads the scene of a task, and writes what the task writes of it.
+/// Takes the scene of a task, and writes what the task writes of it.
 fn do_task<S: Source, K: Sink>(
     alloc: Global,
     task: Task,
@@ -84,11 +88,11 @@ fn do_task<S: Source, K: Sink>(
     out: &mut K,
 ) -> Result<(), Failure>
     ensures done { OnOk result (Done task (S.left src.old) (S.left src.new) (K.held out.old) (K.held out.new)) }
+    ensures unread { ReadsNothing (origin_of task) → src.new ≡ src.old }
     ensures failed { IfErr result (TaskFails task (S.left src.old) (S.left src.new) (S.faults src.old) (S.faults src.new)
         (K.held out.old) (K.held out.new) (K.faults out.old) (K.faults out.new)) }
 {
-    let bytes = read_input(alloc, src)?;
-    let scene = accept(alloc, form_of(task), bytes.as_slice())?;
+    let scene = take_scene(alloc, origin_of(task), src)?;
     write_task(alloc, task, scene, out)
 }
 
@@ -99,41 +103,18 @@ fn write_task<K: Sink>(alloc: Global, task: Task, scene: Scene, out: &mut K) -> 
     ensures failed { IfErr result (HasWriteCause (K.faults out.old) (K.faults out.new)) }
 {
     match task {
-        Task::Run { frames: _ } => write_run(alloc, scene, out),
+        Task::Run { journal: false, .. } => write_run(alloc, scene, out),
+        Task::Run { journal: true, .. } => write_journal(alloc, scene, out),
+        Task::Generate { run: true, .. } => write_end(alloc, scene, out),
         Task::Pack => {
             let frames = write_frames(alloc, &scene)?;
             write_piece(out, frames.as_slice())
         }
-        Task::Show => {
+        Task::Show | Task::Generate { run: false, .. } => {
             let text = write_scene(alloc, &scene)?;
             write_piece(out, text.as_slice())
         }
     }
-}
-
-/// The cluster of a scene after its run.
-fn run_cluster(alloc: Global, scene: Scene) -> Result<Cluster, AllocError>
-    ensures scene { IfOk result (λ c. c.scene ≡ scene) }
-    ensures world { IfOk result (λ c. c.world ≡ cluster_run scene) }
-{
-    let drains = scene.drain();
-    let mut cluster = Cluster::new(alloc, scene)?;
-    cluster.run_schedule()?;
-    if !drains {
-        return Ok(cluster);
-    }
-    cluster.drain()?;
-    Ok(cluster)
-}
-
-/// Runs a scene and writes its answers and the last line.
-fn write_run<K: Sink>(alloc: Global, scene: Scene, out: &mut K) -> Result<(), Failure>
-    ensures written { OnOk result (Appends (K.held out.old) (K.held out.new) (render scene (cluster_run scene))) }
-    ensures partial { OnErr result (AppendsPrefix (K.held out.old) (K.held out.new) (render scene (cluster_run scene))) }
-    ensures failed { IfErr result (HasWriteCause (K.faults out.old) (K.faults out.new)) }
-{
-    let cluster = run_cluster(alloc, scene)?;
-    write_cluster(alloc, &cluster, out)
 }
 
 /// Ends the call: says the line of a failure, and gives the status. A refusal of `err` is dropped.

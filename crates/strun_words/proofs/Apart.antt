@@ -1,40 +1,49 @@
--- The words of different tasks differ.
-use Rattle.std.proofs.Common.{List, ap, arith, false, refl, sym, true, ℕ, ◌<◌, ◌≡◌}
-use Rattle.std.specs.Prelude.{[], ◌∷◌}
-use Rattle.strun_words.specs.Tasks.{words_of}
+-- The words of different tasks differ: the task can be told from its words.
+use Rattle.std.proofs.Common.{List, ap, arith, false, if◌then◌else◌, refl, subst, sym, true, ℕ, ◌<◌, ◌==◌, ◌^◌, ◌∙◌, ◌≡◌}
+use Rattle.std.proofs.lemmas.Fmt.{decimal_is_IsNumeral}
+use Rattle.std.specs.Prelude.{[], decimal, slice_index, ◌∷◌}
+use Rattle.std.specs.Str.Parse.{digits_value}
+use Rattle.strun_words.specs.Tasks.{AskFor, IsTask, words_of}
 use Rattle.strun_words.specs.declared.task.Task.{Task}
-use Rattle.strun_words.specs.declared.task.Task.TheVariants.{Pack, Run, Show}
-
--- the first byte of a word
-abbrev pub first_byte : List ℕ → ℕ
-first_byte [] = 0
-first_byte (b ∷ bs) = b
-
--- the first byte of one word, and 256 for more
-abbrev mark : List (List ℕ) → ℕ
-mark [] = 0
-mark (w ∷ []) = first_byte w
-mark (w ∷ v ∷ ws) = 256
+use Rattle.strun_words.specs.declared.task.Task.TheVariants.{Generate, Pack, Run, Show}
 
 -- a number is not less than itself
 pub not_less : {X : Type 0} (m n : ℕ) → m ≡ n → m < n → X
 not_less m n e l = absurd (omega (arith, e, l))
 
+-- the task of the words behind `run`; the third byte of a flag tells which it is
+abbrev run_told : List (List ℕ) → Task
+run_told [] = Run false false
+run_told (w ∷ []) = Run (slice_index w 2 == 102) (slice_index w 2 == 106)
+run_told (w ∷ v ∷ ws) = Run true true
+
+-- the task of the words behind `gen`
+abbrev generate_told : List (List ℕ) → Task
+generate_told [] = Show
+generate_told (w ∷ []) = Generate (digits_value 10 w) false
+generate_told (w ∷ v ∷ ws) = Generate (digits_value 10 w) true
+
+-- the task of words that ask for one
+abbrev task_told : List (List ℕ) → Task
+task_told [] = Show
+task_told (w ∷ ws) =
+    if slice_index w 0 == 114 then run_told ws else (if slice_index w 0 == 112 then Pack else (if slice_index w 0 == 115 then Show else generate_told ws))
+
+-- a number is told from its decimal
+number_told : (n : ℕ) → n < 2 ^ 64 → digits_value 10 (decimal n) ≡ n
+number_told n l = (decimal_is_IsNumeral n l).1
+
+-- a task is told from its words
+told : (t : Task) → IsTask t → task_told (words_of t) ≡ t
+told (Run false false) i = refl
+told (Run false true) i = refl
+told (Run true false) i = refl
+told (Run true true) i = refl
+told Pack i = refl
+told Show i = refl
+told (Generate seed false) i = ap (λ (n : ℕ). Generate n false) (number_told seed i)
+told (Generate seed true) i = ap (λ (n : ℕ). Generate n true) (number_told seed i)
+
 -- words ask for one task at most
-pub one_task : (t u : Task) → words_of t ≡ words_of u → t ≡ u
-one_task (Run false) (Run false) e = refl
-one_task (Run false) (Run true) e = not_less 114 256 (ap mark e) (omega arith)
-one_task (Run false) Pack e = not_less 112 114 (ap mark (sym e)) (omega arith)
-one_task (Run false) Show e = not_less 114 115 (ap mark e) (omega arith)
-one_task (Run true) (Run false) e = not_less 114 256 (ap mark (sym e)) (omega arith)
-one_task (Run true) (Run true) e = refl
-one_task (Run true) Pack e = not_less 112 256 (ap mark (sym e)) (omega arith)
-one_task (Run true) Show e = not_less 115 256 (ap mark (sym e)) (omega arith)
-one_task Pack (Run false) e = not_less 112 114 (ap mark e) (omega arith)
-one_task Pack (Run true) e = not_less 112 256 (ap mark e) (omega arith)
-one_task Pack Pack e = refl
-one_task Pack Show e = not_less 112 115 (ap mark e) (omega arith)
-one_task Show (Run false) e = not_less 114 115 (ap mark (sym e)) (omega arith)
-one_task Show (Run true) e = not_less 115 256 (ap mark e) (omega arith)
-one_task Show Pack e = not_less 112 115 (ap mark (sym e)) (omega arith)
-one_task Show Show e = refl
+pub one_task : (words : List (List ℕ)) (t u : Task) → AskFor words t → AskFor words u → t ≡ u
+one_task words t u a b = sym (told t a.is_task) ∙ (ap task_told (sym a.same ∙ b.same) ∙ told u b.is_task)

@@ -1,17 +1,22 @@
 -- The name of the subcommand tells which task was found.
-use Rattle.clap.specs.Words.{Row, Text, one_of, one_text, rows_of, subcommand_name_of, subcommand_rows, subcommand_rows_of}
+use Rattle.clap.proofs.WalkLemmas.{first_value-rows, one_text-rows}
+use Rattle.clap.specs.Words.{Row, Text, first_of, first_value, one_of, one_text, rows_of, subcommand_name_of, subcommand_rows, subcommand_rows_of}
 use Rattle.clap.specs.declared.parser.matches.ArgMatches.{ArgMatches}
 use Rattle.clap.specs.declared.parser.matches.ArgMatches.TheViews.{out-ArgMatches, out-SubCommand}
 use Rattle.clap.specs.declared.parser.matches.SubCommand.{SubCommand}
 use Rattle.clap.specs.declared.parser.matches.Found.{Found}
-use Rattle.std.proofs.Common.{Bool, List, None, Option, Some, ap, arith, refl, sym, ◌∙◌, ◌≡◌}
+use Rattle.std.proofs.Common.{Bool, List, None, Option, Some, ap, ap₂, arith, refl, subst, sym, ◌∙◌, ◌≡◌}
 use Rattle.std.specs.Box.{box_value}
-use Rattle.std.specs.Prelude.{Box, codes, false, option_map, true}
-use Rattle.strun_words.proofs.Apart.{first_byte, not_less}
-use Rattle.strun_words.proofs.Asked.{flag_read}
-use Rattle.strun_words.specs.Parsing.{Finds, name_found}
+use Rattle.std.proofs.lemmas.Fmt.{decimal_injective}
+use Rattle.std.specs.Prelude.{Box, codes, decimal, false, option_map, slice_index, true, ℕ, ◌<◌, ◌^◌}
+use Rattle.strun_words.proofs.Apart.{not_less}
+use Rattle.strun_words.specs.Parsing.{Finds, HasArguments, HasFlag, flag_text, name_of}
 use Rattle.strun_words.specs.declared.task.Task.{Task}
-use Rattle.strun_words.specs.declared.task.Task.TheVariants.{Pack, Run, Show}
+use Rattle.strun_words.specs.declared.task.Task.TheVariants.{Generate, Pack, Run, Show}
+
+-- the name of a subcommand that was found
+abbrev name_found : Option (Text × List Row) → Option Text
+name_found found = option_map (λ p. p.0) found
 
 -- the name of the subcommand that a parse met is the one that is found
 pub name_agrees : (m : ArgMatches) → name_found (subcommand_rows_of m) ≡ subcommand_name_of m
@@ -21,37 +26,70 @@ name_agrees m = by_subcommand (out-ArgMatches m).subcommand
     by_subcommand None = refl
     by_subcommand (Some b) = refl
 
--- the name of a task's subcommand
-abbrev name_of : Task → Text
-name_of (Run frames) = codes "run"
-name_of Pack = codes "pack"
-name_of Show = codes "show"
-
 -- the name that is found is that of the task
-named : (found : Option (Text × List Row)) (name : Text) (task : Task) → name_found found ≡ Some name → Finds found task → name_of task ≡ name
-named found name (Run frames) e h = let k = h.0 in cc (e, k)
-named found name Pack e h = cc (e, h)
-named found name Show e h = cc (e, h)
+pub named : (found : Option (Text × List Row)) (name : Text) (task : Task) → name_found found ≡ Some name → Finds found task → name_of task ≡ name
+named None name task e h = absurd h
+named (Some p) name task e h = let q : p.0 ≡ name = cc e in sym h.0 ∙ q
 
--- the subcommand `run` and its flag
-pub run_found : (found : Option (Text × List Row)) (name : Text) (f : Found) (got : Bool) → name_found found ≡ Some name → option_map (λ p. p.1) found ≡ Some (rows_of f)
-    → name ≡ codes "run" → (one_text f (codes "frames") ≡ Some (codes "true") → got ≡ true) → (one_text f (codes "frames") ≡ Some (codes "false") → got ≡ false)
-    → (task : Task) → Finds found task → Some (Run got) ≡ Some task
-run_found None name f got e r q t n task h = absurd (cc e)
-run_found (Some p) name f got e r q t n (Run frames) h =
-    let rows : rows_of f ≡ p.1 = cc r in
-    ap (λ (b : Bool). Some (Run b)) (flag_read f p.1 (codes "frames") frames got rows h.1 t n)
-run_found (Some p) name f got e r q t n Pack h = not_less 112 114 (ap first_byte (named (Some p) name Pack e h ∙ q)) (omega arith)
-run_found (Some p) name f got e r q t n Show h = not_less 114 115 (ap first_byte (sym (named (Some p) name Show e h ∙ q))) (omega arith)
+-- the arguments that are found are those of the task
+pub arguments_found : (found : Option (Text × List Row)) (f : Found) (task : Task) → option_map (λ p. p.1) found ≡ Some (rows_of f) → Finds found task → HasArguments task (rows_of f)
+arguments_found None f task e h = absurd h
+arguments_found (Some p) f task e h = let q : p.1 ≡ rows_of f = cc e in subst (HasArguments task) q h.1
 
--- the subcommand `pack`
-pub pack_found : (found : Option (Text × List Row)) (name : Text) → name_found found ≡ Some name → name ≡ codes "pack" → (task : Task) → Finds found task → Some Pack ≡ Some task
-pack_found found name e q Pack h = refl
-pack_found found name e q (Run frames) h = not_less 112 114 (ap first_byte (sym (named found name (Run frames) e h ∙ q))) (omega arith)
-pack_found found name e q Show h = not_less 112 115 (ap first_byte (sym (named found name Show e h ∙ q))) (omega arith)
+-- a flag is read as it is found
+pub flag_read : (f : Found) (name : Text) (flag got : Bool) → HasFlag name flag (rows_of f) → (one_text f name ≡ Some (codes "true") → got ≡ true)
+    → (one_text f name ≡ Some (codes "false") → got ≡ false) → got ≡ flag
+flag_read f name true got h t e = t (one_text-rows f name ∙ h)
+flag_read f name false got h t e = e (one_text-rows f name ∙ h)
 
--- the subcommand `show`
-pub show_found : (found : Option (Text × List Row)) (name : Text) → name_found found ≡ Some name → name ≡ codes "show" → (task : Task) → Finds found task → Some Show ≡ Some task
-show_found found name e q Show h = refl
-show_found found name e q (Run frames) h = not_less 114 115 (ap first_byte (named found name (Run frames) e h ∙ q)) (omega arith)
-show_found found name e q Pack h = not_less 112 115 (ap first_byte (named found name Pack e h ∙ q)) (omega arith)
+-- the first byte of a name
+first_byte : (a b : Text) → a ≡ b → slice_index a 0 ≡ slice_index b 0
+first_byte a b e = ap (λ (t : Text). slice_index t 0) e
+
+-- the task with the name `pack`
+pub pack_named : (task : Task) → name_of task ≡ codes "pack" → Pack ≡ task
+pack_named Pack e = refl
+pack_named (Run frames journal) e = not_less 112 114 (sym (first_byte _ _ e)) (omega arith)
+pack_named Show e = not_less 112 115 (sym (first_byte _ _ e)) (omega arith)
+pack_named (Generate seed run) e = not_less 103 112 (first_byte _ _ e) (omega arith)
+
+-- the task with the name `show`
+pub show_named : (task : Task) → name_of task ≡ codes "show" → Show ≡ task
+show_named Show e = refl
+show_named (Run frames journal) e = not_less 114 115 (first_byte _ _ e) (omega arith)
+show_named Pack e = not_less 112 115 (first_byte _ _ e) (omega arith)
+show_named (Generate seed run) e = not_less 103 115 (first_byte _ _ e) (omega arith)
+
+-- a task with the name `run` has the flags that are read
+pub run_named : (f : Found) (frames journal : Bool) (task : Task) → name_of task ≡ codes "run" → HasArguments task (rows_of f) → ((flag : Bool) → HasFlag (codes "frames") flag (rows_of f) → frames ≡ flag)
+    → ((flag : Bool) → HasFlag (codes "journal") flag (rows_of f) → journal ≡ flag) → Run frames journal ≡ task
+run_named f frames journal (Run a b) e h x y = ap₂ Run (x a h.0) (y b h.1)
+run_named f frames journal Pack e h x y = not_less 112 114 (first_byte _ _ e) (omega arith)
+run_named f frames journal Show e h x y = not_less 114 115 (sym (first_byte _ _ e)) (omega arith)
+run_named f frames journal (Generate seed run) e h x y = not_less 103 114 (first_byte _ _ e) (omega arith)
+
+-- a task with the name `gen` has a seed and a flag
+generate_named : {X : Type 0} (rows : List Row) (task : Task) → name_of task ≡ codes "gen" → HasArguments task rows
+    → ((seed : ℕ) (run : Bool) → task ≡ Generate seed run → HasArguments (Generate seed run) rows → X) → X
+generate_named rows (Generate seed run) e h then = then seed run refl h
+generate_named rows (Run frames journal) e h then = not_less 103 114 (sym (first_byte _ _ e)) (omega arith)
+generate_named rows Pack e h then = not_less 103 112 (sym (first_byte _ _ e)) (omega arith)
+generate_named rows Show e h then = not_less 103 115 (sym (first_byte _ _ e)) (omega arith)
+
+-- it has a word
+pub word_given : (f : Found) (task : Task) → first_value f (codes "seed") ≡ None → name_of task ≡ codes "gen" → HasArguments task (rows_of f) → None ≡ Some task
+word_given f task n e h = generate_named (rows_of f) task e h (λ seed run q g. absurd (cc (first_value-rows f (codes "seed"), n, g.1)))
+
+-- and that is a number's decimal
+pub number_given : (f : Found) (word : Text) (task : Task) → first_value f (codes "seed") ≡ Some word → ((n : ℕ) → n < 2 ^ 64 → ¬ (decimal n ≡ word)) → name_of task ≡ codes "gen"
+    → HasArguments task (rows_of f) → None ≡ Some task
+number_given f word task w n e h =
+    generate_named (rows_of f) task e h (λ seed run q g. let same : decimal seed ≡ word = cc (first_value-rows f (codes "seed"), w, g.1) in absurd (n seed g.0 same))
+
+-- the seed is that number, and the flag is as it is read
+pub generate_read : (f : Found) (word : Text) (got : ℕ) (flag : Bool) (task : Task) → first_value f (codes "seed") ≡ Some word → decimal got ≡ word → got < 2 ^ 64
+    → ((run : Bool) → HasFlag (codes "run") run (rows_of f) → flag ≡ run) → name_of task ≡ codes "gen" → HasArguments task (rows_of f) → Generate got flag ≡ task
+generate_read f word got flag task w d l r e h =
+    generate_named (rows_of f) task e h (λ seed run q g.
+    let same : decimal got ≡ decimal seed = cc (first_value-rows f (codes "seed"), w, g.1, d) in
+    ap₂ Generate (decimal_injective got seed l g.0 same) (r run g.2) ∙ sym q)

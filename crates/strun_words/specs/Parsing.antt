@@ -1,28 +1,34 @@
 -- The command as `clap` reads it, and what it finds in the words of a task.
-use Rattle.clap.specs.Words.{App, Row, Rule, Text, new_app, new_rule, one_of, with_rule, with_subcommand}
-use Rattle.clap.specs.declared.builder.action.ArgAction.TheVariants.{SetTrue}
+use Rattle.clap.specs.Words.{App, Row, Rule, Text, first_of, new_app, new_rule, one_of, with_rule, with_subcommand}
+use Rattle.clap.specs.declared.builder.action.ArgAction.TheVariants.{Set, SetTrue}
 use Rattle.clap.specs.declared.error.kind.ErrorKind.{ErrorKind}
 use Rattle.clap.specs.declared.error.kind.ErrorKind.TheVariants.{OutOfMemory}
-use Rattle.std.specs.Prelude.{Bool, List, Option, Some, codes, false, option_and_then, option_map, true, ◌≡◌}
+use Rattle.std.specs.Prelude.{Bool, List, None, Option, Some, codes, decimal, false, true, ⊤, ◌<◌, ◌^◌, ◌≡◌}
 use Rattle.strun_words.specs.declared.task.Task.{Task}
-use Rattle.strun_words.specs.declared.task.Task.TheVariants.{Pack, Run, Show}
+use Rattle.strun_words.specs.declared.task.Task.TheVariants.{Generate, Pack, Run, Show}
 use Rattle.top_status.specs.declared.failure.Failure.{Failure}
 use Rattle.top_status.specs.declared.failure.Failure.TheVariants.{Memory, Usage}
 
--- the flag of `run`
-abbrev pub frames_flag : Rule
-frames_flag = record (new_rule (codes "frames")) { long = Some (codes "frames"); action = Some SetTrue }
+-- a flag `--NAME`
+abbrev pub flag : Text → Rule
+flag name = record (new_rule name) { long = Some name; action = Some SetTrue }
 
--- the subcommand `run` with its flag
+-- the number behind `gen`
+abbrev pub seed_rule : Rule
+seed_rule = record (new_rule (codes "seed")) { action = Some Set }
+
+-- the subcommands
 abbrev pub run_command : App
-run_command = with_rule (new_app (codes "run")) frames_flag
+run_command = with_rule (with_rule (new_app (codes "run")) (flag (codes "frames"))) (flag (codes "journal"))
 
--- the subcommands without a flag
 abbrev pub pack_command : App
 pack_command = new_app (codes "pack")
 
 abbrev pub show_command : App
 show_command = new_app (codes "show")
+
+abbrev pub generate_command : App
+generate_command = with_rule (with_rule (new_app (codes "gen")) seed_rule) (flag (codes "run"))
 
 -- the command, whose words have no program's name in front
 abbrev pub plain_command : App
@@ -30,26 +36,38 @@ plain_command = let a = new_app (codes "strun") in record a { top = record a.top
 
 -- the command with its subcommands
 abbrev pub program : App
-program = with_subcommand (with_subcommand (with_subcommand plain_command run_command.top) pack_command.top) show_command.top
+program =
+    with_subcommand
+    (with_subcommand (with_subcommand (with_subcommand plain_command run_command.top) pack_command.top) show_command.top)
+    generate_command.top
 
 -- the value of a flag as text
 abbrev pub flag_text : Bool → Text
 flag_text true = codes "true"
 flag_text false = codes "false"
 
--- the name of the subcommand that was found
-abbrev pub name_found : Option (Text × List Row) → Option Text
-name_found found = option_map (λ p. p.0) found
+-- a flag has this value
+abbrev pub HasFlag : Text → Bool → List Row → Type 0
+HasFlag name value rows = one_of name rows ≡ Some (flag_text value)
 
--- the value of a flag of it
-abbrev pub flag_found : Text → Option (Text × List Row) → Option Text
-flag_found id found = option_and_then (λ p. one_of id p.1) found
+-- the name of a task's subcommand
+abbrev pub name_of : Task → Text
+name_of (Run frames journal) = codes "run"
+name_of Pack = codes "pack"
+name_of Show = codes "show"
+name_of (Generate seed run) = codes "gen"
 
--- the subcommand and the flags that were found are those of the task
+-- the arguments are those of the task
+abbrev pub HasArguments : Task → List Row → Type 0
+HasArguments (Run frames journal) rows = HasFlag (codes "frames") frames rows × HasFlag (codes "journal") journal rows
+HasArguments Pack rows = ⊤
+HasArguments Show rows = ⊤
+HasArguments (Generate seed run) rows = (seed < 2 ^ 64) × (first_of (codes "seed") rows ≡ Some (decimal seed)) × HasFlag (codes "run") run rows
+
+-- the subcommand and the arguments that were found are those of the task
 abbrev pub Finds : Option (Text × List Row) → Task → Type 0
-Finds found (Run frames) = (name_found found ≡ Some (codes "run")) × (flag_found (codes "frames") found ≡ Some (flag_text frames))
-Finds found Pack = name_found found ≡ Some (codes "pack")
-Finds found Show = name_found found ≡ Some (codes "show")
+Finds None task = ⊥
+Finds (Some p) task = (p.0 ≡ name_of task) × HasArguments task p.1
 
 -- a parse that fails for want of memory comes to that, and any other to Usage
 abbrev pub IsFailureOf : ErrorKind → Failure → Type 0

@@ -2,33 +2,34 @@
 //!
 //! `clap` takes more lists of words than are meant, as `run --fr` or words behind `--`. So the words of what came out are
 //! compared with those that were given, and only the same list is taken.
-ghost use Rattle.clap.specs.Words.{app_of, kind_of, rows_of, subcommand_of, subcommand_rows_of, takes};
-ghost use Rattle.std.specs.Bool.{Decides};
-ghost use Rattle.std.specs.Prelude.{◌≡◌, true, map, Some, IfErr, IfOk};
+ghost use Rattle.clap.specs.Words.{app_of, found_of, kind_of, rows_of, rule_of, subcommand_of, subcommand_rows_of, takes};
+ghost use Rattle.clap.specs.declared.builder.command.Command.TheViews.{out-Command as fields_of};
+ghost use Rattle.std.specs.Prelude.{◌≡◌, false, true, codes, map, Some, IfErr, IfOk};
 ghost use Rattle.std.specs.String.{string_bytes};
-ghost use Rattle.strun_words.specs.Parsing.{Finds, IsFailureOf, program};
-ghost use Rattle.strun_words.specs.Tasks.{IsUnasked, words_of};
+ghost use Rattle.strun_words.specs.Parsing.{Finds, HasArguments, IsFailureOf, flag, generate_command, name_of, program, run_command};
+ghost use Rattle.strun_words.specs.Tasks.{AskFor, IsUnasked};
 
 use crate::task::Task;
 use clap::error::ErrorKind;
 use clap::{Arg, ArgAction, ArgMatches, Command, Error};
 use std::alloc::{AllocError, Global};
+use str_base::read_u64;
 use top_status::Failure;
 
-/// What the words ask for: one of the lists of `Task::words`, and no other.
+/// What the words ask for: `run` with its flags, `pack`, `show`, or `gen` with a number and its flag, in this order, and nothing else.
 ///
 /// # Errors
 ///
 /// `Usage` where they are none of these lists, and `Memory` where memory was wanting.
 pub fn read_task(alloc: Global, words: &[String]) -> Result<Task, Failure>
-    ensures asked { IfOk result (λ task. map string_bytes words.now ≡ words_of task) }
+    ensures asked { IfOk result (λ task. AskFor (map string_bytes words.now) task) }
     ensures unasked { IfErr result (λ failure. IsUnasked (map string_bytes words.now) failure) }
 {
     let texts = texts_of(alloc, words)?;
     let Some(task) = find_task(alloc, texts.as_slice())? else {
         return Err(Failure::Usage);
     };
-    if !are_same(texts.as_slice(), task.words()) {
+    if !task.is_asked_by(texts.as_slice()) {
         return Err(Failure::Usage);
     }
     Ok(task)
@@ -36,7 +37,7 @@ pub fn read_task(alloc: Global, words: &[String]) -> Result<Task, Failure>
 
 /// The task that `clap` finds in the words, which may be those of no task.
 fn find_task(alloc: Global, words: &[&str]) -> Result<Option<Task>, Failure>
-    ensures found { IfOk result (λ got. (task : _) → map (λ w. w.now) words.now ≡ words_of task → got ≡ Some task) }
+    ensures found { IfOk result (λ got. (task : _) → AskFor (map (λ w. w.now) words.now) task → got ≡ Some task) }
     ensures unasked { IfErr result (λ failure. IsUnasked (map (λ w. w.now) words.now) failure) }
 {
     match parse(alloc, words) {
@@ -66,25 +67,45 @@ fn texts_of(alloc: Global, words: &[String]) -> Result<Vec<&str>, AllocError>
     Ok(texts)
 }
 
-/// Whether two lists of words are the same.
-fn are_same(words: &[&str], others: &[&str]) -> bool
-    ensures { Decides result (map (λ w. w.now) words.now ≡ map (λ w. w.now) others.now) }
+/// A flag `--NAME`.
+fn flag<'a>(alloc: Global, name: &'a str) -> Arg<'a>
+    ensures rule { rule_of result ≡ flag name.now }
+    ensures global { result.global ≡ false }
 {
-    words == others
+    Arg::new(alloc, name).long(name).action(ArgAction::SetTrue)
 }
 
-/// The subcommands and their flags. The words have no program's name in front.
+/// The subcommand `run`.
+fn run_command<'a>(alloc: Global) -> Result<Command<'a>, AllocError>
+    ensures app { IfOk result (λ command. app_of command ≡ run_command) }
+    ensures local { IfOk result (λ command. (fields_of command).has_globals ≡ false) }
+{
+    Command::new(alloc, "run")
+        .arg(flag(alloc, "frames"))?
+        .arg(flag(alloc, "journal"))
+}
+
+/// The subcommand `gen`.
+fn generate_command<'a>(alloc: Global) -> Result<Command<'a>, AllocError>
+    ensures app { IfOk result (λ command. app_of command ≡ generate_command) }
+    ensures local { IfOk result (λ command. (fields_of command).has_globals ≡ false) }
+{
+    let seed = Arg::new(alloc, "seed").action(ArgAction::Set);
+    Command::new(alloc, "gen")
+        .arg(seed)?
+        .arg(flag(alloc, "run"))
+}
+
+/// The subcommands. The words have no program's name in front.
 fn program<'a>(alloc: Global) -> Result<Command<'a>, AllocError>
     ensures { IfOk result (λ command. app_of command ≡ program) }
 {
-    let frames = Arg::new(alloc, "frames")
-        .long("frames")
-        .action(ArgAction::SetTrue);
-    let run = Command::new(alloc, "run").arg(frames)?;
-    let pack = Command::new(alloc, "pack");
-    let show = Command::new(alloc, "show");
     let plain = Command::new(alloc, "strun").no_binary_name(true);
-    plain.subcommand(run)?.subcommand(pack)?.subcommand(show)
+    plain
+        .subcommand(run_command(alloc)?)?
+        .subcommand(Command::new(alloc, "pack"))?
+        .subcommand(Command::new(alloc, "show"))?
+        .subcommand(generate_command(alloc)?)
 }
 
 /// What `clap` makes of the words. It fails on the words of no task, but for want of memory.
@@ -96,15 +117,13 @@ fn parse<'a>(alloc: Global, words: &'a [&'a str]) -> Result<ArgMatches<'a>, Erro
     command.try_get_matches_from(words)
 }
 
-/// The task of a subcommand and its flags. None where there is no subcommand.
+/// The task of a subcommand and its arguments. None where there is no subcommand.
 fn task_of(matches: &ArgMatches<'_>) -> Option<Task>
     ensures { (task : _) → Finds (subcommand_rows_of matches.now) task → result ≡ Some task }
 {
     let (name, given) = matches.subcommand()?;
     if name == "run" {
-        return Some(Task::Run {
-            frames: given.get_flag("frames"),
-        });
+        return Some(run_of(given));
     }
     if name == "pack" {
         return Some(Task::Pack);
@@ -112,5 +131,30 @@ fn task_of(matches: &ArgMatches<'_>) -> Option<Task>
     if name == "show" {
         return Some(Task::Show);
     }
+    if name == "gen" {
+        return generate_of(given);
+    }
     None
+}
+
+/// The task of the arguments of `run`.
+fn run_of(given: &ArgMatches<'_>) -> Task
+    ensures { (task : _) → name_of task ≡ codes "run" → HasArguments task (rows_of (found_of given.now)) → result ≡ task }
+{
+    Task::Run {
+        frames: given.get_flag("frames"),
+        journal: given.get_flag("journal"),
+    }
+}
+
+/// The task of the arguments of `gen`. None where no number is among them.
+fn generate_of(given: &ArgMatches<'_>) -> Option<Task>
+    ensures { (task : _) → name_of task ≡ codes "gen" → HasArguments task (rows_of (found_of given.now)) → result ≡ Some task }
+{
+    let word = given.get_str("seed")?;
+    let seed = read_u64(word.as_bytes())?;
+    Some(Task::Generate {
+        seed,
+        run: given.get_flag("run"),
+    })
 }

@@ -23,17 +23,36 @@ fn check(
     Ok(())
 }
 
+/// A run with these flags.
+fn run_with(frames: bool, journal: bool) -> Result<Task, Status> {
+    Ok(Task::Run { frames, journal })
+}
+
+/// A made scene of this seed.
+fn made_of(seed: u64, run: bool) -> Result<Task, Status> {
+    Ok(Task::Generate { seed, run })
+}
+
 #[test]
 fn lists_that_are_taken(rt: HostRuntime) -> Result<(), Fail> {
-    check(&rt, &["run"], Ok(Task::Run { frames: false }))?;
-    check(&rt, &["run", "--frames"], Ok(Task::Run { frames: true }))?;
+    check(&rt, &["run"], run_with(false, false))?;
+    check(&rt, &["run", "--journal"], run_with(false, true))?;
+    check(&rt, &["run", "--frames"], run_with(true, false))?;
+    check(&rt, &["run", "--frames", "--journal"], run_with(true, true))?;
     check(&rt, &["pack"], Ok(Task::Pack))?;
-    check(&rt, &["show"], Ok(Task::Show))
+    check(&rt, &["show"], Ok(Task::Show))?;
+    check(&rt, &["gen", "0"], made_of(0, false))?;
+    check(&rt, &["gen", "7", "--run"], made_of(7, true))?;
+    check(
+        &rt,
+        &["gen", "18446744073709551615"],
+        made_of(u64::MAX, false),
+    )
 }
 
 #[test]
 fn other_lists(rt: HostRuntime) -> Result<(), Fail> {
-    let lists: [&[&str]; 24] = [
+    let lists: [&[&str]; 36] = [
         &[],
         &[""],
         &["--"],
@@ -51,13 +70,25 @@ fn other_lists(rt: HostRuntime) -> Result<(), Fail> {
         &["run", "--fr"],
         &["run", "--frames", "--"],
         &["run", "--frames", "--frames"],
+        &["run", "--journal", "--frames"],
         &["run", "--frames=true"],
         &["run", "--frames", "true"],
         &["--frames", "run"],
         &["run", "pack"],
         &["pack", "--frames"],
+        &["show", "--journal"],
         &["show", "x"],
         &["--", "show"],
+        &["gen"],
+        &["gen", ""],
+        &["gen", "07"],
+        &["gen", "-1"],
+        &["gen", "+1"],
+        &["gen", "--", "7"],
+        &["gen", "--run", "7"],
+        &["gen", "7", "8"],
+        &["gen", "18446744073709551616"],
+        &["7", "gen"],
     ];
     for words in lists {
         check(&rt, words, Err(Status::Usage))?;

@@ -17,6 +17,9 @@ returns-clause-unknown g c =
     λ n. subst (λ (s : Status). (s ≡ Usage) ⊎ (s ≡ NoMemory)) (sym c.report.ensures.status)
     (unknown_of _ _ _ _ _ _ _ _ _ c.do_words-done.result c.do_words-done.ensures.done c.do_words-done.ensures.failed n)
 
+pub returns-clause-unread : goal.returns-clause-unread
+returns-clause-unread g c = c.do_words-done.ensures.unread
+
 pub returns-clause-read_fault : goal.returns-clause-read_fault
 returns-clause-read_fault g c = λ e. read_of _ _ _ _ _ _ _ _ _ c.do_words-done.result c.do_words-done.ensures.failed (sym c.report.ensures.status ∙ e)
 

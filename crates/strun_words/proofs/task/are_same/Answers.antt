@@ -2,7 +2,7 @@ use Rattle.std.proofs.Common.{map, nat_eq, sym, ◌∙◌}
 use Rattle.std.proofs.lemmas.Slice.Eq.{bytes_eq-Decides, slice_eq-Decides}
 use Rattle.std.specs.Cmp.Derive.Mapped.{pointwise-map}
 use Rattle.std.specs.Cmp.Lexicographic.{pointwise}
-use Rattle.strun_words.proofs.parse.are_same.Goals as goal
+use Rattle.strun_words.proofs.task.are_same.Goals as goal
 
 pub returns : goal.returns
 returns c =

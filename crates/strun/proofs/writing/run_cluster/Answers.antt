@@ -1,6 +1,6 @@
 use Rattle.std.proofs.Common.{sym, ◌∙◌}
 use Rattle.strun.proofs.WholeRun.{ran_drained, ran_schedule}
-use Rattle.strun.proofs.tops.run_cluster.Goals as goal
+use Rattle.strun.proofs.writing.run_cluster.Goals as goal
 
 pub returns-then-not-drains-clause-world : goal.returns-then-not-drains-clause-world
 returns-then-not-drains-clause-world c =

@@ -1,5 +1,5 @@
 use Rattle.strun.proofs.Written.{of_run, partly_of_run}
-use Rattle.strun.proofs.tops.write_run.Goals as goal
+use Rattle.strun.proofs.writing.write_run.Goals as goal
 
 pub returns-clause-written : goal.returns-clause-written
 returns-clause-written g c =
