@@ -1,0 +1,4 @@
+pub mod Making
+pub mod Flowing
+pub mod Meeting
+pub mod Readying

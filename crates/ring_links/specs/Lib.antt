@@ -1,0 +1,4 @@
+pub mod Links
+pub mod Ends
+pub mod Making
+pub mod Flows
