@@ -1,13 +1,13 @@
 //! The removal of what an aborted transaction wrote.
 ghost use Rattle.cache_partition.specs.CacheLists.{IsCache, StaysHere as CacheStays};
-ghost use Rattle.cascade_abort.specs.Removal.{AllWritten};
+ghost use Rattle.cascade_abort.specs.Removal.{AllWritten, IsOutOfBoth};
 ghost use Rattle.partition_map.specs.Maps.{HasKey, is_written, part_of};
-ghost use Rattle.replica_store.specs.StoreLists.{IsStore, StaysHere as StoreStays};
+ghost use Rattle.replica_store.specs.StoreLists.{IsStore, ListsApart, StaysHere as StoreStays};
 ghost use Rattle.std.specs.Prelude.{◌≡◌, ◌≤◌, ◌∷◌, [], ℕ, Some, slice_get};
 ghost use Rattle.str_base.specs.declared.names.PartId.{PartId as Part};
 ghost use Rattle.str_base.specs.declared.names.Write.{Write as AWrite};
 ghost use Rattle.str_base.specs.Versions.{of_pair, of_tx, without};
-ghost use Rattle.version_chain.specs.ChainLists.{Apart, Each, is_among, merged};
+ghost use Rattle.version_chain.specs.ChainLists.{is_among};
 
 use cache_partition::CachePartition;
 use partition_map::PartitionMap;
@@ -27,8 +27,7 @@ pub fn drop_all(
     requires cached { AllWritten map.now writes.now tx cache.old.versions }
     ensures store { store.new.versions ≡ without (of_tx tx) store.old.versions }
     ensures cache { cache.new.versions ≡ without (of_tx tx) cache.old.versions }
-    ensures merged { IsCache cache.old → IsStore store.old → Each (λ v. Each (Apart v) store.old.versions) cache.old.versions →
-        merged cache.new.versions store.new.versions ≡ without (of_tx tx) (merged cache.old.versions store.old.versions) }
+    ensures merged { IsCache cache.old → IsStore store.old → ListsApart cache.old.versions store.old.versions → IsOutOfBoth tx cache.old store.old cache.new store.new }
     ensures store_here { StoreStays store.old store.new }
     ensures cache_here { CacheStays cache.old cache.new }
     ensures store_spare { store.old.spare ≤ store.new.spare }

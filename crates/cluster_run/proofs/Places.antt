@@ -4,6 +4,7 @@ use Rattle.std.specs.Prelude.{Err, IfOk, MatchOption, Ok, Result}
 use Rattle.std.proofs.lemmas.List.{map-append, replicate_more}
 use Rattle.node_parts.specs.Sending.{OutState}
 use Rattle.node_core.specs.Working.{NodeState, SameNode, Steps, here_of}
+use Rattle.node_core.proofs.Whole.Readying.{need_same}
 use Rattle.cluster_run.specs.Clusters.{ArePlaced, DidAt, HasRoom, IsIdle, IsReady, StepsAt, views_of}
 use Rattle.si_laws.proofs.Reasons.CommitsAfter.{place_nth}
 use Rattle.str_base.proofs.Lists.{get_set, got_push, set_got}
@@ -18,9 +19,6 @@ use Rattle.str_scene.specs.Scenes.{Scene, nth}
 pub ok_both : {X Y : Type 0} (r : Result X Y) (P Q R : X → Type 0) → ((x : X) → P x → Q x → R x) → IfOk r P → IfOk r Q → IfOk r R
 ok_both (Ok x) P Q R f p q = f x p q
 ok_both (Err e) P Q R f p q = tt
-
-need_same : (n m : NodeState) (input : Input) → SameNode n m → need (here_of n) input n.view ≡ need (here_of m) input m.view
-need_same n m input s = λ j. need (record { scene = (sym s.scene) j; node = (sym s.id) j }) input ((sym s.view) j)
 
 -- the room that a node was given is room for its step where it stands
 pub room_at : (ns : List NodeState) (k i : ℕ) (n m : NodeState) (input : Input) (room : ℕ) → k ≡ i + 1 → slice_get ns i ≡ Some n → SameNode n m → need (here_of n) input n.view ≤ room

@@ -1,11 +1,11 @@
 -- A cluster's world is the run of its journal, whose answers are few.
-use Rattle.std.proofs.Common.{List, None, Option, Some, [], ap, arith, eq-eqb, false, filter, length, length-append, map, refl, slice_get, subst, suc, sym, true, zero, ℕ, ◌++◌, ◌+◌, ◌-◌, ◌∙◌, ◌∷◌, ◌≡◌, ◌≤◌}
+use Rattle.std.proofs.Common.{List, None, Option, Some, [], ap, arith, eq-eqb, false, filter, length, map, refl, slice_get, subst, suc, sym, true, zero, ℕ, ◌++◌, ◌+◌, ◌-◌, ◌∙◌, ◌∷◌, ◌≡◌, ◌≤◌}
 use Rattle.std.proofs.lemmas.List.{map-append}
 use Rattle.cluster_run.specs.Clusters.{IsRun, events_of}
 use Rattle.si_laws.proofs.Sessions.SessionAnswers.{session_holds}
 use Rattle.si_laws.proofs.Sessions.SessionHolds.{good_everywhere}
 use Rattle.si_laws.proofs.Sessions.SessionOrder.{told_in}
-use Rattle.si_laws.proofs.Times.BegunFew.{few_begin, own_total, place_key, places_of}
+use Rattle.si_laws.proofs.Times.BegunFew.{few_begin, place_key, places_length, places_of}
 use Rattle.si_laws.proofs.Times.NoRepeats.{Once, fits, map_length}
 use Rattle.si_laws.proofs.Stages.ParticipantSeats.{of_nth}
 use Rattle.si_laws.specs.SnapshotIsolation.{AnswersPlaced, IsAnswer, IsPlaced}
@@ -93,13 +93,6 @@ answers_once (x ∷ xs) h = (not_later, answers_once xs (λ i j a b p q e. let r
         let same : x.place ≡ r.0.place = λ j. record { session = record { 0 = s j }; index = i j } in
         let z = h 0 (suc at.0) x r.0 refl at.1 same in
         absurd (omega (arith, z))
-
-places_length : (vs : List View) → length (places_of vs) ≡ own_total vs
-places_length [] = refl
-places_length (v ∷ vs) =
-    let rec = places_length vs in
-    let a = length-append (map place_key v.own) (places_of vs) in
-    let m : length (map place_key v.own) ≡ length v.own = map_length place_key v.own in omega (arith, rec, a, m)
 
 places_there : (vs : List View) (n : ℕ) (v : View) (x : Own) → slice_get vs n ≡ Some v → In x v.own → In (place_key x) (places_of vs)
 places_there [] n v x e h = absurd (cc e)

@@ -6,7 +6,9 @@ use Rattle.spsi_laws.specs.Laws.Drain.{drain_from}
 use Rattle.std.specs.Prelude.{Bool, List, MatchOption, None, Option, Some, [], false, map, slice_get, slice_set, take, true, vec_capacity, vec_len, ℕ, ◌++◌, ◌+◌, ◌<◌, ◌∷◌, ◌≡◌, ◌≤◌}
 use Rattle.str_base.specs.declared.names.NodeId.{NodeId}
 use Rattle.str_model.specs.declared.messages.Input.{Input}
+use Rattle.str_model.specs.declared.messages.Answer.{Answer}
 use Rattle.str_model.specs.declared.names.Done.{Done}
+use Rattle.str_model.specs.declared.messages.Message.{Message}
 use Rattle.str_model.specs.Runs.{World, run, run_from}
 use Rattle.str_model.specs.Steps.{need, step}
 use Rattle.str_model.specs.Views.{Doing, View}
@@ -67,6 +69,10 @@ StepsAt input old new i (Some n) before after moves =
 abbrev pub world_of : Parts → World
 world_of p =
     record { nodes = views_of p.nodes.items; sent = p.out.messages; given = p.given.flags; journal = p.journal.items; answers = p.out.answers }
+
+-- the world of these nodes, messages, given flags, journal and answers
+abbrev pub resumed : List NodeState → List Message → List Bool → List Done → List Answer → World
+resumed nodes sent given journal answers = record { nodes = views_of nodes; sent = sent; given = given; journal = journal; answers = answers }
 
 -- the events of a journal
 abbrev pub events_of : List Done → List Event

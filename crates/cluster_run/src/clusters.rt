@@ -1,5 +1,5 @@
 //! A cluster, and its run.
-ghost use Rattle.cluster_run.specs.Clusters.{Entered, IsRun, PartlyDrained, PartlyScheduled, drained_from};
+ghost use Rattle.cluster_run.specs.Clusters.{ArePlaced, Entered, IsRun, PartlyDrained, PartlyScheduled, drained_from, resumed};
 ghost use Rattle.cluster_run.specs.Printing.{counted};
 ghost use Rattle.spsi_laws.specs.Laws.Ends.{Ended};
 ghost use Rattle.std.specs.List.{count_by, sum_by};
@@ -14,11 +14,11 @@ use crate::flags::GivenFlags;
 use crate::lines::Counts;
 use crate::members::{begun_among, held_among, opening_nodes};
 use crate::parts::Parts;
-use node_core::Outbox;
+use node_core::{Node, Outbox};
 use std::alloc::{AllocError, Global};
 use std::marker::{Model, Send, Sync};
 use str_base::SessionId;
-use str_model::{Answer, Done, Outcome};
+use str_model::{Answer, Done, Message, Outcome};
 use str_scene::{Event, KeyTable, Scene};
 
 /// All nodes of a scene, the messages that were sent, the journal and the answers. It is seen as its scene and a world, which is always the
@@ -52,6 +52,32 @@ impl Cluster {
                 out: Outbox::new(alloc),
                 given: GivenFlags::new(alloc),
                 journal: Vec::new(alloc),
+            },
+        })
+    }
+
+    /// The cluster of a scene that goes on from these nodes, messages, given flags, journal and answers, which are those of the run of
+    /// that journal. The error is want of memory.
+    pub fn resume(
+        scene: Scene,
+        nodes: Vec<Node>,
+        sent: Vec<Message>,
+        delivered: Vec<bool>,
+        journal: Vec<Done>,
+        answers: Vec<Answer>,
+    ) -> Result<Cluster, AllocError>
+        requires placed { ArePlaced scene nodes.items }
+        requires run { IsRun scene (resumed nodes.items sent.items delivered.items journal.items answers.items) }
+        ensures scene { IfOk result (λ c. c.scene ≡ scene) }
+        ensures world { IfOk result (λ c. c.world ≡ resumed nodes.items sent.items delivered.items journal.items answers.items) }
+    {
+        Ok(Cluster {
+            parts: Parts {
+                scene,
+                nodes,
+                out: Outbox::holding(sent, answers),
+                given: GivenFlags::holding(delivered),
+                journal,
             },
         })
     }

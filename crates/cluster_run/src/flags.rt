@@ -35,6 +35,14 @@ impl GivenFlags {
         }
     }
 
+    /// These flags. The oldest that is down is looked for once.
+    pub fn holding(flags: Vec<bool>) -> GivenFlags
+        ensures { result.flags ≡ flags.items }
+    {
+        let oldest = first_down(&flags, 0);
+        GivenFlags { flags, oldest }
+    }
+
     /// How many messages there are.
     pub fn len(&self) -> usize
         ensures { result ≡ length self.now.flags }

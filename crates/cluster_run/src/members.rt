@@ -2,8 +2,9 @@
 ghost use Rattle.cluster_run.specs.Clusters.{ArePlaced, HasRoom, IsReady, SameNodes, StepsAt, views_of};
 ghost use Rattle.node_core.specs.Working.{SameLists};
 ghost use Rattle.std.specs.List.{count_by, sum_by};
-ghost use Rattle.std.specs.Prelude.{◌≡◌, ◌<◌, ◌≤◌, ◌+◌, ◌-◌, ◌^◌, IfOk, IfSome, IsNone, None, length, not, replicate};
+ghost use Rattle.std.specs.Prelude.{◌≡◌, ◌<◌, ◌≤◌, ◌+◌, ◌-◌, ◌^◌, IfOk, IfSome, IsNone, None, length, not, replicate, true};
 ghost use Rattle.str_model.specs.Runs.{opening_view};
+ghost use Rattle.str_model.specs.Strange.{has_node};
 ghost use Rattle.str_model.specs.Views.{is_decided};
 ghost use Rattle.str_scene.specs.SceneLimits.{IsScene};
 ghost use Rattle.str_scene.specs.Scenes.{nth};
@@ -22,10 +23,24 @@ pub(crate) fn opening_nodes(alloc: Global, scene: &Scene) -> Result<Vec<Node>, A
 {
     let mut nodes = Vec::new(alloc);
     for i in 0..scene.nodes() {
-        let node = Node::new(alloc, NodeId(i + 1), scene)?;
+        let node = next_node(alloc, scene, &nodes, NodeId(i + 1))?;
         nodes.push(node)?;
     }
     Ok(nodes)
+}
+
+/// The next node at the beginning. Where there are nodes already, it shares their copy of the scene.
+fn next_node(alloc: Global, scene: &Scene, nodes: &[Node], id: NodeId) -> Result<Node, AllocError>
+    requires exists { has_node (record { scene = scene.now; node = id }) id ≡ true }
+    requires placed { ArePlaced scene.now nodes.now }
+    ensures scene { IfOk result (λ n. n.scene ≡ scene.now) }
+    ensures id { IfOk result (λ n. n.id ≡ id) }
+    ensures view { IfOk result (λ n. n.view ≡ opening_view scene.now) }
+{
+    match nodes.first() {
+        Some(first) => first.beside(alloc, id),
+        None => Node::new(alloc, id, scene),
+    }
 }
 
 /// The place of a node, counted from 0. None where there is no such node.

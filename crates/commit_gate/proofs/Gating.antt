@@ -3,6 +3,7 @@ use Rattle.std.proofs.Common.{Bool, List, None, Some, [], ap, cond, false, find,
 use Rattle.std.specs.Prelude.{option_map}
 use Rattle.std.proofs.lemmas.Option.{slice_get-map}
 use Rattle.std.proofs.lemmas.Bool.{or_right}
+use Rattle.std.specs.Cmp.Derive.{one_truth}
 use Rattle.std.specs.List.{list_any}
 use Rattle.commit_gate.specs.Answers.{Tells, is_missing}
 use Rattle.dependency_set.specs.declared.names.Dep.{Dep}
@@ -72,13 +73,8 @@ written_there p (w ∷ ws) vs h e = by_first (list_any (same_part p) w.parts) re
     by_first true t q m rec = written_at p vs m.0 m.1 m.2 (sym (m.3 p) ∙ t)
     by_first false t q m rec = rec q
 
-same_truth : (a b : Bool) → (a ≡ true → b ≡ true) → (b ≡ true → a ≡ true) → a ≡ b
-same_truth true b f g = sym (f refl)
-same_truth false true f g = g refl
-same_truth false false f g = refl
-
 written_same : (ws vs : List DepParts) → Meets ws vs → Meets vs ws → (p : PartId) → dependency_wrote ws p ≡ dependency_wrote vs p
-written_same ws vs h k p = same_truth (dependency_wrote ws p) (dependency_wrote vs p) (written_there p ws vs h) (written_there p vs ws k)
+written_same ws vs h k p = one_truth (dependency_wrote ws p) (dependency_wrote vs p) (written_there p ws vs h) (written_there p vs ws k)
 
 found_same : (ws vs : List DepParts) → ((p : PartId) → dependency_wrote ws p ≡ dependency_wrote vs p) → (parts : List Asked) → find (may_ask ws) parts ≡ find (may_ask vs) parts
 found_same ws vs h [] = refl

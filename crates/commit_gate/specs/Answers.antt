@@ -1,17 +1,20 @@
 -- What a gate says, and when it says so.
 use Rattle.std.specs.List.{list_any}
-use Rattle.std.specs.Prelude.{Bool, List, None, Some, find, is_some, not, slice_get, ℕ, ◌≡◌, ◌≤◌, ◌⊎◌}
+use Rattle.std.specs.Prelude.{Bool, IsTrue, List, None, Some, find, is_some, map, not, slice_get, ℕ, ◌≡◌, ◌≤◌, ◌⊎◌}
 use Rattle.commit_gate.specs.declared.gates.GateTurn.{GateTurn}
 use Rattle.commit_gate.specs.declared.gates.GateTurn.TheVariants.{Ask, Commit, Missing, Shut}
 use Rattle.dependency_set.specs.declared.names.Dep.{Dep}
+use Rattle.dependency_set.specs.Snapshots.{Snap}
 use Rattle.partition_map.specs.declared.rows.Asked.{Asked}
+use Rattle.partition_map.specs.Maps.{PartitionMap, participants}
 use Rattle.str_base.specs.declared.names.NodeId.{NodeId}
 use Rattle.str_base.specs.declared.names.PartId.{PartId}
 use Rattle.str_base.specs.declared.names.Ts.{Ts}
+use Rattle.str_base.specs.declared.names.Write.{Write}
 use Rattle.str_base.specs.Versions.{same_part}
 use Rattle.str_model.specs.Gates.{DepParts, dep_parts, may_ask}
 use Rattle.str_model.specs.Gates
-use Rattle.str_model.specs.Views.{Own}
+use Rattle.str_model.specs.Views.{Own, View}
 use Rattle.str_scene.specs.Scenes.{Here}
 
 -- ---- the turn of the model
@@ -34,6 +37,11 @@ pub record Tells (here : Here) (own : List Own) (deps : List Dep) (wrote : List 
   pub all : (i : ℕ) (d : Dep) → slice_get deps i ≡ Some d
       → (k : ℕ) × (w : DepParts) × (slice_get wrote k ≡ Some w) × IsSame w (dep_parts here own d)
 
+-- this holds of each own transaction with this snapshot and these participants, in each view with these dependencies
+abbrev pub InGatedViews : Snap → List Asked → List DepParts → (Here → View → Own → Type 0) → Type 0
+InGatedViews snap parts wrote P =
+    (here : Here) (view : View) (x : Own) → x.snap ≡ snap → x.parts ≡ parts → Tells here view.own snap.deps wrote → P here view x
+
 -- ---- causes
 
 -- the first partition that is not asked and in which none of these wrote
@@ -44,10 +52,22 @@ FirstFree wrote parts p = (a : Asked) × (find (may_ask wrote) parts ≡ Some a)
 abbrev pub NoneFree : List DepParts → List Asked → Type 0
 NoneFree wrote parts = find (may_ask wrote) parts ≡ None
 
+-- no such partition is below this one
+abbrev pub IsLeastFree : List DepParts → List Asked → PartId → Type 0
+IsLeastFree wrote parts p = (i : ℕ) (a : Asked) → slice_get parts i ≡ Some a → IsTrue (may_ask wrote a) → p.0 ≤ a.part.0
+
 -- the participants stand by rising partition
 abbrev pub IsUpwards : List Asked → Type 0
 IsUpwards parts =
     (i j : ℕ) (a b : Asked) → i ≤ j → slice_get parts i ≡ Some a → slice_get parts j ≡ Some b → a.part.0 ≤ b.part.0
+
+-- those that a map gives do
+abbrev pub ParticipantsRise : Type 0
+ParticipantsRise = (all : PartitionMap) (origin : NodeId) (ws : List Write) → IsUpwards (participants all origin ws)
+
+-- and still do after a change of each that keeps its partition
+abbrev pub ChangesKeepOrder : Type 0
+ChangesKeepOrder = (f : Asked → Asked) → ((a : Asked) → (f a).part ≡ a.part) → (parts : List Asked) → IsUpwards parts → IsUpwards (map f parts)
 
 -- the least number of a dependency
 pub record IsLeast (deps : List Dep) (q : ℕ) : Type 0 where

@@ -1,16 +1,13 @@
 //! What the gate of a certified transaction says.
-ghost use Rattle.commit_gate.specs.Answers.{FirstFree, FirstMissing, IsGreatest, IsLeast, IsUpwards, NoneFree, NoneMissing, Tells, is_missing, turn_of};
+ghost use Rattle.commit_gate.specs.Answers.{FirstFree, FirstMissing, InGatedViews, IsGreatest, IsLeast, IsLeastFree, IsUpwards, NoneFree, NoneMissing, is_missing, turn_of};
 ghost use Rattle.str_base.specs.declared.names.NodeId.{NodeId as Node};
 ghost use Rattle.str_base.specs.declared.names.PartId.{PartId as Part};
 ghost use Rattle.str_base.specs.declared.names.Ts.{Ts as Time};
-ghost use Rattle.partition_map.specs.declared.rows.Asked.{Asked as Participant};
 ghost use Rattle.std.specs.List.{list_any};
-ghost use Rattle.std.specs.Prelude.{◌≡◌, ◌↔◌, ◌≤◌, [], IfSome, IsTrue, ℕ, find, map, max, slice_get, true};
+ghost use Rattle.std.specs.Prelude.{◌≡◌, ◌↔◌, [], IfSome, ℕ, find, map, max, true};
 ghost use Rattle.str_base.specs.Versions.{same_part};
 ghost use Rattle.str_model.specs.Gates.{ack_or_zero, gate_of, gate_turn, dependency_wrote, may_ask};
 ghost use Rattle.str_model.specs.Turns.{greatest};
-ghost use Rattle.str_model.specs.Views.{Own, View};
-ghost use Rattle.str_scene.specs.Scenes.{Here};
 
 use dependency_set::Snap;
 use partition_map::{Asked, Participants};
@@ -85,11 +82,9 @@ pub enum GateTurn {
 /// that has not answered. Else it commits at the greatest of `lc` and all answers. It changes nothing.
 pub fn gate(snap: &Snap, lc: Ts, parts: &Participants, wrote: &[DepParts]) -> GateTurn
     ensures turn { turn_of result ≡ gate_turn snap.now lc.0 parts.now wrote.now }
-    ensures own { (here : Here) (view : View) (x : Own) → x.snap ≡ snap.now → x.parts ≡ parts.now →
-        Tells here view.own snap.now.deps wrote.now → turn_of result ≡ gate_of here view lc.0 x }
+    ensures own { InGatedViews snap.now parts.now wrote.now (λ here view x. turn_of result ≡ gate_of here view lc.0 x) }
     ensures ask { (part : Part) → (result ≡ GateTurn.Ask part) ↔ FirstFree wrote.now parts.now part }
-    ensures least { (part : Part) (i : ℕ) (a : Participant) → result ≡ GateTurn.Ask part → IsUpwards parts.now →
-        slice_get parts.now i ≡ Some a → IsTrue (may_ask wrote.now a) → part.0 ≤ a.part.0 }
+    ensures least { (part : Part) → result ≡ GateTurn.Ask part → IsUpwards parts.now → IsLeastFree wrote.now parts.now part }
     ensures shut { (by : ℕ) → (result ≡ GateTurn.Shut by) ↔ (NoneFree wrote.now parts.now × IsLeast snap.now.deps by) }
     ensures missing { (part : Part) (node : Node) → (result ≡ GateTurn.Missing part node) ↔
         (NoneFree wrote.now parts.now × (snap.now.deps ≡ []) × FirstMissing parts.now part node) }

@@ -2,5 +2,6 @@
 #![tactic(auto)]
 
 pub mod gates;
+pub mod laws;
 
 pub use gates::{DepParts, GateTurn, gate};

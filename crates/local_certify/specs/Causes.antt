@@ -1,8 +1,17 @@
 -- Why a certification conflicts or waits, and what a timestamp is above.
-use Rattle.std.specs.Prelude.{List, None, Some, find, length, slice_get, ℕ, ◌<◌, ◌-◌, ◌^◌, ◌≡◌}
+use Rattle.std.specs.Prelude.{List, None, Some, find, length, slice_get, ℕ, ◌<◌, ◌-◌, ◌^◌, ◌↔◌, ◌≡◌}
+use Rattle.cache_partition.specs.CacheLists.{CacheList}
+use Rattle.dependency_set.specs.declared.snaps.OwnSnap.{OwnSnap}
 use Rattle.dependency_set.specs.Snapshots.{Snap}
+use Rattle.local_certify.specs.declared.certs.CertTurn.{CertTurn}
+use Rattle.local_certify.specs.declared.certs.CertTurn.TheVariants.{Certified, Conflict, WaitGate}
+use Rattle.partition_map.specs.Maps.{PartitionMap}
+use Rattle.replica_store.specs.StoreLists.{StoreList}
 use Rattle.snapshot_read.specs.Causes.{GateWaits}
+use Rattle.snapshot_read.specs.Shown.{InViews}
 use Rattle.str_base.specs.declared.names.KeyId.{KeyId}
+use Rattle.str_base.specs.declared.names.NodeId.{NodeId}
+use Rattle.str_base.specs.declared.names.Ts.{Ts}
 use Rattle.str_base.specs.declared.names.TxId.{TxId}
 use Rattle.str_base.specs.declared.names.Version.{Version}
 use Rattle.str_base.specs.declared.names.Write.{Write}
@@ -40,3 +49,21 @@ pub record IsAbove (view : View) (snap : Snap) (ws : List Write) (lc : ℕ) : Ty
   pub snap_below : snap.rs < lc
   pub marks_below : (i : ℕ) (w : Write) → slice_get ws i ≡ Some w → mark_of view.marks w.key < lc
   pub newest_below : (i : ℕ) (w : Write) → slice_get ws i ≡ Some w → newest view.versions w.key < lc
+
+-- ---- a view of the node
+
+-- this holds in each view of the node that says the same as these arguments and has these marks
+abbrev pub InMarkedViews : NodeId → List OwnSnap → StoreList → CacheList → PartitionMap → List ℕ → (Here → View → Type 0) → Type 0
+InMarkedViews node own store cache map marks P = InViews node own store cache map (λ here view. view.marks ≡ marks → P here view)
+
+-- a certification conflicts exactly with the first version that is Pre or above the snapshot
+abbrev pub NamesConflict : CertTurn → Snap → List Write → Here → View → Type 0
+NamesConflict turn snap ws here view = (by : TxId) (key : KeyId) → (turn ≡ Conflict by key) ↔ FirstConflict view snap ws by key
+
+-- it waits exactly for whom the gate of the new snapshot names
+abbrev pub NamesGate : CertTurn → Snap → List Write → Here → View → Type 0
+NamesGate turn snap ws here view = (by : TxId) → (turn ≡ WaitGate by) ↔ CertWaits here view snap ws by
+
+-- it certifies only above the snapshot, and above the mark and the newest version of each written key
+abbrev pub CertifiesAbove : CertTurn → Snap → List Write → Here → View → Type 0
+CertifiesAbove turn snap ws here view = (lc : Ts) (new : Snap) → turn ≡ Certified lc new → IsAbove view snap ws lc.0

@@ -1,20 +1,15 @@
 //! Certification of an own transaction.
-ghost use Rattle.std.specs.Prelude.{◌≡◌, ◌↔◌, ◌<◌, ◌≤◌, ◌∷◌, IfOk, Some, [], false, length, max, slice_get, ℕ};
-ghost use Rattle.dependency_set.specs.Snapshots.{Snap as Value};
-ghost use Rattle.local_certify.specs.Causes.{AllBelow, CertWaits, FirstConflict, IsAbove, time_end};
+ghost use Rattle.std.specs.Prelude.{◌≡◌, ◌<◌, ◌≤◌, ◌∷◌, IfOk, Some, [], false, length, max, slice_get, ℕ};
+ghost use Rattle.local_certify.specs.Causes.{AllBelow, CertifiesAbove, InMarkedViews, NamesConflict, NamesGate, time_end};
 ghost use Rattle.local_certify.specs.Judging.{passed_by};
 ghost use Rattle.local_certify.specs.ListCerts.{closed_at, list_cert};
 ghost use Rattle.local_certify.specs.Turning.{turn_of};
 ghost use Rattle.partition_map.specs.Maps.{HasKey};
-ghost use Rattle.snapshot_read.specs.Shown.{AreNamed, AreTold, Shows, StandAt, of_key, held};
+ghost use Rattle.snapshot_read.specs.Shown.{AreNamed, AreTold, StandAt, of_key, held};
 ghost use Rattle.str_base.specs.declared.names.KeyId.{KeyId as Key};
-ghost use Rattle.str_base.specs.declared.names.Ts.{Ts as Time};
-ghost use Rattle.str_base.specs.declared.names.TxId.{TxId as Name};
 ghost use Rattle.str_base.specs.declared.names.Write.{Write as AWrite};
 ghost use Rattle.str_base.specs.Versions.{is_local, mark_of, newest};
 ghost use Rattle.str_model.specs.Turns.{cert_turn};
-ghost use Rattle.str_model.specs.Views.{View};
-ghost use Rattle.str_scene.specs.Scenes.{Here};
 ghost use Rattle.version_chain.specs.ChainLists.{Each};
 
 use crate::judging::judge_all;
@@ -61,10 +56,10 @@ pub fn certify(
     requires told { AreTold own.now snap.now.rs store.now.versions cache.now.versions }
     requires times { AllBelow snap.now.rs marks.now store.now.versions cache.now.versions }
     ensures lists { turn_of result ≡ list_cert node map.now own.now store.now.versions cache.now.versions marks.now snap.now writes.now }
-    ensures turn { (here : Here) (view : View) → Shows here view node own.now store.now cache.now map.now → view.marks ≡ marks.now → turn_of result ≡ cert_turn here view snap.now writes.now }
-    ensures conflict { (here : Here) (view : View) → Shows here view node own.now store.now cache.now map.now → view.marks ≡ marks.now → (by : Name) (key : Key) → (result ≡ CertTurn.Conflict by key) ↔ FirstConflict view snap.now writes.now by key }
-    ensures wait { (here : Here) (view : View) → Shows here view node own.now store.now cache.now map.now → view.marks ≡ marks.now → (by : Name) → (result ≡ CertTurn.WaitGate by) ↔ CertWaits here view snap.now writes.now by }
-    ensures above { (here : Here) (view : View) → Shows here view node own.now store.now cache.now map.now → view.marks ≡ marks.now → (lc : Time) (s : Value) → result ≡ CertTurn.Certified lc s → IsAbove view snap.now writes.now lc.0 }
+    ensures turn { InMarkedViews node own.now store.now cache.now map.now marks.now (λ here view. turn_of result ≡ cert_turn here view snap.now writes.now) }
+    ensures conflict { InMarkedViews node own.now store.now cache.now map.now marks.now (NamesConflict result snap.now writes.now) }
+    ensures wait { InMarkedViews node own.now store.now cache.now map.now marks.now (NamesGate result snap.now writes.now) }
+    ensures above { InMarkedViews node own.now store.now cache.now map.now marks.now (CertifiesAbove result snap.now writes.now) }
 {
     let _ = (store.node(), cache.node());
     judge(node, snap, writes, own, store, cache, marks, map)

@@ -1,5 +1,5 @@
 -- What contracts see of a node, of its work in a step, and of what a step leaves.
-use Rattle.std.specs.Prelude.{Bool, List, None, Option, Some, [], false, length, slice_get, true, ℕ, ◌++◌, ◌+◌, ◌≡◌, ◌≤◌}
+use Rattle.std.specs.Prelude.{Bool, List, MatchOption, None, Option, Some, [], false, length, slice_get, true, ℕ, ◌++◌, ◌+◌, ◌≡◌, ◌≤◌}
 use Rattle.node_parts.specs.declared.held.Held.{Held}
 use Rattle.node_parts.specs.Holding.{HasRoom, StandsAt}
 use Rattle.node_parts.specs.NodeScripts.{scripts_of}
@@ -55,6 +55,10 @@ pub record Steps (old new : NodeState) (before after : OutState) (d : Doing) : T
   pub answers : after.answers ≡ before.answers ++ d.released
   pub room : old.room ≤ new.room + d.added
   pub space : before.space ≤ after.space + (length d.sent + length d.released)
+
+-- the node and the outbox after a step on an input by whose rule this is done; where it is idle nothing changes, and the answer is false
+abbrev pub Stepped : Option Doing → Bool → NodeState → NodeState → OutState → OutState → Type 0
+Stepped o moves old new before after = MatchOption o ((moves ≡ false) × (new ≡ old) × (after ≡ before)) (λ d. (moves ≡ true) × Steps old new before after d)
 
 -- ---- the work of a step
 

@@ -1,7 +1,7 @@
 //! A node.
-ghost use Rattle.node_core.specs.Working.{SameLists, SameNode, Steps, here_of};
+ghost use Rattle.node_core.specs.Working.{SameLists, SameNode, Stepped, here_of};
 ghost use Rattle.std.specs.List.{count_by};
-ghost use Rattle.std.specs.Prelude.{◌≡◌, ◌≤◌, ◌+◌, ◌*◌, ◌^◌, IfOk, IfSome, MatchOption, false, is_some, length, not, true, ℕ};
+ghost use Rattle.std.specs.Prelude.{◌≡◌, ◌≤◌, ◌+◌, ◌*◌, ◌^◌, IfOk, IfSome, false, is_some, length, not, true, ℕ};
 ghost use Rattle.str_model.specs.declared.messages.Input.TheVariants.{Client};
 ghost use Rattle.str_model.specs.NodeFacts.{NodeFacts, ViewBelow};
 ghost use Rattle.str_model.specs.Runs.{opening_view};
@@ -49,6 +49,17 @@ impl Node {
         Ok(Node { work })
     }
 
+    /// Another node of the same scene at the beginning. The scene is shared and not copied. The error is want of memory.
+    pub fn beside(&self, alloc: Global, id: NodeId) -> Result<Node, AllocError>
+        requires { has_node (record { scene = self.now.scene; node = id }) id ≡ true }
+        ensures scene { IfOk result (λ n. n.scene ≡ self.now.scene) }
+        ensures id { IfOk result (λ n. n.id ≡ id) }
+        ensures view { IfOk result (λ n. n.view ≡ opening_view self.now.scene) }
+    {
+        let work = self.work.beside(alloc, id)?;
+        Ok(Node { work })
+    }
+
     /// Makes room for the next step on this input in the node and in the outbox, and gives a number that is as
     /// great as the need at least. The view and the lists stay, also after an error.
     pub fn ready(&mut self, input: &Input, out: &mut Outbox) -> Result<usize, AllocError>
@@ -74,7 +85,7 @@ impl Node {
     pub fn step(&mut self, input: &Input, out: &mut Outbox) -> bool
         requires room { need (here_of self.old) input.now self.old.view ≤ self.old.room }
         requires space { need (here_of self.old) input.now self.old.view ≤ out.old.space }
-        ensures { MatchOption (step (here_of self.old) input.now self.old.view) ((result ≡ false) × (self.new ≡ self.old) × (out.new ≡ out.old)) (λ d. (result ≡ true) × Steps self.old self.new out.old out.new d) }
+        ensures { Stepped (step (here_of self.old) input.now self.old.view) result self.old self.new out.old out.new }
     {
         self.work.begin_step(out);
         let moves = self.work.step(input);

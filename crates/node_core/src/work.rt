@@ -55,10 +55,33 @@ impl Work {
         ensures node { IfOk result (λ w. IsNode w.here w.doing.view) }
         ensures out { IfOk result (λ w. (w.earlier ≡ []) × (w.answered ≡ [])) }
     {
-        let site = Site::new(alloc, id, scene)?;
+        Work::at(alloc, Site::new(alloc, id, scene)?)
+    }
+
+    /// Another node of the same scene at the beginning, and no step. The scene is shared and not copied. It fails where memory runs out.
+    pub fn beside(&self, alloc: Global, id: NodeId) -> Result<Work, AllocError>
+        requires { has_node (record { scene = self.now.here.scene; node = id }) id ≡ true }
+        ensures here { IfOk result (λ w. w.here ≡ record { scene = self.now.here.scene; node = id }) }
+        ensures view { IfOk result (λ w. w.doing.view ≡ opening_view self.now.here.scene) }
+        ensures fresh { IfOk result IsFresh }
+        ensures node { IfOk result (λ w. IsNode w.here w.doing.view) }
+        ensures out { IfOk result (λ w. (w.earlier ≡ []) × (w.answered ≡ [])) }
+    {
+        let _ = &self.held;
+        Work::at(alloc, self.site.beside(id)?)
+    }
+
+    /// A node at its place in a scene at the beginning, and no step. It fails where memory runs out.
+    fn at(alloc: Global, site: Site) -> Result<Work, AllocError>
+        ensures here { IfOk result (λ w. w.here ≡ site) }
+        ensures view { IfOk result (λ w. w.doing.view ≡ opening_view site.scene) }
+        ensures fresh { IfOk result IsFresh }
+        ensures node { IfOk result (λ w. IsNode w.here w.doing.view) }
+        ensures out { IfOk result (λ w. (w.earlier ≡ []) × (w.answered ≡ [])) }
+    {
         let held = Held::new(alloc, &site)?;
-        let sessions = scene.sessions().len() + 1;
-        let own = OwnList::new(alloc, id, site.scripts(), sessions)?;
+        let sessions = site.scene().sessions().len() + 1;
+        let own = OwnList::new(alloc, site.id(), site.scripts(), sessions)?;
         let out = Sending::new(alloc);
         Ok(Work {
             site,

@@ -1,5 +1,6 @@
 -- The commit of an own transaction in one written partition after the other, and the places of what it wrote.
 use Rattle.std.proofs.Common.{Bool, List, [], ap, drop, eqb-true, false, filter, if◌then◌else◌, length, map, not, refl, rules, subst, sym, tests, true, ℕ, ◌&&◌, ◌+◌, ◌<◌, ◌==◌, ◌||◌, ◌∙◌, ◌∷◌, ◌≡◌, ◌≤◌}
+use Rattle.std.proofs.lemmas.Bool.{or_right}
 use Rattle.std.proofs.lemmas.List.{drop_all, drop_more}
 use Rattle.std.specs.List.{list_any}
 use Rattle.std.specs.Prelude.{slice_index_or}
@@ -13,7 +14,6 @@ use Rattle.replica_store.proofs.Merging.{ListsApart}
 use Rattle.replica_store.proofs.OwnCommit.{decided_each, finalise_each}
 use Rattle.replica_store.specs.StoreLists.{IsStore, LiesIn, StoreList}
 use Rattle.str_base.proofs.Order.{apart_back}
-use Rattle.str_base.specs.declared.names.KeyId.{KeyId}
 use Rattle.str_base.specs.declared.names.PartId.{PartId}
 use Rattle.str_base.specs.declared.names.Ts.{Ts}
 use Rattle.str_base.specs.declared.names.TxId.{TxId}
@@ -23,7 +23,6 @@ use Rattle.str_base.specs.Members.{In}
 use Rattle.str_base.specs.Versions.{finalise, insert_all, insert_version, of_pair, of_tx, same_key, same_part, without}
 use Rattle.str_model.specs.Acts.{decided_versions}
 use Rattle.str_model.specs.NodeFacts.{AreDistinct}
-use Rattle.str_model.specs.Strange.{distinct_keys}
 use Rattle.str_scene.proofs.Mapped.{part-mapped}
 use Rattle.str_scene.specs.Scenes.{Here, hosts, map_of, part_of}
 use Rattle.version_chain.proofs.Each.{each_both, each_insert, each_so}
@@ -44,10 +43,6 @@ stored_parts here ws = parts_where here (hosts here.scene here.node) ws
 -- the others
 abbrev pub cached_parts : Here → List Write → List PartId
 cached_parts here ws = parts_where here (λ p. not (hosts here.scene here.node p)) ws
-
-or_right : (a b : Bool) → b ≡ true → (a || b) ≡ true
-or_right true b e = refl
-or_right false b e = e
 
 -- a written partition that passes the test is among them
 pub among_where : (here : Here) (test : PartId → Bool) (ws : List Write) (q : PartId) → test q ≡ true → maps.is_written (maps.part_of (map_of here.scene)) ws q ≡ true → is_among (parts_where here test ws) q ≡ true

@@ -1,15 +1,19 @@
 -- What a node holds, and the view that it shows.
-use Rattle.std.specs.Prelude.{List, ℕ, ◌≡◌, ◌≤◌}
+use Rattle.std.specs.Prelude.{List, map, ℕ, ◌≡◌, ◌≤◌}
+use Rattle.cache_partition.specs.CacheLists.{CacheList}
 use Rattle.node_parts.specs.declared.held.Held.{Held}
+use Rattle.replica_store.specs.StoreLists.{StoreList}
 use Rattle.snapshot_read.specs.Shown.{StandAt}
 use Rattle.str_base.specs.declared.names.Kind.TheVariants.{Local}
 use Rattle.str_base.specs.declared.names.Ts.{Ts}
 use Rattle.str_base.specs.declared.names.TxId.{TxId}
 use Rattle.str_base.specs.declared.names.Version.{Version}
 use Rattle.str_base.specs.declared.names.Write.{Write}
+use Rattle.str_base.specs.Versions.{insert_all}
+use Rattle.str_model.specs.Acts.{local_version}
 use Rattle.str_model.specs.Views.{Own, View}
 use Rattle.str_scene.specs.Scenes.{Here, map_of, part_of}
-use Rattle.version_chain.specs.ChainLists.{merged}
+use Rattle.version_chain.specs.ChainLists.{Apart, Each, merged}
 
 -- both stores are of the node, with the partitions that it hosts
 abbrev pub StandsAt : Here → Held → Type 0
@@ -40,6 +44,18 @@ pub record SameHeld (old new : Held) : Type 0 where
   pub done : new.done.pairs ≡ old.done.pairs
   pub waiters : new.parked.waiters ≡ old.parked.waiters
   pub room : (n : ℕ) → HasRoom n old → HasRoom n new
+
+-- no version of the cache lies where one of the store does
+abbrev pub LieApart : StoreList → CacheList → Type 0
+LieApart store cache = Each (λ v. Each (Apart v) store.versions) cache.versions
+
+-- the versions of both stores in order
+abbrev pub joined : StoreList → CacheList → List Version
+joined store cache = merged cache.versions store.versions
+
+-- the versions with what an own transaction wrote, Local at lc
+abbrev pub with_own : Here → ℕ → ℕ → List Write → List Version → List Version
+with_own here i lc writes versions = insert_all (map (local_version here i lc) writes) versions
 
 -- the Local version that a write of the transaction becomes
 abbrev pub own_version : Here → TxId → Ts → Write → Version

@@ -1,5 +1,5 @@
 -- What contracts see of a node's own transactions.
-use Rattle.std.specs.Prelude.{Bool, List, None, Option, Some, [], false, filter, if◌then◌else◌, length, map, nat_lt, not, slice_get, slice_index, slice_set, suc, true, zero, ℕ, ◌&&◌, ◌++◌, ◌+◌, ◌-◌, ◌<◌, ◌==◌, ◌^◌, ◌∷◌, ◌≡◌, ◌≤◌}
+use Rattle.std.specs.Prelude.{Bool, List, MatchOption, None, Option, Some, [], false, filter, if◌then◌else◌, length, map, nat_lt, not, slice_get, slice_index, slice_set, suc, true, ℕ, ◌&&◌, ◌++◌, ◌+◌, ◌-◌, ◌<◌, ◌==◌, ◌^◌, ◌∷◌, ◌≡◌, ◌≤◌, ◌⊎◌}
 use Rattle.cascade_abort.specs.declared.fates.DepTurn.{DepTurn}
 use Rattle.cascade_abort.specs.Fates.{turn_of}
 use Rattle.dependency_set.specs.declared.snaps.OwnSnap.{OwnSnap}
@@ -8,19 +8,21 @@ use Rattle.held_answer.specs.Answers.{HeldAnswer}
 use Rattle.snapshot_read.specs.Shown.{told_from}
 use Rattle.str_base.specs.declared.names.KeyId.{KeyId}
 use Rattle.str_base.specs.declared.names.NodeId.{NodeId}
+use Rattle.str_base.specs.declared.names.PartId.{PartId}
 use Rattle.str_base.specs.declared.names.SessionId.{SessionId}
 use Rattle.str_base.specs.declared.names.TxId.{TxId}
 use Rattle.str_base.specs.declared.names.Value.{Value}
 use Rattle.str_base.specs.Versions.{stamp}
 use Rattle.str_model.specs.Acts.{in_phase}
 use Rattle.str_model.specs.Clients.{last_index, of_session}
+use Rattle.str_model.specs.declared.messages.Answer.{Answer}
+use Rattle.str_model.specs.declared.messages.Outcome.{Outcome}
 use Rattle.str_model.specs.declared.names.Got.{Got}
-use Rattle.str_model.specs.NodeFacts.{how_many}
+use Rattle.str_model.specs.Returns.{with_ack}
 use Rattle.str_model.specs.Turns.{CommittedAt, Fate, Gone, Open, dep_turn, left_by}
 use Rattle.str_model.specs.Views.{Active, Closing, Own, is_decided, lc_of}
 use Rattle.str_scene.specs.declared.names.Op.{Op}
 use Rattle.str_scene.specs.declared.names.TxPlace.{TxPlace}
-use Rattle.tx_script.specs.declared.turns.Turn.{Turn}
 use Rattle.tx_script.specs.declared.turns.Turn.TheVariants.{Ask, End, Got as GotIt, Moved, Unmet, Wished}
 use Rattle.tx_script.specs.Doing.{run_of, with_run}
 use Rattle.tx_script.specs.Turns.{Turned, turn_of as script_turn}
@@ -109,6 +111,25 @@ pub record IsOwnList (node : NodeId) (names : List Named) (open_ : List ℕ) (to
 -- there is such a transaction at the place
 abbrev pub OwnHas : (Own → Type 0) → ℕ → List Own → Type 0
 OwnHas P i own = (x : Own) × (slice_get own i ≡ Some x) × P x
+
+-- the transaction at the place comes to this, and all else stays
+abbrev pub ComesTo : (Own → Own) → ℕ → OwnState → OwnState → Type 0
+ComesTo f i old new = (x : Own) → slice_get old.all i ≡ Some x → new ≡ record old { all = slice_set old.all i (f x) }
+
+-- the transaction at the place keeps the answer of a participant where it awaits one, else nothing changes; and whether it does
+abbrev pub KeepsAck : PartId → NodeId → ℕ → ℕ → Bool → OwnState → OwnState → Type 0
+KeepsAck part node ts i result old new = (x : Own) → slice_get old.all i ≡ Some x →
+    MatchOption (with_ack x.parts part node ts) ((result ≡ false) × (new ≡ old)) (λ ps. (result ≡ true) × (new ≡ record old { all = slice_set old.all i (record x { parts = ps }) }))
+
+-- the answer of the transaction at the place, with this outcome
+abbrev pub IsAnswerAt : (Own → Outcome) → ℕ → OwnState → Answer → Type 0
+IsAnswerAt outcome i own answer = (x : Own) → slice_get own.all i ≡ Some x →
+    answer ≡ record { tx = record { node = own.node; seq = i + 1 }; place = x.place; rs = stamp x.snap.rs; outcome = outcome x }
+
+-- the place of the transaction with this name; none where the name is not of the node or there is none yet
+abbrev pub IsPlaceOf : TxId → OwnState → Option ℕ → Type 0
+IsPlaceOf tx own result =
+    MatchOption result ((tx.node.0 ≡ own.node.0) → (tx.seq ≡ 0) ⊎ (length own.all < tx.seq)) (λ i. (tx.node.0 ≡ own.node.0) × (tx.seq ≡ i + 1) × (i < length own.all))
 
 -- it has committed or aborted
 abbrev pub is_closed : Fate → Bool

@@ -1,18 +1,18 @@
 //! The commit of what an own transaction wrote, and the places of what it is certified with.
 ghost use Rattle.cache_partition.specs.CacheLists.{StaysHere as CacheStays};
 ghost use Rattle.cascade_abort.specs.Removal.{AllWritten};
-ghost use Rattle.node_parts.specs.Holding.{own_version};
+ghost use Rattle.node_parts.specs.Holding.{LieApart, joined, own_version, with_own};
 ghost use Rattle.partition_map.specs.Maps.{HasKey};
 ghost use Rattle.replica_store.specs.StoreLists.{StaysHere as StoreStays};
 ghost use Rattle.snapshot_read.specs.Shown.{StandAt};
-ghost use Rattle.std.specs.Prelude.{◌≡◌, ◌<◌, ◌≤◌, ◌+◌, ℕ, Some, false, if◌then◌else◌, length, map, slice_get, true};
+ghost use Rattle.std.specs.Prelude.{◌≡◌, ◌<◌, ◌≤◌, ◌+◌, ℕ, Some, false, if◌then◌else◌, length, slice_get, true};
 ghost use Rattle.str_base.specs.declared.names.Write.{Write as AWrite};
-ghost use Rattle.str_base.specs.Versions.{finalise, insert_all, insert_version, is_local, of_pair, of_tx, without};
-ghost use Rattle.str_model.specs.Acts.{decided_versions, local_version};
+ghost use Rattle.str_base.specs.Versions.{finalise, insert_version, is_local, of_pair, of_tx, without};
+ghost use Rattle.str_model.specs.Acts.{decided_versions};
 ghost use Rattle.str_model.specs.NodeFacts.{AreDistinct};
 ghost use Rattle.str_model.specs.Views.{name_of};
 ghost use Rattle.str_scene.specs.Scenes.{map_of};
-ghost use Rattle.version_chain.specs.ChainLists.{Apart, Each, is_among, merged};
+ghost use Rattle.version_chain.specs.ChainLists.{Apart, Each, is_among};
 
 use crate::sites::Site;
 use cache_partition::CachePartition;
@@ -35,8 +35,7 @@ pub fn commit_all(
     requires cached { AllWritten (map_of site.now.scene) writes.now tx cache.old.versions }
     ensures cache { cache.new.versions ≡ without (of_tx tx) cache.old.versions }
     ensures store { store.new.versions ≡ decided_versions site.now tx fc.0 store.old.versions }
-    ensures merged { Each (λ v. Each (Apart v) store.old.versions) cache.old.versions →
-        merged cache.new.versions store.new.versions ≡ decided_versions site.now tx fc.0 (merged cache.old.versions store.old.versions) }
+    ensures merged { LieApart store.old cache.old → joined store.new cache.new ≡ decided_versions site.now tx fc.0 (joined store.old cache.old) }
     ensures store_here { StoreStays store.old store.new }
     ensures cache_here { CacheStays cache.old cache.new }
     ensures store_spare { store.old.spare ≤ store.new.spare }
@@ -83,8 +82,7 @@ pub fn insert_all(
     requires cached { Each (λ v. of_tx tx v ≡ false) cache.old.versions }
     requires store_room { length writes.now ≤ store.old.spare }
     requires cache_room { length writes.now ≤ cache.old.spare }
-    ensures merged { (i : ℕ) → tx ≡ name_of site.now i → Each (λ v. Each (Apart v) store.old.versions) cache.old.versions →
-        merged cache.new.versions store.new.versions ≡ insert_all (map (local_version site.now i lc.0) writes.now) (merged cache.old.versions store.old.versions) }
+    ensures merged { (i : ℕ) → tx ≡ name_of site.now i → LieApart store.old cache.old → joined store.new cache.new ≡ with_own site.now i lc.0 writes.now (joined store.old cache.old) }
     ensures store_here { StoreStays store.old store.new }
     ensures cache_here { CacheStays cache.old cache.new }
     ensures store_spare { store.old.spare ≤ store.new.spare + length writes.now }

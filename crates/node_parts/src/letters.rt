@@ -1,12 +1,12 @@
 //! The messages that a node sends.
 
 ghost use Rattle.partition_map.specs.Maps.{HasKey, HasPart};
-ghost use Rattle.node_parts.specs.Letters.{Sends, marks_by};
+ghost use Rattle.node_parts.specs.Letters.{Sends, SendsAsks, SendsCommits, marks_by};
 ghost use Rattle.std.specs.Prelude.{◌≡◌, ◌<◌, ◌≤◌, ◌+◌, ◌∷◌, [], ℕ, Some, filter, length, slice_get};
 ghost use Rattle.str_base.specs.declared.names.Write.{Write as AWrite};
-ghost use Rattle.str_base.specs.Versions.{same_part, stamp};
-ghost use Rattle.str_model.specs.Acts.{abort_letters, ask_letters, asked_ones, commit_letters, copies};
-ghost use Rattle.str_model.specs.Views.{Own, View, letter, name_of};
+ghost use Rattle.str_base.specs.Versions.{same_part};
+ghost use Rattle.str_model.specs.Acts.{abort_letters, ask_letters, asked_ones, copies};
+ghost use Rattle.str_model.specs.Views.{Own, letter, name_of};
 ghost use Rattle.str_scene.specs.Scenes.{Here, in_part, map_of, part_of, replicas};
 
 use crate::sending::Sending;
@@ -94,7 +94,7 @@ pub fn send_commits(
     requires keys { (i : ℕ) (w : AWrite) → slice_get writes.now i ≡ Some w → HasKey (map_of site.now.scene) w.key }
     requires marked { (i : ℕ) (w : AWrite) → slice_get writes.now i ≡ Some w → w.key.0 < length marks.now }
     requires space { length parts.now ≤ out.old.space }
-    ensures { (i : ℕ) (x : Own) (view : View) → tx ≡ name_of site.now i → x.parts ≡ parts.now → x.writes ≡ writes.now → view.marks ≡ marks.now → Sends (commit_letters site.now i x fc.0 view) out.old out.new }
+    ensures { SendsCommits site.now tx fc.0 parts.now writes.now marks.now out.old out.new }
 {
     for other in parts.as_slice() {
         let part = other.part;
@@ -122,7 +122,7 @@ pub fn send_asks(
     requires part { HasPart (map_of site.now.scene) part }
     requires keys { (i : ℕ) (w : AWrite) → slice_get writes.now i ≡ Some w → HasKey (map_of site.now.scene) w.key }
     requires space { (i : ℕ) (x : Own) → x.writes ≡ writes.now → length (ask_letters site.now i lc.0 x part (replicas site.now.scene part)) ≤ out.old.space }
-    ensures { (i : ℕ) (x : Own) → tx ≡ name_of site.now i → stamp x.snap.rs ≡ rs → x.writes ≡ writes.now → Sends (ask_letters site.now i lc.0 x part (replicas site.now.scene part)) out.old out.new }
+    ensures { SendsAsks site.now tx rs lc.0 part writes.now out.old out.new }
 {
     let master = site.map().master(part);
     let arrived = Arrived {

@@ -34,6 +34,14 @@ impl Outbox {
         }
     }
 
+    /// An outbox that has these messages and answers.
+    pub fn holding(messages: Vec<Message>, answers: Vec<Answer>) -> Outbox
+        ensures messages { result.messages ≡ messages.items }
+        ensures answers { result.answers ≡ answers.items }
+    {
+        Outbox { messages, answers }
+    }
+
     /// The messages in the order in which they were sent.
     pub fn messages(&self) -> &Vec<Message>
         ensures { result.now.items ≡ self.now.messages }

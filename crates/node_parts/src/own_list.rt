@@ -1,15 +1,13 @@
 //! A node's own transactions.
-ghost use Rattle.node_parts.specs.Owning.{HasPlace, IsFree, Looked, Named, OwnHas, is_closed, is_told, open_from, told_again, told_also, told_no_more, turned};
+ghost use Rattle.node_parts.specs.Owning.{ComesTo, HasPlace, IsAnswerAt, IsFree, IsPlaceOf, KeepsAck, Looked, Named, OwnHas, is_closed, is_told, open_from, told_again, told_also, told_no_more, turned};
 ghost use Rattle.node_parts.specs.Phases.{number_if, phase_of};
 ghost use Rattle.snapshot_read.specs.Shown.{told_from};
-ghost use Rattle.std.specs.Prelude.{◌≡◌, ◌<◌, ◌≤◌, ◌+◌, ◌-◌, ◌^◌, ◌++◌, ◌∷◌, ◌==◌, ◌⊎◌, [], ℕ, IfOk, MatchOption, None, Some, false, filter, length, map, nat_lt, not, slice_get, slice_set, true, vec_capacity, vec_len};
+ghost use Rattle.std.specs.Prelude.{◌≡◌, ◌<◌, ◌≤◌, ◌+◌, ◌-◌, ◌^◌, ◌++◌, ◌∷◌, ◌==◌, [], ℕ, IfOk, None, Some, false, filter, length, map, nat_lt, not, slice_get, true, vec_capacity, vec_len};
 ghost use Rattle.std.specs.List.{list_any, position_or_len};
-ghost use Rattle.str_base.specs.Versions.{stamp};
 ghost use Rattle.str_model.specs.Acts.{decided_as, fresh, in_phase, with_asked};
 ghost use Rattle.str_model.specs.Clients.{last_index, of_session};
 ghost use Rattle.str_model.specs.declared.messages.Outcome.TheVariants.{Aborted as Aborts, Committed as Commits};
 ghost use Rattle.str_model.specs.NodeFacts.{how_many};
-ghost use Rattle.str_model.specs.Returns.{with_ack};
 ghost use Rattle.str_model.specs.Scripts.{noted};
 ghost use Rattle.cascade_abort.specs.Fates.{Names, kind_of};
 ghost use Rattle.str_model.specs.Turns.{own_fate};
@@ -121,7 +119,7 @@ impl OwnList {
 
     /// The place of the one with a name; none where the name is not of this node or there is none yet.
     pub fn place_of(&self, tx: TxId) -> Option<usize>
-        ensures { MatchOption result ((tx.node.0 ≡ self.now.node.0) → (tx.seq ≡ 0) ⊎ (length self.now.all < tx.seq)) (λ i. (tx.node.0 ≡ self.now.node.0) × (tx.seq ≡ i + 1) × (i < length self.now.all)) }
+        ensures { IsPlaceOf tx self.now result }
     {
         if tx.node != self.node || tx.seq == 0 {
             return None;
@@ -165,7 +163,7 @@ impl OwnList {
     pub fn operate(&mut self, i: usize, ops: &OpList) -> Turn
         requires { OwnHas (λ x. IsFree x × HasPlace ops.now x) i self.old.all }
         ensures turn { (x : Own) → slice_get self.old.all i ≡ Some x → result ≡ (turn_of ops.now (run_of x)).turn }
-        ensures own { (x : Own) → slice_get self.old.all i ≡ Some x → self.new ≡ record self.old { all = slice_set self.old.all i (turned (turn_of ops.now (run_of x)) x) } }
+        ensures own { ComesTo (λ x. turned (turn_of ops.now (run_of x)) x) i self.old self.new }
     {
         let own = &mut self.all[i];
         own.operate(ops)
@@ -174,7 +172,7 @@ impl OwnList {
     /// Keeps what a read gave to one that is not certified, with its snapshot from now on.
     pub fn keep_read(&mut self, i: usize, key: KeyId, value: Value, by: Option<TxId>, snap: Snap)
         requires { OwnHas (λ x. IsFree x × (length x.reads < 16) × (snap.rs ≡ x.snap.rs)) i self.old.all }
-        ensures { (x : Own) → slice_get self.old.all i ≡ Some x → self.new ≡ record self.old { all = slice_set self.old.all i (noted key value by snap x) } }
+        ensures { ComesTo (noted key value by snap) i self.old self.new }
     {
         let own = &mut self.all[i];
         own.keep_read(key, value, by, snap);
@@ -184,7 +182,7 @@ impl OwnList {
     pub fn set_phase(&mut self, i: usize, phase: Phase)
         requires old { OwnHas IsFree i self.old.all }
         requires new { (is_decided (phase_of phase) ≡ false) × (lc_of (phase_of phase) ≡ None) }
-        ensures { (x : Own) → slice_get self.old.all i ≡ Some x → self.new ≡ record self.old { all = slice_set self.old.all i (in_phase (phase_of phase) x) } }
+        ensures { ComesTo (in_phase (phase_of phase)) i self.old self.new }
     {
         let own = &mut self.all[i];
         own.set_phase(phase);
@@ -211,7 +209,7 @@ impl OwnList {
     pub fn certify(&mut self, i: usize, lc: Ts, snap: Snap, parts: Participants)
         requires own { OwnHas (λ x. IsFree x × (snap.rs ≡ x.snap.rs)) i self.old.all }
         requires few { how_many is_told self.old.all ≤ 15 }
-        ensures { (x : Own) → slice_get self.old.all i ≡ Some x → self.new ≡ record self.old { all = slice_set self.old.all i (record x { snap = snap; parts = parts; phase = Views.Local lc.0 }) } }
+        ensures { ComesTo (λ x. record x { snap = snap; parts = parts; phase = Views.Local lc.0 }) i self.old self.new }
     {
         let told = OwnSnap {
             seq: self.all[i].tx().seq,
@@ -225,7 +223,7 @@ impl OwnList {
     /// One that is certified and undecided has asked a partition.
     pub fn ask(&mut self, i: usize, lc: Ts, part: PartId)
         requires { OwnHas (λ x. (is_decided x.phase ≡ false) × (lc_of x.phase ≡ Some lc.0)) i self.old.all }
-        ensures { (x : Own) → slice_get self.old.all i ≡ Some x → self.new ≡ record self.old { all = slice_set self.old.all i (record x { parts = with_asked part x.parts; phase = Views.Global lc.0 }) } }
+        ensures { ComesTo (λ x. record x { parts = with_asked part x.parts; phase = Views.Global lc.0 }) i self.old self.new }
     {
         let own = &mut self.all[i];
         own.ask(lc, part);
@@ -235,7 +233,7 @@ impl OwnList {
     /// changes.
     pub fn ack(&mut self, i: usize, part: PartId, node: NodeId, ts: Ts) -> bool
         requires { i < length self.old.all }
-        ensures { (x : Own) → slice_get self.old.all i ≡ Some x → MatchOption (with_ack x.parts part node ts.0) ((result ≡ false) × (self.new ≡ self.old)) (λ ps. (result ≡ true) × (self.new ≡ record self.old { all = slice_set self.old.all i (record x { parts = ps }) })) }
+        ensures { KeepsAck part node ts.0 i result self.old self.new }
     {
         let own = &mut self.all[i];
         own.ack(part, node, ts)
@@ -244,8 +242,8 @@ impl OwnList {
     /// One commits, at `fc` where it wrote, and gives its answer away.
     pub fn commit(&mut self, i: usize, fc: Option<Ts>) -> Answer
         requires { OwnHas (λ x. is_decided x.phase ≡ false) i self.old.all }
-        ensures own { (x : Own) → slice_get self.old.all i ≡ Some x → self.new ≡ record self.old { all = slice_set self.old.all i (decided_as (Views.Committed (lc_of x.phase) (number_if fc)) x) } }
-        ensures answer { (x : Own) → slice_get self.old.all i ≡ Some x → result ≡ record { tx = record { node = self.old.node; seq = i + 1 }; place = x.place; rs = stamp x.snap.rs; outcome = Commits fc x.gets } }
+        ensures own { ComesTo (λ x. decided_as (Views.Committed (lc_of x.phase) (number_if fc)) x) i self.old self.new }
+        ensures answer { IsAnswerAt (λ x. Commits fc x.gets) i self.old result }
     {
         self.undecided = without(&self.undecided, i as u32);
         forget(&mut self.told, i as u32 + 1);
@@ -256,8 +254,8 @@ impl OwnList {
     /// One aborts with this cause, and gives its answer away.
     pub fn abort(&mut self, i: usize, cause: Cause) -> Answer
         requires { OwnHas (λ x. is_decided x.phase ≡ false) i self.old.all }
-        ensures own { (x : Own) → slice_get self.old.all i ≡ Some x → self.new ≡ record self.old { all = slice_set self.old.all i (decided_as (Views.Aborted (lc_of x.phase) cause) x) } }
-        ensures answer { (x : Own) → slice_get self.old.all i ≡ Some x → result ≡ record { tx = record { node = self.old.node; seq = i + 1 }; place = x.place; rs = stamp x.snap.rs; outcome = Aborts cause } }
+        ensures own { ComesTo (λ x. decided_as (Views.Aborted (lc_of x.phase) cause) x) i self.old self.new }
+        ensures answer { IsAnswerAt (λ x. Aborts cause) i self.old result }
     {
         self.undecided = without(&self.undecided, i as u32);
         forget(&mut self.told, i as u32 + 1);

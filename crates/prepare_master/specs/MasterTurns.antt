@@ -64,6 +64,11 @@ pub record ShowsReplica (view : View) (a : Arrived) (vs : List Version) (ms : Li
 abbrev pub IsAt : Here → NodeId → PartitionMap → Type 0
 IsAt here node map = (here.node ≡ node) × (map_of here.scene ≡ map)
 
+-- this holds in each view of the node of which these versions and marks are a part, with these decided pairs and waiters
+abbrev pub InReplicaViews : NodeId → PartitionMap → Arrived → List Version → List ℕ → List (TxId × PartId) → List Waiter → (Here → View → Type 0) → Type 0
+InReplicaViews node map a vs marks done waiters P =
+    (here : Here) (view : View) → IsAt here node map → ShowsReplica view a vs marks → view.done ≡ done → view.waiters ≡ waiters → P here view
+
 -- ---- the causes
 
 -- the Prepare is for this master and comes for the first time

@@ -1,7 +1,7 @@
 -- A drain takes the same events in both runs, and what is left to be done and what is written is the same.
 use Rattle.prune_laws.proofs.EventsAlike.{same_input}
 use Rattle.prune_laws.proofs.PairedLists.{alike_length}
-use Rattle.prune_laws.proofs.PruneHolds.{alongside, one_more, pruned_one_more}
+use Rattle.prune_laws.proofs.PruneHolds.{alongside, pruned_one_more}
 use Rattle.prune_laws.specs.PrunedClusters.{pruned_cluster_events, pruned_cluster_run, pruned_drain_events}
 use Rattle.prune_laws.specs.PruneLaw.{DrainsAlike, IsDecidedIn, LeftAlike, OutputsAlike, WholeDrainsAlike}
 use Rattle.si_laws.proofs.Stages.LinkedStates.{one_of}
@@ -18,14 +18,14 @@ use Rattle.str_model.specs.Drains.{cluster_events, cluster_run, drain_events, mo
 use Rattle.str_model.specs.Lines.{answer_line, counts, end_line, is_commit, journal_lines, render, render_j}
 use Rattle.str_model.specs.PrunedRuns.{bound, pruned_happens, pruned_run}
 use Rattle.str_model.specs.Pruning.{low, pruned}
-use Rattle.str_model.specs.Runs.{happens, run}
+use Rattle.str_model.specs.Runs.{happens, opening, run}
 use Rattle.str_model.specs.Steps.{after_rule, rule, step}
 use Rattle.str_model.specs.Views.{Doing, Own, View, is_decided, starts}
 use Rattle.str_model.specs.Work
 use Rattle.str_model.specs.Work.{left}
 use Rattle.str_scene.specs.declared.names.Event.{Event}
 use Rattle.str_scene.specs.Scenes.{Here, Scene, Session, nth}
-use Rattle.str_model.proofs.Principle.Everywhere.{at_place}
+use Rattle.str_model.proofs.Principle.Everywhere.{at_place, run-append}
 use Rattle.str_model.proofs.Pruning.TwinRules.{BothTo}
 use Rattle.str_model.proofs.Pruning.Twins.{Alike, AllAlike, a_refuse, a_reply, a_same}
 
@@ -212,7 +212,7 @@ drain_alike scene (suc n) es = by_event (next_event scene (pruned_run scene es).
     by_event (Some e) (Some f) q h =
         let same : e ≡ f = cc q in
         let rest : pruned_drain_events scene n (pruned_happens scene (pruned_run scene es) e) ≡ drain_events scene n (happens scene (run scene es) e) =
-        ap (pruned_drain_events scene n) (sym (pruned_one_more scene es e)) ∙ (h e ∙ ap (drain_events scene n) (one_more scene es e)) in
+        ap (pruned_drain_events scene n) (sym (pruned_one_more scene es e)) ∙ (h e ∙ ap (drain_events scene n) (run-append scene (opening scene) es (e ∷ []))) in
         ap (λ (xs : List Event). e ∷ xs) rest ∙ ap (λ (z : Event). z ∷ drain_events scene n (happens scene (run scene es) z)) same
 
 pub whole_drains_alike : WholeDrainsAlike

@@ -2,11 +2,11 @@
 use Rattle.prune_laws.proofs.Alongside.{regiven}
 use Rattle.prune_laws.proofs.LateMessages.{IsLate, late_refuse, late_reply, late_step}
 use Rattle.prune_laws.proofs.PairedLists.{BothAlike, alike_at, last_push}
-use Rattle.prune_laws.proofs.PruneHolds.{alongside, one_more, pruned_one_more}
+use Rattle.prune_laws.proofs.PruneHolds.{alongside, pruned_one_more}
 use Rattle.prune_laws.specs.PruneLaw.{EndsIdle, IsDecidedIn, LateIdle}
 use Rattle.si_laws.proofs.Stages.LinkedStates.{one_of}
 use Rattle.std.specs.List.{last_or}
-use Rattle.std.proofs.Common.{Bool, List, None, Option, Some, add-one, ap, false, if◌then◌else◌, refl, slice_get, slice_set, sub-one, subst, subst₂, suc, sym, true, zero, ℕ, ◌-◌, ◌≡◌, ◌≢◌}
+use Rattle.std.proofs.Common.{Bool, List, None, Option, Some, [], add-one, ap, false, if◌then◌else◌, refl, slice_get, slice_set, sub-one, subst, subst₂, suc, sym, true, zero, ℕ, ◌-◌, ◌∷◌, ◌≡◌, ◌≢◌}
 use Rattle.str_base.specs.declared.names.NodeId.{NodeId}
 use Rattle.str_model.specs.declared.messages.Input.TheVariants.{Deliver}
 use Rattle.str_model.specs.declared.messages.Message.{Message}
@@ -14,13 +14,13 @@ use Rattle.str_model.specs.declared.names.Done.{Done}
 use Rattle.str_model.specs.PrunedRuns.{PrunedWorld, bound, pruned_after, pruned_at, pruned_happens, pruned_run, taken_by}
 use Rattle.str_model.specs.Pruning.{low, pruned}
 use Rattle.str_model.specs.Runs
-use Rattle.str_model.specs.Runs.{World, happens, run, step_at, stepped}
+use Rattle.str_model.specs.Runs.{World, happens, opening, run, step_at, stepped}
 use Rattle.str_model.specs.Steps.{step}
 use Rattle.str_model.specs.Views.{Doing, View}
 use Rattle.str_scene.specs.declared.names.Event.{Event}
 use Rattle.str_scene.specs.declared.names.Event.TheVariants.{Deliver as DeliverEvent}
 use Rattle.str_scene.specs.Scenes.{Scene, nth}
-use Rattle.str_model.proofs.Principle.Everywhere.{at_place}
+use Rattle.str_model.proofs.Principle.Everywhere.{at_place, run-append}
 use Rattle.str_model.proofs.Pruning.Twins.{Alike, a_refuse, a_reply, a_same}
 
 idle_ends : (e : Event) (i : ℕ) (w : World) → EndsIdle (stepped e i w None).journal
@@ -75,7 +75,7 @@ late_idle scene es i c =
     let p : PrunedWorld = pruned_run scene es in
     let a = alongside scene es in
     let late = by_alike m n (subst₂ (BothAlike (IsDecidedIn w)) q r (both_nth i)) c.4 in (
-      subst (λ (z : World). EndsIdle z.journal) (sym (one_more scene es (DeliverEvent i))) (late_event scene w w (λ k x g. (x, g, refl)) i m q late.0),
+      subst (λ (z : World). EndsIdle z.journal) (sym (run-append scene (opening scene) es (DeliverEvent i ∷ []))) (late_event scene w w (λ k x g. (x, g, refl)) i m q late.0),
       subst (λ (z : PrunedWorld). EndsIdle z.world.journal) (sym (pruned_one_more scene es (DeliverEvent i)))
           (subst (λ (xs : List Done). EndsIdle xs) (sym (happens_journal scene p (DeliverEvent i))) (late_event scene w p.world same_own i n r late.1)),
     )

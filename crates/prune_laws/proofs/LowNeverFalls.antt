@@ -11,17 +11,11 @@ use Rattle.str_model.specs.Pruning.{low}
 use Rattle.str_model.specs.Runs.{World, opening, run}
 use Rattle.str_model.specs.Views.{Doing, Own, View}
 use Rattle.str_scene.specs.Scenes.{Scene}
-use Rattle.str_model.proofs.Changes.OwnChanges.{Becomes, OwnStep, aborts, certifies, closes, commits, goes_on, own_step, rests, starts_one, turns_one}
+use Rattle.str_model.proofs.Changes.OwnChanges.{OwnStep, own_step, rests, starts_one, turns_one}
+use Rattle.str_model.proofs.OwnFacts.NodeTimes.{becomes-rs}
 use Rattle.str_model.proofs.Principle.Everywhere.{IsSeen, Stage, at_place, during, ever_after, run-append, stage_of}
 use Rattle.str_model.proofs.Principle.SingleChanges.{Act, Where}
 use Rattle.str_model.proofs.Pruning.PruneKept.{Above, above-act, above_low, low_above}
-
-becomes_rs : (v : View) (f h : ℕ) (x y : Own) → Becomes v f h x y → y.snap.rs ≡ x.snap.rs
-becomes_rs v f h x y (goes_on b e) = b.snap.rs
-becomes_rs v f h x y (certifies lc o n p q s lt e) = s.rs
-becomes_rs v f h x y (commits lc fc o l c e m) = ap (λ (z : Own). z.snap.rs) e
-becomes_rs v f h x y (closes o n e m) = ap (λ (z : Own). z.snap.rs) e
-becomes_rs v f h x y (aborts c o e m) = ap (λ (z : Own). z.snap.rs) e
 
 -- the own transactions from the k-th on have snapshots at or above the mark
 abbrev BegunAbove : ℕ → ℕ → View → Type 0
@@ -37,7 +31,7 @@ begun_step g k d e (starts_one place rs up o f) a b i x q le =
 begun_step g k d e (turns_one j x y is o t) a b i u q le =
     elim (got_set d.own j i y u (ap (λ (xs : List Own). slice_get xs i) (sym o) ∙ q)) [
       | inl p ↦ (let s : u.snap.rs ≡ y.snap.rs = ap (λ (z : Own). z.snap.rs) p.1 in
-          let r = becomes_rs d d.floor e.floor x y t in
+          let r = becomes-rs d d.floor e.floor x y t in
           let n = p.0 in
           let old : g ≤ x.snap.rs = b j x is (omega (arith, n, le)) in omega (arith, s, r, old))
       | inr p ↦ b i u p.1 le

@@ -18,9 +18,6 @@ pruned_append : (scene : Scene) (p : PrunedWorld) (xs ys : List Event) → prune
 pruned_append scene p [] ys = refl
 pruned_append scene p (x ∷ xs) ys = pruned_append scene (pruned_happens scene p x) xs ys
 
-pub one_more : (scene : Scene) (es : List Event) (e : Event) → run scene (es ++ e ∷ []) ≡ happens scene (run scene es) e
-one_more scene es e = run-append scene (opening scene) es (e ∷ [])
-
 pub pruned_one_more : (scene : Scene) (es : List Event) (e : Event) → pruned_run scene (es ++ e ∷ []) ≡ pruned_happens scene (pruned_run scene es) e
 pruned_one_more scene es e = pruned_append scene (pruned_opening scene) es (e ∷ [])
 
@@ -54,7 +51,7 @@ goes_on : (scene : Scene) (early late : List Event) → Alongside (run scene ear
 goes_on scene early [] a = rw (append-nil early) a
 goes_on scene early (e ∷ late) a =
     let f = event_follows scene early (pruned_run scene early) a e in
-    let b : Alongside (run scene (early ++ e ∷ [])) (pruned_run scene (early ++ e ∷ [])) = subst₂ Alongside (sym (one_more scene early e)) (sym (pruned_one_more scene early e)) f.after in
+    let b : Alongside (run scene (early ++ e ∷ [])) (pruned_run scene (early ++ e ∷ [])) = subst₂ Alongside (sym (run-append scene (opening scene) early (e ∷ []))) (sym (pruned_one_more scene early e)) f.after in
     subst (λ (es : List Event). Alongside (run scene es) (pruned_run scene es)) (append_assoc early (e ∷ []) late) (goes_on scene (early ++ e ∷ []) late b)
 
 pub alongside : (scene : Scene) (es : List Event) → Alongside (run scene es) (pruned_run scene es)
@@ -85,7 +82,7 @@ messages_alike scene early e =
     record {
       new = f.new;
       pruned_new = f.pruned_new;
-      sent = ap (λ (w : World). w.sent) (one_more scene early e) ∙ f.sent;
+      sent = ap (λ (w : World). w.sent) (run-append scene (opening scene) early (e ∷ [])) ∙ f.sent;
       pruned_sent = ap (λ (p : PrunedWorld). p.world.sent) (pruned_one_more scene early e) ∙ f.pruned_sent;
       alike = are_alike (run scene early) f.new f.pruned_new f.alike;
     }

@@ -1,35 +1,29 @@
 -- What arrives may be judged and placed by a node that keeps the facts of its view.
-use Rattle.std.proofs.Common.{List, [], ap, eq-eqb, false, inl, inr, map, not, refl, sym, true, ℕ, ◌&&◌, ◌∙◌, ◌∷◌, ◌≡◌, ◌≤◌}
+use Rattle.std.proofs.Common.{List, [], ap, eq-eqb, false, inl, inr, map, not, refl, sym, true, ℕ, ◌∙◌, ◌∷◌, ◌≡◌, ◌≤◌}
 use Rattle.std.specs.List.{list_any}
-use Rattle.str_base.specs.declared.names.KeyId.{KeyId}
-use Rattle.str_base.specs.declared.names.NodeId.{NodeId}
 use Rattle.str_base.specs.declared.names.PartId.{PartId}
-use Rattle.str_base.specs.declared.names.Ts.{Ts}
 use Rattle.str_base.specs.declared.names.TxId.{TxId}
-use Rattle.str_model.specs.declared.names.KeyMark.{KeyMark}
-use Rattle.str_model.specs.declared.messages.Body.TheVariants.{Commit}
-use Rattle.str_model.specs.declared.messages.Input.{Input}
 use Rattle.str_base.specs.declared.names.Version.{Version}
 use Rattle.str_base.specs.declared.names.Write.{Write}
 use Rattle.str_model.specs.declared.messages.Arrived.{Arrived}
 use Rattle.prepare_master.specs.MasterTurns.{HaveMarks, IsBeside}
-use Rattle.replica_apply.specs.Changes.{AreMarked, CanInsert}
+use Rattle.replica_apply.specs.Changes.{CanInsert}
 use Rattle.replica_apply.specs.Slaves.{HeldByOpen, locals_to}
-use Rattle.str_base.specs.Versions.{insert_version, of_pair, same_key, same_part, same_tx}
+use Rattle.replica_store.specs.StoreLists.{ListsApart}
+use Rattle.str_base.specs.Versions.{insert_version, of_pair, same_key, same_tx}
 use Rattle.str_model.specs.Acts.{pre_version}
 use Rattle.str_model.specs.NodeFacts.{AreDistinct, MomentFacts}
-use Rattle.str_model.specs.Strange.{below_limit, distinct_keys, has_key, has_node, has_part, keys_in}
+use Rattle.str_model.specs.Strange.{distinct_keys, has_node}
 use Rattle.str_model.specs.Views.{View}
 use Rattle.str_scene.specs.SceneLimits.{IsScene}
 use Rattle.str_scene.specs.Scenes.{Here, hosts, part_of}
 use Rattle.str_model.proofs.Room.SmallNumbers.{locals_few}
 use Rattle.str_model.proofs.ViewFacts.NodeUses.{have_marks, held_open, is_beside, none_of_key}
 use Rattle.str_model.proofs.Changes.PairWords.{pair-is}
-use Rattle.str_model.proofs.ViewFacts.ValidMessages.{NamedWrites, came_named}
-use Rattle.str_model.proofs.Principle.SingleChanges.{Comes}
+use Rattle.str_model.proofs.ViewFacts.ValidMessages.{NamedWrites}
 use Rattle.version_chain.specs.ChainLists.{Apart, Each}
 use Rattle.std.proofs.lemmas.Bool.{false_from_ne_true}
-use Rattle.str_base.proofs.Members.{all_in, any_in, in_at, in_insert, map_in}
+use Rattle.str_base.proofs.Members.{any_in, in_at, in_insert, map_in}
 use Rattle.str_base.proofs.Tests.{and_true_left, and_true_right}
 use Rattle.str_base.specs.Members.{In}
 
@@ -99,7 +93,7 @@ module _ (here : Here) (v : View) (h : MomentFacts here v) where
   each-far u (w ∷ ws) i f g = (far-apart u w i (g w (inl refl)).0 f (g w (inl refl)).1, each-far u ws i f (λ z k. g z (inr k)))
 
   pub cache_apart : (cache store : List Version) → ((u : Version) → In u cache → (In u v.versions) × (hosts here.scene here.node u.part ≡ false))
-      → ((w : Version) → In w store → (In w v.versions) × (hosts here.scene here.node w.part ≡ true)) → Each (λ w. Each (Apart w) store) cache
+      → ((w : Version) → In w store → (In w v.versions) × (hosts here.scene here.node w.part ≡ true)) → ListsApart cache store
   cache_apart [] store f g = tt
   cache_apart (u ∷ us) store f g = (each-far u store (f u (inl refl)).0 (f u (inl refl)).1 g, cache_apart us store (λ z k. f z (inr k)) g)
 
@@ -111,15 +105,3 @@ cache_other here tx p hs (u ∷ us) f = (
   false_from_ne_true (of_pair tx p u) (λ e. let q : u.part ≡ p = (pair-is tx p u e).1 in cc (sym (f u (inl refl)) ∙ ap (λ z. hosts here.scene here.node z) q, hs)),
   cache_other here tx p hs us (λ z k. f z (inr k)),
 )
-
--- each mark that a commit brings is of a key with a mark
-pub marks_there : (here : Here) (v : View) → MomentFacts here v → (input : Input) (from : NodeId) (tx : TxId) (p : PartId) (fc : Ts) (ms : List KeyMark) → Comes here input from (Commit tx p fc ms) → AreMarked ms v.marks
-marks_there here v h input from tx p fc ms c i m e =
-    let n = came_named here input from (Commit tx p fc ms) c in
-    let a = and_true_right (has_node here tx.node) _ n in
-    let b = and_true_right (has_part here p) _ a in
-    let d = and_true_right (below_limit fc) _ b in
-    let k = and_true_left (keys_in here p (map (λ (z : KeyMark). z.key) ms)) _ d in
-    let l = and_true_right (distinct_keys (map (λ (z : KeyMark). z.key) ms)) _ k in
-    let q = all_in (λ (z : KeyId). has_key here z && same_part (part_of here.scene z) p) (map (λ (z : KeyMark). z.key) ms) m.key l (map_in (λ (z : KeyMark). z.key) ms m (in_at ms i m e)) in
-    have_marks here v h m.key (and_true_left (has_key here m.key) (same_part (part_of here.scene m.key) p) q)

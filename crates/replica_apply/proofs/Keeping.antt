@@ -1,5 +1,6 @@
 -- The last version that is not evicted, and which Replicate is taken.
 use Rattle.std.proofs.Common.{Bool, List, None, Option, Some, [], ap, arith, false, filter, length, length-append, not, refl, sym, true, ◌&&◌, ◌++◌, ◌<◌, ◌∙◌, ◌∷◌, ◌≡◌}
+use Rattle.std.proofs.Math.Bool.{and_comm}
 use Rattle.std.specs.List.{last_or, list_any}
 use Rattle.partition_map.specs.Maps.{PartitionMap, first_or, hosts, replicas}
 use Rattle.prepare_master.proofs.Showing.{leads_first}
@@ -14,16 +15,10 @@ use Rattle.str_model.specs.declared.messages.Arrived.{Arrived}
 use Rattle.str_model.specs.Proposals.{is_pair}
 use Rattle.version_chain.proofs.Lists.{filter_alike, filter_twice, last_fails, last_passes}
 
-both_ways : (a b : Bool) → (a && b) ≡ (b && a)
-both_ways true true = refl
-both_ways true false = refl
-both_ways false true = refl
-both_ways false false = refl
-
 -- the versions of a key that are kept
 pub kept_chain : (test : Version → Bool) (k : KeyId) (vs : List Version) → filter (λ v. not (test v)) (chain k vs) ≡ chain k (without test vs)
 kept_chain test k vs =
-    filter_twice (λ v. same_key v.key k) (λ v. not (test v)) vs ∙ filter_alike (λ v. same_key v.key k && not (test v)) (λ v. not (test v) && same_key v.key k) vs (λ v. both_ways (same_key v.key k) (not (test v)))
+    filter_twice (λ v. same_key v.key k) (λ v. not (test v)) vs ∙ filter_alike (λ v. same_key v.key k && not (test v)) (λ v. not (test v) && same_key v.key k) vs (λ v. and_comm (same_key v.key k) (not (test v)))
     ∙ sym (filter_twice (λ v. not (test v)) (λ v. same_key v.key k) vs)
 
 -- the next older one is kept

@@ -2,7 +2,7 @@
 use Rattle.std.specs.List.{list_any}
 use Rattle.std.specs.Prelude.{Bool, List, None, Option, Some, [], false, if◌then◌else◌, is_some, min, nat_lt, not, slice_get, suc, zero, ℕ, ◌&&◌, ◌+◌, ◌++◌, ◌-◌, ◌<◌, ◌==◌, ◌||◌, ◌∷◌, ◌≡◌}
 use Rattle.partition_map.specs.Maps.{PartitionMap, hosts, leads, replicas}
-use Rattle.prepare_master.specs.MasterTurns.{below_limit, proposal}
+use Rattle.prepare_master.specs.MasterTurns.{IsAt, ShowsReplica, below_limit, proposal}
 use Rattle.replica_apply.specs.declared.slaves.Evicted.{Evicted}
 use Rattle.replica_apply.specs.declared.slaves.SlaveTurn.{SlaveTurn}
 use Rattle.replica_apply.specs.declared.slaves.SlaveTurn.TheVariants.{Ignore, Take}
@@ -97,6 +97,11 @@ pub record IsSlaveTurn (new : Bool) (node : NodeId) (vs : List Version) (marks :
   pub taken : taken_at turn ≡ (if new then after_evictions node vs marks a es else None)
   pub evicted : evicted_by turn ≡ (if is_some (taken_at turn) then es else [])
 
+-- the same of one that arrived, with the evictions of all that have a Local version of a written key
+abbrev pub IsReplicateTurn : PartitionMap → NodeId → List Version → List ℕ → List (TxId × PartId) → Arrived → SlaveTurn → Type 0
+IsReplicateTurn map node vs marks done a turn =
+    (n : ℕ) → IsLast node vs a.writes n → IsSlaveTurn (is_taken map node vs done a) node vs marks a (evicted_to node vs a.writes n) turn
+
 -- ---- the rule of a Replicate
 
 -- each transaction of the node with a Local version of one of the keys is an undecided own one
@@ -118,3 +123,9 @@ evict_all here a (e ∷ es) d = evict_all here a es (evict_one here a e d)
 abbrev pub slave_done : Here → Arrived → SlaveTurn → Doing → Option Doing
 slave_done here a Ignore d = None
 slave_done here a (Take ts evict) d = Some (taken here a ts.0 (evict_all here a evict d))
+
+-- this holds in each view of the node of which these versions and marks are a part, with these decided pairs, and in which those that
+-- hold a written key are undecided
+abbrev pub InSlaveViews : NodeId → PartitionMap → Arrived → List Version → List ℕ → List (TxId × PartId) → (Here → Doing → Type 0) → Type 0
+InSlaveViews node map a vs marks done P =
+    (here : Here) (d : Doing) → IsAt here node map → ShowsReplica d.view a vs marks → d.view.done ≡ done → HeldByOpen here d.view a.writes → P here d

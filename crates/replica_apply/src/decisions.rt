@@ -1,14 +1,12 @@
 //! Versions are placed, committed and taken out.
 ghost use Rattle.std.specs.Prelude.{◌≡◌, ◌<◌, ◌≤◌, ◌+◌, ◌∷◌, [], ℕ, List, false, length, map, not, true};
-ghost use Rattle.prepare_master.specs.MasterTurns.{ShowsReplica};
-ghost use Rattle.replica_apply.specs.Changes.{AreMarked, Becomes, CanInsert, IsAdded, Rests, was_done, with_parts, with_versions};
+ghost use Rattle.replica_apply.specs.Changes.{AbortsInViews, AreMarked, Becomes, CanInsert, CommitsInViews, IsAdded, PlacesInViews, was_done};
 ghost use Rattle.replica_store.specs.StoreLists.{StaysHere};
 ghost use Rattle.str_base.specs.declared.names.Write.{Write as AWrite};
 ghost use Rattle.str_base.specs.Versions.{finalise, insert_all, of_pair, without};
-ghost use Rattle.str_model.specs.Acts.{abort_came, commit_came, placed, pre_version as pre_version_of, raise_all as raised_all};
+ghost use Rattle.str_model.specs.Acts.{pre_version as pre_version_of, raise_all as raised_all};
 ghost use Rattle.str_model.specs.Steps.{drop_held};
-ghost use Rattle.str_model.specs.Views.{Doing};
-ghost use Rattle.version_chain.specs.ChainLists.{is_among, merged};
+ghost use Rattle.version_chain.specs.ChainLists.{is_among};
 
 use last_reader::Marks;
 use replica_store::{DoneList, Parked, ReplicaStore};
@@ -38,7 +36,7 @@ pub fn place(store: &mut ReplicaStore, a: &Arrived, ts: Ts)
     ensures versions { store.new.versions ≡ insert_all (map (pre_version_of a.now ts.0) a.now.writes) store.old.versions }
     ensures here { StaysHere store.old store.new }
     ensures spare { store.old.spare ≤ store.new.spare + length a.now.writes }
-    ensures view { (d : Doing) (marks : List ℕ) (s : ShowsReplica d.view a.now store.old.versions marks) → (placed a.now ts.0 d).view ≡ with_versions d.view (merged s.cache store.new.versions) }
+    ensures view { PlacesInViews a.now ts.0 store.old.versions store.new.versions }
 {
     for write in a.writes.as_slice() {
         store.insert(pre_version(a, ts, *write));
@@ -80,7 +78,7 @@ pub fn commit_at(
     ensures len { length marks.new ≡ length marks.old }
     ensures done { result ≡ true → IsAdded tx part done.old done.new }
     ensures left { done.old.spare ≤ done.new.spare + 1 }
-    ensures view { result ≡ true → (d : Doing) (r : Rests tx part d.view store.old.versions) → d.view.marks ≡ marks.old → d.view.done ≡ done.old.pairs → (commit_came tx part fc.0 given.now d).view ≡ with_parts d.view (merged r.cache store.new.versions) marks.new d.view.waiters done.new.pairs }
+    ensures view { result ≡ true → CommitsInViews tx part fc.0 given.now store.old.versions store.new.versions marks.old marks.new done.old done.new }
 {
     if done.has(tx, part) {
         return false;
@@ -112,7 +110,7 @@ pub fn abort_at(
     ensures left { done.old.spare ≤ done.new.spare + 1 }
     ensures waiters { result ≡ true → parked.new.waiters ≡ drop_held tx part parked.old.waiters }
     ensures kept { parked.old.spare ≤ parked.new.spare }
-    ensures view { result ≡ true → (d : Doing) (r : Rests tx part d.view store.old.versions) → d.view.done ≡ done.old.pairs → d.view.waiters ≡ parked.old.waiters → (abort_came tx part (drop_held tx part d.view.waiters) d).view ≡ with_parts d.view (merged r.cache store.new.versions) d.view.marks parked.new.waiters done.new.pairs }
+    ensures view { result ≡ true → AbortsInViews tx part store.old.versions store.new.versions done.old done.new parked.old.waiters parked.new.waiters }
 {
     if done.has(tx, part) {
         return false;

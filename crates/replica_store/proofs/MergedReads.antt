@@ -4,8 +4,8 @@ use Rattle.str_base.proofs.Tests.{and_true_left}
 use Rattle.std.specs.List.{last_or}
 use Rattle.str_base.specs.declared.names.KeyId.{KeyId}
 use Rattle.str_base.specs.declared.names.Version.{Version}
-use Rattle.str_base.specs.Versions.{chain, is_pre, is_undecided, last_pre, last_undecided, newest, same_key, ts_or_zero, visible}
-use Rattle.version_chain.specs.ChainLists.{Each, IsOrdered, last_held, merged}
+use Rattle.str_base.specs.Versions.{chain, is_pre, last_pre, newest, same_key, ts_or_zero, visible}
+use Rattle.version_chain.specs.ChainLists.{Each, IsOrdered, merged}
 use Rattle.version_chain.proofs.Each.{each_so}
 use Rattle.version_chain.proofs.Keeping.{ordered_apart, ordered_filter}
 use Rattle.replica_store.proofs.Commuting.{insert_in_order}
@@ -60,16 +60,6 @@ module _ (hosted : KeyId → Bool) (k : KeyId) (cache store : List Version) (c :
   pub pre_in_store : (r : ℕ) → last_pre (merged cache store) k r ≡ last_pre store k r
   pre_in_store r = ap (λ vs. last_or None vs) (seen_in_store hosted k (λ v. same_key v.key k && (nat_le v.ts.0 r && is_pre v.kind)) cache store c h (λ v e. and_true_left _ _ e))
 
-  -- its last Pre or Local version
-  pub undecided_in_store : (r : ℕ) → last_undecided (merged cache store) k r ≡ last_undecided store k r
-  undecided_in_store r =
-      ap (λ vs. last_or None vs) (seen_in_store hosted k (λ v. same_key v.key k && (nat_le v.ts.0 r && is_undecided v.kind)) cache store c h (λ v e. and_true_left _ _ e))
-
-  -- the last of those that a flag chooses
-  pub held_in_store : (b : Bool) (r : ℕ) → last_held b (merged cache store) k r ≡ last_held b store k r
-  held_in_store true r = undecided_in_store r
-  held_in_store false r = pre_in_store r
-
   -- its greatest timestamp
   pub newest_in_store : newest (merged cache store) k ≡ newest store k
   newest_in_store = ap (λ vs. ts_or_zero (last_or None vs)) chain_in_store
@@ -90,16 +80,6 @@ module _ (hosted : KeyId → Bool) (k : KeyId) (cache store : List Version) (o :
   pub pre_in_cache : (r : ℕ) → last_pre (merged cache store) k r ≡ last_pre cache k r
   pre_in_cache r =
       ap (λ vs. last_or None vs) (seen_in_cache hosted k (λ v. same_key v.key k && (nat_le v.ts.0 r && is_pre v.kind)) cache store o p c s h (λ v e. and_true_left _ _ e))
-
-  -- its last Pre or Local version
-  pub undecided_in_cache : (r : ℕ) → last_undecided (merged cache store) k r ≡ last_undecided cache k r
-  undecided_in_cache r =
-      ap (λ vs. last_or None vs) (seen_in_cache hosted k (λ v. same_key v.key k && (nat_le v.ts.0 r && is_undecided v.kind)) cache store o p c s h (λ v e. and_true_left _ _ e))
-
-  -- the last of those that a flag chooses
-  pub held_in_cache : (b : Bool) (r : ℕ) → last_held b (merged cache store) k r ≡ last_held b cache k r
-  held_in_cache true r = undecided_in_cache r
-  held_in_cache false r = pre_in_cache r
 
   -- its greatest timestamp
   pub newest_in_cache : newest (merged cache store) k ≡ newest cache k

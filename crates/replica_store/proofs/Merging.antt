@@ -4,13 +4,10 @@ use Rattle.str_base.proofs.Order.{apart_back, before_trans, filter-insert_other,
 use Rattle.str_base.specs.declared.names.KeyId.{KeyId}
 use Rattle.str_base.specs.declared.names.Version.{Version}
 use Rattle.str_base.specs.Versions.{insert_version, is_before}
+pub use Rattle.replica_store.specs.StoreLists.{ListsApart}
 use Rattle.version_chain.specs.ChainLists.{Apart, Each, IsOrdered, Precedes, merged}
 use Rattle.version_chain.proofs.Each.{each_both, each_insert, each_kept, each_so}
 use Rattle.version_chain.proofs.Keeping.{AllApart, ordered_apart, ordered_insert, ordered_insert_all}
-
--- any two of two lists are apart
-abbrev pub ListsApart : List Version → List Version → Type 0
-ListsApart cache store = Each (λ w. Each (Apart w) store) cache
 
 -- the versions are of keys that pass a test, or of keys that fail it
 abbrev pub OfKeys : (KeyId → Bool) → Bool → List Version → Type 0
@@ -27,10 +24,6 @@ keys_apart hosted v w a b = λ e f g. absurd (clash (ap (λ (n : ℕ). hosted (r
 pub lists_apart : (hosted : KeyId → Bool) (cache store : List Version) → OfKeys hosted false cache → OfKeys hosted true store → ListsApart cache store
 lists_apart hosted cache store a b =
     each_so (λ v. hosted v.key ≡ false) (λ v. Each (Apart v) store) cache (λ v h. each_so (λ w. hosted w.key ≡ true) (Apart v) store (λ w k. keys_apart hosted v w h k) b) a
-
--- a version of a key that the store holds is apart from the cache
-pub apart_from_cache : (hosted : KeyId → Bool) (v : Version) (cache : List Version) → hosted v.key ≡ true → OfKeys hosted false cache → Each (Apart v) cache
-apart_from_cache hosted v cache h c = each_so (λ w. hosted w.key ≡ false) (Apart v) cache (λ w k. apart_back w v (keys_apart hosted w v k h)) c
 
 -- the list of both is in order
 pub merged_ordered : (cache store : List Version) → IsOrdered cache → IsOrdered store → ListsApart cache store → IsOrdered (merged cache store)

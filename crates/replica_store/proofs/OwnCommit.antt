@@ -1,55 +1,19 @@
 -- The commit of an own transaction in the store is its commit in one partition after the other.
-use Rattle.std.proofs.Common.{Bool, List, [], ap, false, filter, inl, inr, map, not, refl, subst, sym, true, ℕ, ◌&&◌, ◌∙◌, ◌∷◌, ◌≡◌, ◌||◌, ◌⊎◌}
-use Rattle.str_base.proofs.Order.{before_not, not_before_self}
+use Rattle.std.proofs.Common.{Bool, List, [], ap, false, filter, inl, inr, map, not, refl, subst, sym, true, ℕ, ◌&&◌, ◌∙◌, ◌∷◌, ◌≡◌, ◌||◌}
 use Rattle.std.specs.List.{list_any}
 use Rattle.str_base.specs.declared.names.PartId.{PartId}
 use Rattle.str_base.specs.declared.names.TxId.{TxId}
 use Rattle.str_base.specs.declared.names.Version.{Version}
-use Rattle.str_base.specs.Versions.{finalise, insert_all, is_before, of_pair, of_tx, same_part, settled, without}
+use Rattle.str_base.specs.Versions.{finalise, insert_all, of_pair, of_tx, same_part, settled, without}
 use Rattle.str_model.specs.Acts.{decided_versions, is_hosted_of}
 use Rattle.str_scene.specs.Scenes.{Here, hosts}
 use Rattle.str_model.proofs.Changes.PairWords.{keep_without}
-use Rattle.version_chain.specs.ChainLists.{Each, IsOrdered, Precedes}
+use Rattle.version_chain.specs.ChainLists.{IsOrdered}
 use Rattle.version_chain.proofs.Keeping.{ordered_finalise}
+use Rattle.version_chain.proofs.Telling.{ordered_tells}
 use Rattle.std.proofs.lemmas.Bool.{not-true}
 use Rattle.str_base.proofs.Members.{filter_in, in_all_new, in_all_old, in_filter, in_insert_all, in_map, map_in}
 use Rattle.str_base.specs.Members.{In}
-
--- ---- lists in order with the same members are one
-
-each_in : (P : Version → Type 0) (vs : List Version) (u : Version) → Each P vs → In u vs → P u
-each_in P [] u e h = absurd h
-each_in P (v ∷ vs) u e (inl q) = subst P q e.0
-each_in P (v ∷ vs) u e (inr h) = each_in P vs u e.1 h
-
-before-all : (v : Version) (vs : List Version) (u : Version) → Each (Precedes v) vs → In u vs → is_before v u ≡ true
-before-all v vs u e h = (each_in (Precedes v) vs u e h).0
-
-pub one_order : (xs ys : List Version) → IsOrdered xs → IsOrdered ys → ((u : Version) → In u xs → In u ys) → ((u : Version) → In u ys → In u xs) → xs ≡ ys
-one_order [] [] o p f g = refl
-one_order [] (y ∷ ys) o p f g = absurd (g y (inl refl))
-one_order (x ∷ xs) [] o p f g = absurd (f x (inl refl))
-one_order (x ∷ xs) (y ∷ ys) o p f g =
-    ap (λ z. z ∷ xs) heads
-    ∙ ap (λ zs. y ∷ zs) (one_order xs ys o.1 p.1 (λ u h. tail_x u h (f u (inr h))) (λ u h. tail_y u h (g u (inr h))))
-  where
-    by_heads : (y ≡ x) ⊎ In x ys → (x ≡ y) ⊎ In y xs → x ≡ y
-    by_heads (inl e) k = sym e
-    by_heads (inr h) (inl e) = e
-    by_heads (inr h) (inr k) =
-        let a : is_before y x ≡ true = before-all y ys x p.0 h in
-        let b : is_before x y ≡ true = before-all x xs y o.0 k in absurd (cc (before_not x y b, a))
-
-    heads : x ≡ y
-    heads = by_heads (f x (inl refl)) (g y (inl refl))
-
-    tail_x : (u : Version) → In u xs → (y ≡ u) ⊎ In u ys → In u ys
-    tail_x u h (inl e) = absurd (not_before_self u (subst (λ z. is_before z u ≡ true) (heads ∙ e) (before-all x xs u o.0 h)))
-    tail_x u h (inr k) = k
-
-    tail_y : (u : Version) → In u ys → (x ≡ u) ⊎ In u xs → In u xs
-    tail_y u h (inl e) = absurd (not_before_self u (subst (λ z. is_before z u ≡ true) (sym heads ∙ e) (before-all y ys u p.0 h)))
-    tail_y u h (inr k) = k
 
 -- ---- members after a commit
 
@@ -102,7 +66,7 @@ or_right false b c e = refl
 -- all at once
 each-once : (tx : TxId) (fc : ℕ) (ps : List PartId) (vs : List Version) → IsOrdered vs → finalise_each tx fc ps vs ≡ finalise (of_parts tx ps) fc vs
 each-once tx fc [] vs o =
-    one_order vs (finalise (of_parts tx []) fc vs) o (ordered_finalise (of_parts tx []) fc vs o)
+    ordered_tells vs (finalise (of_parts tx []) fc vs) o (ordered_finalise (of_parts tx []) fc vs o)
     (λ u h. in-finalise (of_parts tx []) fc vs u (s_old h (none (of_tx tx u)))) (λ u h. back u (finalise-in (of_parts tx []) fc vs u h))
   where
     none : (a : Bool) → (a && false) ≡ false
@@ -114,7 +78,7 @@ each-once tx fc [] vs o =
     back u (s_old h f) = h
 each-once tx fc (p ∷ ps) vs o =
     each-once tx fc ps (finalise (of_pair tx p) fc vs) (ordered_finalise (of_pair tx p) fc vs o)
-    ∙ one_order (finalise (of_parts tx ps) fc (finalise (of_pair tx p) fc vs)) (finalise (of_parts tx (p ∷ ps)) fc vs)
+    ∙ ordered_tells (finalise (of_parts tx ps) fc (finalise (of_pair tx p) fc vs)) (finalise (of_parts tx (p ∷ ps)) fc vs)
     (ordered_finalise (of_parts tx ps) fc (finalise (of_pair tx p) fc vs) (ordered_finalise (of_pair tx p) fc vs o)) (ordered_finalise (of_parts tx (p ∷ ps)) fc vs o)
     (λ u h. in-finalise (of_parts tx (p ∷ ps)) fc vs u (there u (finalise-in (of_parts tx ps) fc (finalise (of_pair tx p) fc vs) u h)))
     (λ u h. in-finalise (of_parts tx ps) fc (finalise (of_pair tx p) fc vs) u (here_ u (finalise-in (of_parts tx (p ∷ ps)) fc vs u h)))
@@ -167,7 +131,7 @@ pub decided_each : (here : Here) (tx : TxId) (fc : ℕ) (ps : List PartId) (stor
     → decided_versions here tx fc store ≡ finalise_each tx fc ps store
 decided_each here tx fc ps store o f g =
     ap (λ vs. insert_all (map (settled fc) vs) (without (of_tx tx) store)) (alike (is_hosted_of here tx) (of_tx tx) store (λ u h. and_true (of_tx tx u) (hosts here.scene here.node u.part) (g u h)))
-    ∙ (one_order (finalise (of_tx tx) fc store) (finalise (of_parts tx ps) fc store) (ordered_finalise (of_tx tx) fc store o) (ordered_finalise (of_parts tx ps) fc store o)
+    ∙ (ordered_tells (finalise (of_tx tx) fc store) (finalise (of_parts tx ps) fc store) (ordered_finalise (of_tx tx) fc store o) (ordered_finalise (of_parts tx ps) fc store o)
     (λ u h. in-finalise (of_parts tx ps) fc store u (to u (finalise-in (of_tx tx) fc store u h))) (λ u h. in-finalise (of_tx tx) fc store u (from u (finalise-in (of_parts tx ps) fc store u h)))
     ∙ sym (each-once tx fc ps store o))
   where

@@ -5,7 +5,7 @@ use Rattle.str_base.specs.declared.names.PartId.{PartId}
 use Rattle.str_base.specs.declared.names.TxId.{TxId}
 use Rattle.str_base.specs.declared.names.Version.{Version}
 use Rattle.str_model.specs.declared.messages.Waiter.{Waiter}
-use Rattle.version_chain.specs.ChainLists.{Each, IsOrdered, is_among}
+use Rattle.version_chain.specs.ChainLists.{Apart, Each, IsOrdered, is_among}
 
 -- the pairs that were decided, and how many more are taken without memory
 pub record DonePairs : Type 0 where
@@ -31,6 +31,10 @@ LiesIn hosted v = is_among hosted v.part ≡ true
 -- what a store keeps: its versions are in order, and lie in partitions that its node hosts
 abbrev pub IsStore : StoreList → Type 0
 IsStore s = IsOrdered s.versions × Each (LiesIn s.hosted) s.versions
+
+-- no version of a cache and one of a store are of the same key by the same transaction
+abbrev pub ListsApart : List Version → List Version → Type 0
+ListsApart cache store = Each (λ w. Each (Apart w) store) cache
 
 -- the node and its partitions stay
 abbrev pub StaysHere : StoreList → StoreList → Type 0

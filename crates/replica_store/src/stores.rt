@@ -2,7 +2,7 @@
 ghost use Rattle.std.specs.Prelude.{◌≡◌, ◌<◌, ◌≤◌, ◌+◌, ◌++◌, ◌^◌, [], OnErr, OnOk, length, slice_get, IfSome};
 ghost use Rattle.std.specs.List.{list_any};
 ghost use Rattle.str_base.specs.Versions.{chain, finalise, insert_version, newest, of_pair, visible, without};
-ghost use Rattle.version_chain.specs.ChainLists.{Apart, Each, is_among, last_held};
+ghost use Rattle.version_chain.specs.ChainLists.{Apart, Each, is_among, last_held, of_write};
 ghost use Rattle.version_chain.specs.Walks.{IsSettled};
 ghost use Rattle.replica_store.specs.StoreLists.{IsStore, LiesIn, StaysHere};
 
@@ -112,6 +112,16 @@ impl ReplicaStore {
         self.chains.remove(tx, part);
     }
 
+    /// Takes the version of a key by a transaction out, if there is one.
+    pub fn drop_version(&mut self, key: KeyId, tx: TxId)
+        ensures here { StaysHere self.old self.new }
+        ensures versions { self.new.versions ≡ without (of_write key tx) self.old.versions }
+        ensures spare { self.old.spare ≤ self.new.spare }
+        ensures kept { IsStore self.old × IsStore self.new }
+    {
+        self.chains.drop_version(key, tx);
+    }
+
     /// Whether there is a version of a transaction in a partition.
     pub fn has(&self, tx: TxId, part: PartId) -> bool
         ensures value { result ≡ list_any (of_pair tx part) self.now.versions }
@@ -212,6 +222,12 @@ mod tests {
         assert!(rt; store.undecided(KeyId(7), Ts(20), true).is_none());
         assert!(rt; store.visible(KeyId(7), Ts(12)).is_none());
         assert_eq!(rt; store.newest(KeyId(7)), Ts(13));
+        store.drop_version(KeyId(8), tx);
+        assert_eq!(rt; store.newest(KeyId(7)), Ts(13));
+        store.drop_version(KeyId(7), tx);
+        assert!(rt; store.at(KeyId(7), 0).is_none());
+        store.reserve(1)?;
+        store.insert(version);
         store.remove(tx, PartId(3));
         assert!(rt; store.at(KeyId(7), 0).is_none());
         Ok(())

@@ -99,7 +99,7 @@ same_code : (l m : Line) (us vs : List ℕ) → IsOpForm l → IsOpForm m → op
 same_code l m us vs a b e = sym (first_code l us a) ∙ (ap (λ bs. get_or bs 0 0) e ∙ first_code m vs b)
 
 -- all after the first byte
-rest_same : (c d : ℕ) (us vs : List ℕ) → c ∷ us ≡ d ∷ vs → us ≡ vs
+pub rest_same : (c d : ℕ) (us vs : List ℕ) → c ∷ us ≡ d ∷ vs → us ≡ vs
 rest_same c d us vs e = cc
 
 -- operations before other bytes

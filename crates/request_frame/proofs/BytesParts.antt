@@ -3,7 +3,7 @@ use Rattle.std.proofs.Common.{Bool, List, [], ap, arith, drop, false, get_or, le
 use Rattle.std.proofs.lemmas.List.{length-take-le, take-append-drop}
 use Rattle.std.proofs.lemmas.Nat.{be_bytes_8}
 use Rattle.std.specs.Int.{from_be_bytes, w64}
-use Rattle.request_frame.proofs.BytesApart.{string_apart}
+use Rattle.request_frame.proofs.BytesApart.{rest_same, string_apart}
 use Rattle.request_frame.specs.FrameBytes.{key_bytes, number_bytes, sized, string_bytes}
 use Rattle.str_base.specs.declared.names.PartId.{PartId}
 use Rattle.str_scene.specs.SceneLimits.{is_name}
@@ -23,10 +23,6 @@ number_read bytes first rest n f r l small e =
     let spelled : number_bytes n ≡ first = be_bytes_8 first n (ap (λ xs. length xs) f ∙ length-take-le 8 bytes l) each e in
     sym (take-append-drop 8 bytes) ∙ (ap (λ xs. xs ++ drop 8 bytes) (sym f ∙ sym spelled) ∙ ap (λ xs. number_bytes n ++ xs) (sym r))
 
--- what follows the first byte
-tail_same : (x y : ℕ) (xs ys : List ℕ) → x ∷ xs ≡ y ∷ ys → xs ≡ ys
-tail_same x y xs ys e = cc
-
 not_name : (b : Bool) → false ≡ b → b ≡ true → ⊥
 not_name b p q = absurd (cc)
 
@@ -34,7 +30,7 @@ not_name b p q = absurd (cc)
 pub no_key : (bytes rest name left : List ℕ) (part : ℕ) → bytes ≡ part ∷ rest → rest ≡ string_bytes name ++ left → false ≡ is_name name →
     (other : List ℕ) (p : PartId) (us : List ℕ) → is_name other ≡ true → ¬ (bytes ≡ key_bytes other p ++ us)
 no_key bytes rest name left part b r none other p us is e =
-    let tail : rest ≡ string_bytes other ++ us = tail_same part p.0 rest (string_bytes other ++ us) (sym b ∙ e) in
+    let tail : rest ≡ string_bytes other ++ us = rest_same part p.0 rest (string_bytes other ++ us) (sym b ∙ e) in
     let same : name ≡ other = (string_apart name other left us (sym r ∙ tail)).0 in
     not_name (is_name name) none (ap is_name same ∙ is)
 

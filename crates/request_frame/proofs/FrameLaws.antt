@@ -5,7 +5,6 @@ use Rattle.std.proofs.lemmas.Option.{none-some, same_Some}
 use Rattle.request_frame.proofs.BytesApart.{frame_code}
 use Rattle.request_frame.proofs.Coded.{spelled_same}
 use Rattle.request_frame.proofs.FrameForms.{frames_form}
-use Rattle.request_frame.proofs.FrameStates.{now_same}
 use Rattle.request_frame.proofs.FramesTaken.{scene_frames_taken}
 use Rattle.request_frame.specs.FirstBad.{IsBadFor, IsFormed, IsInRange, IsLastStart, IsNext, IsStart, IsWhole, frame_at}
 use Rattle.request_frame.specs.FrameBytes.{IsForm, frame_bytes}
@@ -15,6 +14,7 @@ use Rattle.request_frame.specs.Laws.{BadIsNoScene, OneFirstBad, OneScene, OneSpe
 use Rattle.request_frame.specs.Spelling.{IsFrames, bytes_of}
 use Rattle.scene_text.proofs.FirstBad.FirstBadLaws.{one_scene_of}
 use Rattle.scene_text.proofs.Taking.HeadLines.{mk}
+use Rattle.scene_text.proofs.Taking.LinesTaken.{now_same}
 use Rattle.scene_text.proofs.Taking.WholeDrafts.{scene_whole}
 use Rattle.scene_text.specs.declared.order.Place.TheVariants.{AfterEnd}
 use Rattle.scene_text.specs.Taking.{at_start, scene_limits}

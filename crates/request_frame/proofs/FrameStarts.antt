@@ -4,7 +4,6 @@ use Rattle.std.proofs.lemmas.Grind.{flat_map-append}
 use Rattle.request_frame.proofs.BytesApart.{frame_code}
 use Rattle.request_frame.proofs.Coded.{spelled_same}
 use Rattle.request_frame.proofs.FrameForms.{frames_form}
-use Rattle.request_frame.proofs.FrameStates.{now_same}
 use Rattle.request_frame.proofs.FramesEnd.{begins_taken, taken_begins}
 use Rattle.request_frame.proofs.FramesTaken.{frames_end, frames_on, scene_frames_taken}
 use Rattle.request_frame.specs.FirstBad.{IsInRange, IsStart, IsWhole}
@@ -13,6 +12,7 @@ use Rattle.request_frame.specs.FrameTaking.{take_frames}
 use Rattle.request_frame.specs.Frames.{Frame, frames_of}
 use Rattle.request_frame.specs.Spelling.{IsFrames, bytes_of}
 use Rattle.scene_text.proofs.Taking.HeadLines.{mk}
+use Rattle.scene_text.proofs.Taking.LinesTaken.{now_same}
 use Rattle.scene_text.proofs.Taking.WholeDrafts.{Whole, limits_of, ranged_whole, scene_whole, whole_ranged, whole_scene}
 use Rattle.scene_text.specs.declared.order.Place.TheVariants.{AfterEnd}
 use Rattle.scene_text.specs.Taking.{Limits, State, at_start, scene_limits}

@@ -10,7 +10,7 @@ use Rattle.request_frame.specs.FrameTaking.{lines_at, take_frame}
 use Rattle.request_frame.specs.Frames.{Frame}
 use Rattle.request_frame.specs.Frames.Frame.{Client, Deliver, Drain, End, Nodes, Part, Session_, Tx, Version}
 use Rattle.scene_text.proofs.Taking.LinesInOrder.{began, lead_on, no_version}
-use Rattle.scene_text.proofs.Taking.LinesTaken.{goes_on_from, is_taken}
+use Rattle.scene_text.proofs.Taking.LinesTaken.{goes_on_from, is_taken, now_same}
 use Rattle.scene_text.specs.declared.order.Place.{Place}
 use Rattle.scene_text.specs.LineOrder.{end_follows, entry_follows, follows, lead, nodes_follow, op_follows, part_follows, section_follows, tx_follows, version_follows}
 use Rattle.scene_text.specs.declared.order.Place.TheVariants.{AfterDrain, AfterEnd, AfterNodes, AfterOp, AfterPart, AfterSession, AfterTx, AfterVersion, InSchedule}
@@ -66,10 +66,6 @@ after_parts next s (LClient c t) h = refl
 after_parts next s (LDeliver i) h = refl
 after_parts next s LDrain h = refl
 after_parts next s LEnd h = refl
-
--- what two states are to which lines come
-pub now_same : (s t : State) → Now s ≡ Now t → s ≡ t
-now_same s t e = cc
 
 -- such lines leave the partitions
 pub lines_parts : (limits : Limits) (ls : List Line) (s t : State) → list_all no_part ls ≡ true → take_lines limits s ls ≡ Now t → t.draft.parts ≡ s.draft.parts

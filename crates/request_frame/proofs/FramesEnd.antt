@@ -10,7 +10,7 @@ use Rattle.request_frame.specs.Frames.{Frame, frames_of}
 use Rattle.request_frame.specs.Frames.Frame.{End, Nodes, Part, Version}
 use Rattle.scene_text.proofs.Taking.HeadLines.{mk}
 use Rattle.scene_text.proofs.Taking.LedToEnd.{first_row}
-use Rattle.scene_text.proofs.Taking.LinesTaken.{taken}
+use Rattle.scene_text.proofs.Taking.LinesTaken.{now_same, taken}
 use Rattle.scene_text.proofs.Taking.StatesKept.{At}
 use Rattle.scene_text.proofs.Taking.WholeDrafts.{Whole}
 use Rattle.scene_text.specs.declared.order.Place.{Place}
@@ -27,7 +27,7 @@ use Rattle.str_scene.specs.Scenes.{Scene}
 use Rattle.str_scene.specs.declared.names.Op.{Op}
 
 -- frames that lead from the state to the end
-pub record Finish (limits : Limits) (s : State) : Type 0 where
+pub record ToEnd (limits : Limits) (s : State) : Type 0 where
   pub rest : List Frame
   pub forms : Each IsForm rest
   pub end : State
@@ -35,7 +35,7 @@ pub record Finish (limits : Limits) (s : State) : Type 0 where
   pub at_end : end.place ≡ AfterEnd
 
 -- by one frame more
-finish_more : (limits : Limits) (s t : State) (f : Frame) → IsForm f → take_frame limits s f ≡ Now t → Finish limits t → Finish limits s
+finish_more : (limits : Limits) (s t : State) (f : Frame) → IsForm f → take_frame limits s f ≡ Now t → ToEnd limits t → ToEnd limits s
 finish_more limits s t f form e k = record {
   rest = f ∷ k.rest;
   forms = (form, k.forms);
@@ -45,15 +45,15 @@ finish_more limits s t f form e k = record {
 }
 
 -- by the end
-finish_end : (limits : Limits) (s t : State) → take_frame limits s End ≡ Now t → t.place ≡ AfterEnd → Finish limits s
+finish_end : (limits : Limits) (s t : State) → take_frame limits s End ≡ Now t → t.place ≡ AfterEnd → ToEnd limits s
 finish_end limits s t e at = record { rest = End ∷ []; forms = (tt, tt); end = t; taken = frame_alone limits s t End e; at_end = at }
 
 -- after a partition
-finish_part : (limits : Limits) (d : Scene) (ops : List Op) → Finish limits (mk AfterPart d ops)
+finish_part : (limits : Limits) (d : Scene) (ops : List Op) → ToEnd limits (mk AfterPart d ops)
 finish_part limits d ops = finish_end limits (mk AfterPart d ops) _ refl refl
 
 -- after the nodes
-finish_nodes : (limits : Limits) (d : Scene) (ops : List Op) → 1 ≤ limits.parts → 1 ≤ d.nodes → d.parts ≡ [] → Finish limits (mk AfterNodes d ops)
+finish_nodes : (limits : Limits) (d : Scene) (ops : List Op) → 1 ≤ limits.parts → 1 ≤ d.nodes → d.parts ≡ [] → ToEnd limits (mk AfterNodes d ops)
 finish_nodes limits d ops few some none =
     let s : State = mk AfterNodes d ops in
     let row : List NodeId = record { 0 = 1 } ∷ [] in
@@ -66,12 +66,12 @@ finish_nodes limits d ops few some none =
     finish_more limits s t (Part row) (omega arith) (ap (goes_on (λ x. take_lines limits x [])) one) (finish_part limits t.draft t.ops)
 
 -- after the version
-finish_version : (limits : Limits) (d : Scene) (ops : List Op) → 1 ≤ limits.parts → d.parts ≡ [] → Finish limits (mk AfterVersion d ops)
+finish_version : (limits : Limits) (d : Scene) (ops : List Op) → 1 ≤ limits.parts → d.parts ≡ [] → ToEnd limits (mk AfterVersion d ops)
 finish_version limits d ops few none =
     finish_more limits (mk AfterVersion d ops) (mk AfterNodes (with_nodes 1 d) ops) (Nodes 1) tt refl (finish_nodes limits (with_nodes 1 d) ops few (omega arith) none)
 
 -- from each place
-finish_at : (limits : Limits) (place : Place) (d : Scene) (ops : List Op) → 1 ≤ limits.parts → is_open_tx place ≡ false → At limits place d ops → Finish limits (mk place d ops)
+finish_at : (limits : Limits) (place : Place) (d : Scene) (ops : List Op) → 1 ≤ limits.parts → is_open_tx place ≡ false → At limits place d ops → ToEnd limits (mk place d ops)
 finish_at limits AtStart d ops few o a = finish_more limits (mk AtStart d ops) (mk AfterVersion (empty_draft 1) ops) (Version 1) (inl refl) refl (finish_version limits (empty_draft 1) ops few refl)
 finish_at limits AfterVersion d ops few o a = finish_version limits d ops few (ap (λ x. x.parts) a.1)
 finish_at limits AfterNodes d ops few o a = finish_nodes limits d ops few a.1.0 (ap (λ x. x.parts) a.2)
@@ -85,10 +85,7 @@ finish_at limits AfterEnd d ops few o a = record { rest = []; forms = tt; end = 
 
 -- from each state of frames
 no_open : (limits : Limits) (fs : List Frame) (s : State) → Each IsForm fs → take_frames limits at_start fs ≡ Now s → is_open_tx s.place ≡ false
-no_open limits [] s h e = ap (λ x. is_open_tx x.place) (same at_start s e)
-  where
-    same : (a b : State) → Now a ≡ Now b → b ≡ a
-    same a b e = cc
+no_open limits [] s h e = ap (λ x. is_open_tx x.place) (sym (now_same at_start s e))
 no_open limits (f ∷ fs) s h e = (closed_from_start limits f fs s h e).no_open
 
 -- the frames are the first of a scene within the limits

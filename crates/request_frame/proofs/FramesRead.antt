@@ -1,7 +1,7 @@
 -- What a frame comes to by its lines, when they are taken one by one.
 use Rattle.std.proofs.Common.{Bool, Err, IfErr, List, Ok, OnOk, Result, Some, [], ap, false, refl, sym, true, ℕ, ◌++◌, ◌∙◌, ◌∷◌, ◌≡◌}
 use Rattle.request_frame.proofs.BytesApart.{frame_code}
-use Rattle.request_frame.proofs.FrameStates.{now_same, order_at}
+use Rattle.request_frame.proofs.FrameStates.{order_at}
 use Rattle.request_frame.specs.FrameBytes.{IsForm, frame_bytes}
 use Rattle.request_frame.specs.FrameOrder.{frame_follows, opening}
 use Rattle.request_frame.specs.FrameTaking.{lines_at}
@@ -10,7 +10,7 @@ use Rattle.request_frame.specs.Reading.{IsBadBytes, IsInOrder, IsOpeningRefused,
 use Rattle.scene_text.proofs.FirstBad.RefusedLines.{reason, room_past}
 use Rattle.scene_text.proofs.Taking.HeadLines.{mk}
 use Rattle.scene_text.proofs.Taking.LinesInOrder.{lead-append, lead_on}
-use Rattle.scene_text.proofs.Taking.LinesTaken.{goes_on_from, is_taken, taken}
+use Rattle.scene_text.proofs.Taking.LinesTaken.{goes_on_from, is_taken, now_same, taken}
 use Rattle.scene_text.proofs.Taking.SessionLines.{taken-append, taken_on}
 use Rattle.scene_text.proofs.Taking.WiderLimits.{lines_more, past, wider, within_first, within_second}
 use Rattle.scene_text.specs.LineOrder.{follows, lead}
@@ -57,7 +57,7 @@ frame_order : (s m : State) (f : Frame) (ls : List Line) (l : Line) → Led s ls
 frame_order s m f ls l k e = sym (order_at s.draft.version s f) ∙ (ap (lead s.draft.version (Some s.place)) e ∙ led_order s m ls l k)
 
 -- frames of the same bytes
-same_frame : (f g : Frame) (bytes : List ℕ) → IsForm f → IsForm g → bytes ≡ frame_bytes f → bytes ≡ frame_bytes g → f ≡ g
+pub same_frame : (f g : Frame) (bytes : List ℕ) → IsForm f → IsForm g → bytes ≡ frame_bytes f → bytes ≡ frame_bytes g → f ≡ g
 same_frame f g bytes a b d e = (frame_code.apart f g [] [] a b (ap (λ xs. xs ++ []) (sym d ∙ e))).0
 
 -- lines lead to one state within any limits

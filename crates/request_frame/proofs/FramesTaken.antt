@@ -2,7 +2,7 @@
 use Rattle.std.proofs.Common.{List, [], ap, false, length, refl, subst, sym, true, ℕ, ◌++◌, ◌+◌, ◌∙◌, ◌∷◌, ◌≡◌}
 use Rattle.request_frame.proofs.FrameForms.{all_lines_form, frames_form}
 use Rattle.request_frame.proofs.FrameLines.{all_lines, frames_same, is_begun, lines_for_is, next_begun, next_part, own_lines, scene_frames_lines}
-use Rattle.request_frame.proofs.FrameStates.{Stays, frame_parts, frame_stays, is_open_tx, now_same, taken_follows}
+use Rattle.request_frame.proofs.FrameStates.{Stays, frame_parts, frame_stays, is_open_tx, taken_follows}
 use Rattle.request_frame.specs.FrameBytes.{IsForm}
 use Rattle.request_frame.specs.FrameTaking.{lines_at, take_frame, take_frames}
 use Rattle.std.specs.Prelude.{flat_map, map}
@@ -13,7 +13,7 @@ use Rattle.scene_text.proofs.Taking.HeadLines.{mk}
 use Rattle.scene_text.proofs.Taking.LedToEnd.{ended}
 use Rattle.scene_text.proofs.Taking.LinesComplete.{complete}
 use Rattle.scene_text.proofs.Taking.LinesInOrder.{began}
-use Rattle.scene_text.proofs.Taking.LinesTaken.{goes_on_from, start_stands, steps}
+use Rattle.scene_text.proofs.Taking.LinesTaken.{goes_on_from, now_same, start_stands, steps}
 use Rattle.scene_text.proofs.Taking.SessionLines.{taken-append}
 use Rattle.scene_text.proofs.Taking.StatesKept.{Stands}
 use Rattle.scene_text.proofs.Taking.WholeDrafts.{Whole}

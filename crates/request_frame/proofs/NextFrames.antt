@@ -4,7 +4,7 @@ use Rattle.std.proofs.lemmas.Bool.{le-leb}
 use Rattle.std.proofs.lemmas.Option.{none-some}
 use Rattle.request_frame.proofs.BytesApart.{frame_code}
 use Rattle.request_frame.proofs.Coded.{longer}
-use Rattle.request_frame.proofs.FrameStates.{lead_step, now_same, taken_follows}
+use Rattle.request_frame.proofs.FrameStates.{lead_step, taken_follows}
 use Rattle.request_frame.proofs.FramesTaken.{closed_from_start, first_taken, one_frame, one_frames_state, stays_after}
 use Rattle.request_frame.specs.FirstBad.{first_bytes, frame_at, sized_frame}
 use Rattle.request_frame.specs.FrameBytes.{IsForm, frame_bytes, number_bytes, row_bytes, script_bytes, sized}
@@ -16,6 +16,7 @@ use Rattle.request_frame.specs.Reading.{Reached}
 use Rattle.request_frame.specs.Spelling.{bytes_of}
 use Rattle.scene_text.proofs.Taking.HeadLines.{mk}
 use Rattle.scene_text.proofs.Taking.LinesInOrder.{began, no_version}
+use Rattle.scene_text.proofs.Taking.LinesTaken.{now_same}
 use Rattle.scene_text.specs.declared.order.Place.{Place}
 use Rattle.scene_text.specs.LineOrder.{version_follows}
 use Rattle.scene_text.specs.declared.order.Place.TheVariants.{AfterVersion, AtStart}

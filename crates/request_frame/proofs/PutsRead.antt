@@ -4,7 +4,7 @@ use Rattle.std.proofs.lemmas.Bool.{and_parts}
 use Rattle.std.proofs.lemmas.List.Folds.{list_all-append}
 use Rattle.std.specs.List.{list_all}
 use Rattle.std.specs.Option.{SomeIff}
-use Rattle.request_frame.proofs.BytesApart.{key_apart}
+use Rattle.request_frame.proofs.BytesApart.{key_apart, rest_same}
 use Rattle.request_frame.specs.FrameBytes.{key_bytes, string_bytes}
 use Rattle.request_frame.specs.Reading.{ReadsNoOp, ReadsOp}
 use Rattle.scene_text.specs.LineTexts.{AreBytes, Fits}
@@ -45,17 +45,14 @@ pub puts_long : (bytes name text rest left : List ℕ) (p : PartId) → bytes �
     TEXT_BYTES < length text → ReadsOp (7 ∷ bytes) None left
 puts_long bytes name text rest left p b r named are many = puts_read bytes name text rest left p None b r named are (λ fits. omega (arith, many, fits.1))
 
--- what follows the first byte
-tail_same : (x y : ℕ) (xs ys : List ℕ) → x ∷ xs ≡ y ∷ ys → xs ≡ ys
-tail_same x y xs ys e = cc
-
+-- bytes that are one begin with one byte
 first_same : (x y : ℕ) (xs ys : List ℕ) → x ∷ xs ≡ y ∷ ys → x ≡ y
 first_same x y xs ys e = cc
 
 -- a key with no byte string after it
 pub puts_none : (bytes name rest : List ℕ) (p : PartId) → bytes ≡ key_bytes name p ++ rest → ((text us : List ℕ) → ¬ (rest ≡ string_bytes text ++ us)) → ReadsNoOp (7 ∷ bytes)
 puts_none bytes name rest p b none (LPuts other q text) us h e =
-    let k = key_apart name other p q rest (string_bytes text ++ us) (sym b ∙ (tail_same 7 7 bytes _ e ∙ append_assoc (key_bytes other q) (string_bytes text) us)) in
+    let k = key_apart name other p q rest (string_bytes text ++ us) (sym b ∙ (rest_same 7 7 bytes _ e ∙ append_assoc (key_bytes other q) (string_bytes text) us)) in
     none text us k.2
 puts_none bytes name rest p b none (LGet other q) us h e = omega (arith, first_same 7 1 _ _ e)
 puts_none bytes name rest p b none (LPut other q n) us h e = omega (arith, first_same 7 2 _ _ e)

@@ -6,6 +6,7 @@ use Rattle.std.proofs.lemmas.Option.{none-some, same_Some}
 use Rattle.request_frame.proofs.BytesApart.{frame_code}
 use Rattle.request_frame.proofs.FrameStarts.{BytesTaken, IsSceneOf, end_scene, end_whole, in_range_taken, more_taken, start_taken, taken_in_range, taken_start, whole_at_end}
 use Rattle.request_frame.proofs.FramesTaken.{frame_alone, frames_more, frames_on}
+use Rattle.request_frame.proofs.FramesRead.{same_frame}
 use Rattle.request_frame.proofs.NextFrames.{frame_there, next_of, next_taken, place_with, place_within, taken_order}
 use Rattle.request_frame.specs.FirstBad.{FirstBad, IsFormed, IsInRange, IsLastStart, IsNext, IsWhole, frame_at}
 use Rattle.request_frame.specs.FrameBytes.{IsForm, frame_bytes}
@@ -141,13 +142,6 @@ here_is : (bytes : List ℕ) (place : ℕ) (s : State) (frame : List ℕ) (h : H
     frame_follows s.draft.version s.place f ≡ Some next → frame ≡ frame_bytes f
 here_is bytes place s frame h f rest next parts order = same_Some _ _ (sym h.there ∙ frame_there bytes place s f rest next h.within h.reached parts order)
 
--- frames of the same bytes
-frame_same : (f g : Frame) (us vs : List ℕ) → IsForm f → IsForm g → frame_bytes f ++ us ≡ frame_bytes g ++ vs → f ≡ g
-frame_same f g us vs a b e = (frame_code.apart f g us vs a b e).0
-
-bytes_same : (f g : Frame) (bytes : List ℕ) → IsForm f → IsForm g → bytes ≡ frame_bytes f → bytes ≡ frame_bytes g → f ≡ g
-bytes_same f g bytes a b d e = frame_same f g [] [] a b (ap (λ xs. xs ++ []) (sym d ∙ e))
-
 -- the bytes with the frame
 here_next : (bytes : List ℕ) (place : ℕ) (s : State) (frame : List ℕ) → Here bytes place s frame → IsNext bytes place (take place bytes ++ frame)
 here_next bytes place s frame h = record { open_ = not_whole (take place bytes) s h.reached h.open_; frame = frame; there = h.there; joined = refl }
@@ -188,7 +182,7 @@ pub bad_range : (bytes : List ℕ) (place : ℕ) (s : State) (frame : List ℕ) 
 bad_range bytes place s frame h b = record {
   last = last_start bytes place s h.within h.reached (λ f rest t form parts e.
       (let o = taken_order scene_limits s t f e in
-      let same : f ≡ b.frame = bytes_same f b.frame frame form b.form (here_is bytes place s frame h f rest o.0 parts o.1) b.bytes_is in
+      let same : f ≡ b.frame = same_frame f b.frame frame form b.form (here_is bytes place s frame h f rest o.0 parts o.1) b.bytes_is in
       b.refused scene_limits (record { state = t; taken = ap (take_frame scene_limits s) (sym same) ∙ e })));
   bad = (
     take place bytes ++ frame,
@@ -204,7 +198,7 @@ bad_range bytes place s frame h b = record {
         let n = next_of h.reached.frames t.taken.frames frame h.reached.forms t.taken.forms h.some (joined_read bytes place s frame h t.taken.frames t.taken.spelled) in
         let q = next_taken t.limits scene_limits h.reached.frames t.taken.frames frame s t.taken.state n h.reached.forms h.reached.lead t.taken.lead in
         let same : n.frame ≡ b.frame =
-        frame_same n.frame b.frame (bytes_of n.others) [] n.form b.form (sym n.left_is ∙ (b.bytes_is ∙ sym (append-nil (frame_bytes b.frame)))) in
+        (frame_code.apart n.frame b.frame (bytes_of n.others) [] n.form b.form (sym n.left_is ∙ (b.bytes_is ∙ sym (append-nil (frame_bytes b.frame))))).0 in
         b.refused t.limits (record { state = q.0; taken = ap (take_frame t.limits s) (sym same) ∙ q.1 })
 
 -- a frame that is one more than there may be
@@ -223,7 +217,7 @@ bad_count bytes place s frame h b =
     record {
       last = last_start bytes place s h.within h.reached (λ f rest t form parts e.
           (let p = taken_order scene_limits s t f e in
-          let same : f ≡ b.frame = bytes_same f b.frame frame form b.form (here_is bytes place s frame h f rest p.0 parts p.1) b.bytes_is in
+          let same : f ≡ b.frame = same_frame f b.frame frame form b.form (here_is bytes place s frame h f rest p.0 parts p.1) b.bytes_is in
           b.refused (record { state = t; taken = ap (take_frame scene_limits s) (sym same) ∙ e })));
       bad = (
         take place bytes ++ frame,

@@ -14,6 +14,7 @@ use Rattle.request_frame.specs.FrameTaking.{take_frame}
 use Rattle.request_frame.specs.Frames.Frame.{Tx}
 use Rattle.request_frame.specs.Reading.{IsBadBytes, IsInOrder, IsShortScript, ReadsNoScript, ReadsScript, RefusesOps, TakesBytes, TakesOps, is_known_in}
 use Rattle.scene_text.proofs.FirstBad.RefusedLines.{reason}
+use Rattle.scene_text.proofs.Taking.LinesInOrder.{settle_version}
 use Rattle.scene_text.proofs.Taking.LinesTaken.{goes_on_from, is_taken, taken}
 use Rattle.scene_text.proofs.Taking.SessionLines.{taken-append}
 use Rattle.scene_text.proofs.Taking.StatesKept.{tx_count}
@@ -21,7 +22,7 @@ use Rattle.scene_text.specs.LineOrder.{follows, lead, op_follows, tx_follows}
 use Rattle.scene_text.proofs.Spelling.NumbersFit.{fits}
 use Rattle.scene_text.specs.LineTexts.{Fits}
 use Rattle.scene_text.specs.Reading.{IsReached, IsRefusedFor}
-use Rattle.scene_text.specs.Taking.{Limits, State, after, goes_on, has_room, in_range, is_number, is_up_to, scene_limits, settle, settled, take_line, take_lines}
+use Rattle.scene_text.specs.Taking.{Limits, State, after, goes_on, has_room, in_range, is_number, is_up_to, scene_limits, settled, take_line, take_lines}
 use Rattle.scene_text.specs.Taking.Taken.{Now}
 use Rattle.scene_text.specs.declared.lines.Line.{Line}
 use Rattle.scene_text.specs.declared.lines.Line.TheVariants.{Abort as LAbort, Add as LAdd, Del as LDel, Get as LGet, Need as LNeed, Put as LPut, Puts as LPuts, Tx as LTx}
@@ -29,7 +30,6 @@ use Rattle.scene_text.specs.declared.order.Place.{Place}
 use Rattle.scene_text.specs.declared.order.Place.TheVariants.{AfterOp, AfterSession, AfterTx}
 use Rattle.str_scene.specs.Lists.{Each}
 use Rattle.str_scene.specs.Scenes.{Scene}
-use Rattle.str_scene.specs.declared.names.Op.{Op}
 use Rattle.str_scene.specs.declared.faults.SceneFault.{SceneFault}
 use Rattle.str_scene.specs.declared.faults.SceneFault.TheVariants.{Count, Form, Memory, Range}
 use Rattle.str_scene.specs.declared.faults.Why.TheVariants.{Count as Many, Form as No, Range as Out}
@@ -193,10 +193,6 @@ ops_taken limits (op ∷ ops) d s h k range parts e few =
     let r = ops_taken limits ops d m h.1 (ap (λ v. list_all (is_known_in v) ops) more.version_is ∙ known.1) ranges.1 (ap (λ xs. length xs) more.parts_is ∙ parts) (ap op_follows more.place_is) (omega (arith, more.count)) in
     (r.0, ap (goes_on (λ x. take_lines limits x ops)) one ∙ r.1)
 
-settled_version : (ops : List Op) (d : Scene) → (settle ops d).version ≡ d.version
-settled_version [] d = refl
-settled_version (o ∷ ops) d = refl
-
 -- so is a transaction in range within some limits
 script_taken : (s : State) (payload : List ℕ) (k : Script s payload true) → (t : State) × (take_frame (with_room s k.read.ops) s (Tx k.read.ops) ≡ Now t)
 script_taken s payload k =
@@ -204,7 +200,7 @@ script_taken s payload k =
     let m : State = after k.next s LTx in
     let one : take_line limits s LTx ≡ Now m = taken limits s LTx k.next k.order refl (lt-ltb _ _ (omega arith)) in
     let place : m.place ≡ AfterTx = tx_to s.place k.next k.order in
-    let r = ops_taken limits k.read.ops s.draft m k.read.forms (ap (λ v. list_all (is_known_in v) k.read.ops) (settled_version s.ops s.draft) ∙ k.read.known) (k.read.range s.draft refl)
+    let r = ops_taken limits k.read.ops s.draft m k.read.forms (ap (λ v. list_all (is_known_in v) k.read.ops) (settle_version s.ops s.draft) ∙ k.read.known) (k.read.range s.draft refl)
     (ap (λ xs. length xs) (tx_parts limits s m one)) (ap op_follows place) (omega arith) in
     (r.0, ap (goes_on (λ x. take_lines limits x k.read.ops)) one ∙ r.1)
 

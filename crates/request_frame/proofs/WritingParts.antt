@@ -2,8 +2,10 @@
 use Rattle.std.proofs.Common.{Err, List, None, Ok, OnOk, Option, Result, Some, [], ap, append-nil, append_assoc, arith, codes, decimal, get_or, length, map, refl, slice_get, subst, sym, take, take_all, nat_le, true, ℕ, ◌%◌, ◌&&◌, ◌++◌, ◌/◌, ◌<◌, ◌∙◌, ◌∷◌, ◌≡◌, ◌≤◌}
 use Rattle.std.proofs.lemmas.Bool.{and_parts, leb-true}
 use Rattle.std.proofs.lemmas.Grind.{flat_map-append}
+use Rattle.std.proofs.lemmas.List.Folds.{flat_map-map}
 use Rattle.std.proofs.lemmas.Option.{slice_get-get_or}
 use Rattle.std.specs.List.{list_all}
+use Rattle.scene_text.proofs.Spelling.TextParts.{flat_map-flat_map}
 use Rattle.scene_text.proofs.Spelling.TextsApart.{line_text-injective}
 use Rattle.scene_text.specs.LineReading.{SpellsBytes, SpellsNoBytes}
 use Rattle.scene_text.specs.LineTexts.{AreBytes, bytes_text, key_text}
@@ -27,15 +29,6 @@ use Rattle.str_base.specs.declared.names.NodeId.{NodeId}
 use Rattle.str_scene.specs.Scenes.{KeyTable, Scene, Session, or_none}
 use Rattle.str_scene.specs.SceneLimits.{IsScene, in_name, is_letter, is_name}
 use Rattle.str_scene.specs.declared.names.Op.{Op}
-
--- lists of the images
-flat_map-map : {X Y Z : Type 0} (g : Y → List Z) (f : X → Y) (xs : List X) → flat_map g (map f xs) ≡ flat_map (λ x. g (f x)) xs
-flat_map-map g f [] = refl
-flat_map-map g f (x ∷ xs) = ap (λ ys. g (f x) ++ ys) (flat_map-map g f xs)
-
-flat_map-flat_map : {X Y Z : Type 0} (g : Y → List Z) (f : X → List Y) (xs : List X) → flat_map g (flat_map f xs) ≡ flat_map (λ x. flat_map g (f x)) xs
-flat_map-flat_map g f [] = refl
-flat_map-flat_map g f (x ∷ xs) = flat_map-append g (f x) (flat_map f xs) ∙ ap (λ ys. flat_map g (f x) ++ ys) (flat_map-flat_map g f xs)
 
 -- the frame of a partition that has few replicas
 pub part_is : (row : List NodeId) → length row ≤ 8 → part_bytes row ≡ (2 ∷ 0 ∷ length row ∷ []) ++ row_bytes row

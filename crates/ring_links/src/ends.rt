@@ -161,6 +161,10 @@ impl NodeEnds {
             ≤ spare (link_to self.new other.old.node d) }
         ensures room_there { (d : Link) → spare (link_to other.old self.old.node d)
             ≤ spare (link_to other.new self.old.node d) }
+        ensures was_there { (d : Link) → InOrder (link_to self.old other.old.node d)
+            (link_to other.old self.old.node d) }
+        ensures was_here { (d : Link) → InOrder (link_to other.old self.old.node d)
+            (link_to self.old other.old.node d) }
         ensures order_there { (d : Link) → InOrder (link_to self.new other.old.node d)
             (link_to other.new self.old.node d) }
         ensures order_here { (d : Link) → InOrder (link_to other.new self.old.node d)

@@ -120,6 +120,7 @@ impl Link {
         ensures there { OnOk result (Settled self.old other.old self.new other.new) }
         ensures err_here { OnErr result (Unmoved other.old self.old other.new self.new) }
         ensures err_there { OnErr result (Unmoved self.old other.old self.new other.new) }
+        ensures was_in_order { InOrder self.old other.old × InOrder other.old self.old }
         ensures in_order { InOrder self.new other.new × InOrder other.new self.new }
         ensures room { (spare self.old ≤ spare self.new) × (spare other.old ≤ spare other.new) }
     {

@@ -1,6 +1,6 @@
 -- Which items the rules have nothing against.
-use Rattle.std.proofs.Common.{Bool, Err, IfErr, List, None, Ok, Option, Result, Some, [], ap, arith, cond, false, inl, inr, length, length-append, map, nat_le, nat_lt, refl, subst, sym, true, ℕ, ◌&&◌, ◌++◌, ◌+◌, ◌<◌, ◌==◌, ◌||◌, ◌∙◌, ◌∷◌, ◌≡◌, ◌≤◌, ◌⊎◌}
-use Rattle.std.proofs.lemmas.Bool.{and_from, and_parts}
+use Rattle.std.proofs.Common.{Bool, Err, IfErr, List, None, Ok, Option, Result, Some, [], ap, arith, cond, false, inl, inr, length, length-append, map, nat_le, nat_lt, refl, sym, true, ℕ, ◌&&◌, ◌++◌, ◌+◌, ◌<◌, ◌==◌, ◌||◌, ◌∙◌, ◌∷◌, ◌≡◌, ◌≤◌}
+use Rattle.std.proofs.lemmas.Bool.{and_from, and_parts, or_right}
 use Rattle.std.proofs.lemmas.Bool.Decides.{Decides-eqb, nat_tests}
 use Rattle.std.specs.List.{list_all, list_any}
 use Rattle.std.specs.Prelude.{flat_map, not}
@@ -12,6 +12,7 @@ use Rattle.scene_gen.specs.Building.{IsSmall, TakesScripts, TakesSessions, numbe
 use Rattle.scene_gen.specs.Made.{key_of, named, numbered, with_pairs}
 use Rattle.scene_gen.specs.declared.draws.MadeOp.{MadeOp}
 use Rattle.scene_gen.specs.declared.draws.MadeOp.TheVariants.{Add, Get, Put}
+use Rattle.str_base.proofs.Tests.{not_zero}
 use Rattle.str_base.specs.declared.limits.TheConstants.{KEYS, NODE_SESSIONS, SCHEDULE_ENTRIES, SESSIONS, TRANSACTIONS}
 use Rattle.str_base.specs.Versions.{same_node}
 use Rattle.str_base.specs.declared.names.NodeId.{NodeId}
@@ -100,16 +101,12 @@ no_puts (op ∷ ops) table = one op (no_puts ops (with_pair (key_of op) table))
     one (Put k n) h = h
     one (Add k n) h = h
 
-or_second : (a b : Bool) → b ≡ true → (a || b) ≡ true
-or_second true b e = refl
-or_second false b e = e
-
 -- they are a script
 is_script_made : (version : ℕ) (ops : List MadeOp) (table : List (List ℕ × PartId)) → 1 ≤ length ops → is_script version (numbers table ops) ≡ true
 is_script_made version [] table l = absurd (omega arith)
 is_script_made version (op ∷ ops) table l =
     let none : not (list_any is_puts (numbers table (op ∷ ops))) ≡ true = ap not (no_puts (op ∷ ops) table) in
-    or_second (version == 2) (not (list_any is_puts (numbers table (op ∷ ops)))) none
+    or_right (version == 2) (not (list_any is_puts (numbers table (op ∷ ops)))) none
 
 -- one more transaction makes one more
 room_for_tx : (ops : List Op) (ss : List Session) → not (is_none_yet ss) ≡ true → transaction_count (add_tx ops ss) ≤ TRANSACTIONS → transaction_count ss < TRANSACTIONS
@@ -168,9 +165,6 @@ drain_allowed d h = all_pass (may_have_entry d) true true h refl refl
 
 counts_itself : (o : Option ℕ) (n : ℕ) → o ≡ Some n → counts_to o n ≡ true
 counts_itself o n e = rw e ((Decides-eqb n n).1 refl)
-
-not_zero : (n : ℕ) → 1 ≤ n → not (n == 0) ≡ true
-not_zero n l = let other : (n == 0) ≡ false = grind (arith, nat_tests) in ap not other
 
 has_members : {X : Type 0} (xs : List X) → 1 ≤ length xs → not (is_none_yet xs) ≡ true
 has_members [] l = absurd (omega arith)

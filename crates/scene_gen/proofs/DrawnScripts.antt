@@ -1,13 +1,11 @@
 -- What is drawn: each transaction has one to three operations, each of a key and a number in range; each session stands at a node.
-use Rattle.std.proofs.Common.{List, [], arith, ap, false, length, map, negsuc, pos, refl, suc, true, zero, ℕ, ◌%◌, ◌+◌, ◌-◌, ◌∷◌, ◌≡◌, ◌≤◌, nat_le}
+use Rattle.std.proofs.Common.{[], arith, ap, false, length, refl, suc, true, zero, ℕ, ◌%◌, ◌+◌, ◌-◌, ◌∷◌, ◌≡◌, ◌≤◌, nat_le}
 use Rattle.std.proofs.lemmas.Bool.Decides.{nat_tests}
 use Rattle.std.proofs.lemmas.Nat.{mod_below}
 use Rattle.rand_pcg.specs.Lcg.{Lcg}
-use Rattle.scene_gen.specs.Building.{HasNumber, IsDrawn}
+use Rattle.scene_gen.specs.Building.{IsDrawn}
 use Rattle.scene_gen.specs.Drawn.{after_script, key_at, kind, nth, script_of}
-use Rattle.scene_gen.specs.Made.{MadeSession, after_scripts, key_of, made_scripts, made_sessions, named}
-use Rattle.scene_gen.specs.declared.draws.MadeOp.{MadeOp}
-use Rattle.scene_gen.specs.declared.draws.MadeOp.TheVariants.{Add, Get, Put}
+use Rattle.scene_gen.specs.Made.{MadeSession, after_scripts, made_scripts, made_sessions, named}
 use Rattle.str_scene.specs.Lists.{Each}
 use Rattle.str_scene.specs.SceneLimits.{Exists, IsKey, in_name, is_name}
 

@@ -1,5 +1,5 @@
 -- The operations first name the keys of the table in their order, and all of them; they name no byte strings.
-use Rattle.std.proofs.Common.{List, None, Option, Some, [], ap, arith, flat_map, inl, inr, length, length-append, map, option_and_then, refl, sym, ℕ, ◌++◌, ◌+◌, ◌∙◌, ◌∷◌, ◌≡◌, ◌⊎◌}
+use Rattle.std.proofs.Common.{List, Some, [], ap, flat_map, inl, inr, length, length-append, map, option_and_then, refl, sym, ℕ, ◌++◌, ◌∙◌, ◌∷◌, ◌≡◌}
 use Rattle.std.proofs.lemmas.Grind.{flat_map-append}
 use Rattle.std.proofs.lemmas.Option.{slice_get_within}
 use Rattle.scene_gen.proofs.Numbering.{all_numbers, all_sessions, sessions_stay}

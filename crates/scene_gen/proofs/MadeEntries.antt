@@ -1,5 +1,5 @@
 -- The schedule: how many entries there are, and that each names a session or a message, and a reading in range.
-use Rattle.std.proofs.Common.{Bool, List, [], ap, arith, false, if◌then◌else◌, length, refl, suc, true, zero, ℕ, ◌%◌, ◌*◌, ◌+◌, ◌∷◌, ◌≡◌, ◌≤◌}
+use Rattle.std.proofs.Common.{Bool, ap, arith, false, if◌then◌else◌, length, refl, suc, true, zero, ℕ, ◌%◌, ◌*◌, ◌+◌, ◌≡◌, ◌≤◌}
 use Rattle.std.proofs.lemmas.Nat.{mod_below}
 use Rattle.rand_pcg.specs.Lcg.{Lcg}
 use Rattle.scene_gen.specs.Drawn.{after_entry, entry, is_delivery, nth}

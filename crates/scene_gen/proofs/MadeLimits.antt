@@ -1,8 +1,7 @@
 -- A made scene keeps the limits of a scene.
-use Rattle.std.proofs.Common.{List, Some, [], ap, arith, flat_map, inl, length, map, refl, slice_get, ℕ, ◌*◌, ◌∙◌, ◌≡◌, ◌≤◌}
+use Rattle.std.proofs.Common.{List, [], ap, arith, flat_map, inl, length, map, refl, ℕ, ◌∙◌, ◌≡◌}
 use Rattle.std.proofs.lemmas.List.{length-map}
 use Rattle.std.proofs.lemmas.List.Sums.{count_by-le-length}
-use Rattle.rand_pcg.specs.Lcg.{Lcg}
 use Rattle.scene_gen.proofs.DrawnScripts.{IsDrawnSession, sessions_drawn, sessions_length}
 use Rattle.scene_gen.proofs.Eaches.{each_both, each_flat, flat_each, map_each}
 use Rattle.scene_gen.proofs.KeyOrder.{keys_count, no_texts}
@@ -13,14 +12,12 @@ use Rattle.scene_gen.proofs.SessionsHold.{AreThere, session_holds, sessions_coun
 use Rattle.scene_gen.specs.Building.{IsDrawn}
 use Rattle.scene_gen.specs.Drawn.{generator}
 use Rattle.scene_gen.specs.Made.{MadeSession, after_sessions, key_of, keys_of, made, made_entries, made_rows, made_sessions, scene_of, session_in, with_pairs}
-use Rattle.scene_gen.specs.declared.draws.MadeOp.{MadeOp}
 use Rattle.str_base.specs.Versions.{same_node}
-use Rattle.str_base.specs.declared.names.NodeId.{NodeId}
 use Rattle.str_base.specs.declared.names.PartId.{PartId}
 use Rattle.str_scene.proofs.Each.{each_at, each_weaker}
 use Rattle.str_scene.specs.Lists.{Each}
-use Rattle.str_scene.specs.SceneLimits.{IsEvent, IsKey, IsRow, IsScene, IsSession, IsTable, counted, text_of}
-use Rattle.str_scene.specs.Scenes.{Scene, Session}
+use Rattle.str_scene.specs.SceneLimits.{IsEvent, IsKey, IsRow, IsScene, IsSession, IsTable, counted}
+use Rattle.str_scene.specs.Scenes.{Session}
 use Rattle.str_scene.specs.declared.names.Event.{Event}
 
 -- the keys that are drawn

@@ -1,7 +1,6 @@
 -- The partitions: how many there are, and that each is a row of nodes.
-use Rattle.std.proofs.Common.{List, [], ap, arith, length, refl, suc, true, zero, ℕ, ◌+◌, ◌<◌, ◌∷◌, ◌≡◌}
+use Rattle.std.proofs.Common.{ap, arith, length, refl, suc, true, zero, ℕ, ◌+◌, ◌<◌, ◌≡◌}
 use Rattle.scene_gen.specs.Made.{made_rows, row_of}
-use Rattle.str_base.specs.declared.names.NodeId.{NodeId}
 use Rattle.str_scene.proofs.Checked.{row_checked}
 use Rattle.str_scene.specs.Lists.{Each}
 use Rattle.str_scene.specs.Refusals.{is_row}

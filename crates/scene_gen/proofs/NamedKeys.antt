@@ -1,5 +1,5 @@
 -- The table of keys: what holds of each key holds of each entry, no key stands twice, and each key is there.
-use Rattle.std.proofs.Common.{List, Some, [], arith, inl, inr, length, refl, slice_get, sym, ℕ, ◌++◌, ◌<◌, ◌∙◌, ◌∷◌, ◌≡◌, ◌≤◌, ◌⊎◌}
+use Rattle.std.proofs.Common.{List, Some, [], arith, inl, inr, length, slice_get, sym, ℕ, ◌++◌, ◌<◌, ◌∙◌, ◌∷◌, ◌≡◌, ◌≤◌, ◌⊎◌}
 use Rattle.scene_gen.proofs.Tables.{all_kept, longer, placed, there}
 use Rattle.scene_gen.specs.Made.{with_pairs}
 use Rattle.str_base.proofs.Lists.{got_push}

@@ -1,5 +1,5 @@
 -- The sessions: each stands at a node, and each transaction of it is a script; there are few.
-use Rattle.std.proofs.Common.{List, Some, [], ap, arith, length, map, refl, slice_get, ℕ, ◌*◌, ◌+◌, ◌∙◌, ◌∷◌, ◌≡◌, ◌≤◌}
+use Rattle.std.proofs.Common.{List, [], arith, length, map, refl, ℕ, ◌*◌, ◌∷◌, ◌≡◌}
 use Rattle.std.proofs.lemmas.List.{length-map}
 use Rattle.std.proofs.lemmas.List.Sums.{sum_by-cons}
 use Rattle.std.specs.List.{sum_by}
@@ -7,7 +7,7 @@ use Rattle.scene_gen.proofs.DrawnScripts.{IsDrawnSession}
 use Rattle.scene_gen.proofs.Eaches.{each_both, map_each}
 use Rattle.scene_gen.proofs.NamedKeys.{IsThere}
 use Rattle.scene_gen.specs.Building.{HasNumber, IsDrawn}
-use Rattle.scene_gen.specs.Made.{MadeSession, key_of, made_rows, numbered, session_in}
+use Rattle.scene_gen.specs.Made.{MadeSession, key_of, numbered, session_in}
 use Rattle.scene_gen.specs.declared.draws.MadeOp.{MadeOp}
 use Rattle.scene_gen.specs.declared.draws.MadeOp.TheVariants.{Add, Get, Put}
 use Rattle.str_base.specs.declared.names.PartId.{PartId}

@@ -1,5 +1,5 @@
 -- The whole made scene fits, and each of its parts may stand where it is built.
-use Rattle.std.proofs.Common.{Bool, List, None, [], ap, arith, flat_map, inl, inr, length, length-append, map, refl, sym, true, ℕ, ◌&&◌, ◌*◌, ◌++◌, ◌+◌, ◌∙◌, ◌∷◌, ◌≡◌, ◌≤◌}
+use Rattle.std.proofs.Common.{List, None, [], ap, arith, flat_map, inl, inr, length, length-append, map, refl, true, ℕ, ◌&&◌, ◌*◌, ◌+◌, ◌∙◌, ◌∷◌, ◌≡◌, ◌≤◌}
 use Rattle.std.proofs.lemmas.List.{length-map}
 use Rattle.std.specs.Prelude.{not}
 use Rattle.rand_pcg.specs.Lcg.{Lcg}
@@ -7,7 +7,7 @@ use Rattle.scene_gen.proofs.Allowed.{finish_allowed}
 use Rattle.scene_gen.proofs.Drafts.{head, over, sessions_added}
 use Rattle.scene_gen.proofs.DrawnScripts.{IsDrawnSession, sessions_drawn, sessions_length}
 use Rattle.scene_gen.proofs.MadeLimits.{made_holds}
-use Rattle.scene_gen.proofs.Numbering.{all_sessions, sessions_stay}
+use Rattle.scene_gen.proofs.Numbering.{sessions_stay}
 use Rattle.scene_gen.proofs.Within.{Around, around, sessions_around}
 use Rattle.scene_gen.specs.Building.{IsDrawn, IsSmall, TakesSessions, with_entries, with_rows, with_sessions}
 use Rattle.scene_gen.specs.Drawn.{generator}

@@ -1,13 +1,13 @@
 -- Items to come make a scene no smaller, and change nothing around its sessions and keys.
-use Rattle.std.proofs.Common.{Bool, List, [], arith, ap, cond, length, length-append, map, refl, sym, ℕ, ◌++◌, ◌+◌, ◌∙◌, ◌∷◌, ◌≡◌, ◌≤◌}
+use Rattle.std.proofs.Common.{Bool, List, [], arith, cond, length, length-append, map, refl, ℕ, ◌++◌, ◌+◌, ◌∙◌, ◌∷◌, ◌≡◌, ◌≤◌}
 use Rattle.std.proofs.lemmas.List.Sums.{sum_by-cons, sum_by_push}
 use Rattle.scene_gen.proofs.NamedKeys.{all_longer}
-use Rattle.scene_gen.specs.Building.{IsSmall, numbers, with_keys, with_script, with_scripts, with_sessions}
+use Rattle.scene_gen.specs.Building.{IsSmall, numbers, with_script, with_scripts, with_sessions}
 use Rattle.scene_gen.specs.Made.{MadeSession, key_of}
 use Rattle.scene_gen.specs.declared.draws.MadeOp.{MadeOp}
 use Rattle.str_base.specs.Versions.{same_node}
 use Rattle.str_base.specs.declared.names.NodeId.{NodeId}
-use Rattle.str_scene.proofs.Filling.{add_tx_length}
+use Rattle.str_scene.proofs.Filling.{add_tx_at, add_tx_length}
 use Rattle.str_scene.specs.declared.names.Event.{Event}
 use Rattle.str_scene.specs.declared.names.Op.{Op}
 use Rattle.str_scene.specs.Drafts.{add_tx, with_session}
@@ -42,15 +42,6 @@ within_small d e h k = record {
   transactions = omega (arith, h.transactions, k.transactions);
   keys = omega (arith, h.keys, k.keys);
 }
-
--- as many sessions at a node
-add_tx_at : (ops : List Op) (n : NodeId) (ss : List Session) → sessions_at n (add_tx ops ss) ≡ sessions_at n ss
-add_tx_at ops n [] = refl
-add_tx_at ops n (s ∷ []) = refl
-add_tx_at ops n (s ∷ t ∷ ss) =
-    let more = sum_by-cons (λ (x : Session). cond (same_node x.node n) 1 0) s (add_tx ops (t ∷ ss)) in
-    let less = sum_by-cons (λ (x : Session). cond (same_node x.node n) 1 0) s (t ∷ ss) in
-    more ∙ ap (λ k. cond (same_node s.node n) 1 0 + k) (add_tx_at ops n (t ∷ ss)) ∙ sym less
 
 -- one transaction more, where there is a session
 pub add_tx_count : (ops : List Op) (s : Session) (ss : List Session) → transaction_count (add_tx ops (s ∷ ss)) ≡ transaction_count (s ∷ ss) + 1

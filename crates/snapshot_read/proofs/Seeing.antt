@@ -1,5 +1,5 @@
 -- The versions that a view shows are those of the store which holds the key.
-use Rattle.std.proofs.Common.{Bool, List, None, Option, Some, [], ap, eqb-true, false, filter, if◌then◌else◌, nat_le, refl, sym, true, ℕ, ◌&&◌, ◌∙◌, ◌∷◌, ◌≡◌}
+use Rattle.std.proofs.Common.{Bool, List, None, Option, Some, [], ap, false, filter, if◌then◌else◌, nat_le, refl, sym, true, ℕ, ◌&&◌, ◌∙◌, ◌∷◌, ◌≡◌}
 use Rattle.std.specs.List.{last_or}
 use Rattle.cache_partition.specs.CacheLists.{CacheList, IsCache, IsCached}
 use Rattle.dependency_set.specs.declared.snaps.OwnSnap.{OwnSnap}
@@ -55,19 +55,6 @@ module _ (here : Here) (view : View) (node : NodeId) (own : List OwnSnap) (store
   pub newest_seen : (k : KeyId) (b : Bool) → hosted k ≡ b → newest view.versions k ≡ newest (of_key b store.versions cache.versions) k
   newest_seen k true h = ap (λ vs. newest vs k) s.versions ∙ newest_in_store hosted k cache.versions store.versions cache_keys h
   newest_seen k false h = ap (λ vs. newest vs k) s.versions ∙ newest_in_cache hosted k cache.versions store.versions ic.0 is.0 cache_keys store_keys h
-
-  -- it hosts the key, and so serves it
-  pub shows_hosted : (k : KeyId) → hosted k ≡ true → ShowsHosted view store.versions k
-  shows_hosted k h =
-      record {
-        cached = cache.versions;
-        versions = s.versions;
-        elsewhere = each_so (λ v. hosted v.key ≡ false) (λ v. same_key v.key k ≡ false) cache.versions (λ v n. other_key v n (same_key v.key k) refl) cache_keys;
-      }
-    where
-      other_key : (v : Version) → hosted v.key ≡ false → (b : Bool) → same_key v.key k ≡ b → b ≡ false
-      other_key v n false e = refl
-      other_key v n true e = let same : hosted v.key ≡ hosted k = ap (λ (m : ℕ). hosted (record { 0 = m })) (eqb-true v.key.0 k.0 e) in absurd (cc (same, n, h))
 
   -- the scene says the same of the key
   pub hosted_here : (k : KeyId) → hosts_key here k ≡ hosted k

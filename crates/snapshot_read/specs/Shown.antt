@@ -90,6 +90,10 @@ pub record Shows (here : Here) (view : View) (node : NodeId) (own : List OwnSnap
   pub placed : Each (IsPlaced map) store.versions × Each (IsPlaced map) cache.versions
   pub agree : Agree view.own own
 
+-- this holds in each view of the node that says the same as these arguments
+abbrev pub InViews : NodeId → List OwnSnap → StoreList → CacheList → PartitionMap → (Here → View → Type 0) → Type 0
+InViews node own store cache map P = (here : Here) (view : View) → Shows here view node own store cache map → P here view
+
 -- the view of a node that hosts a key shows the versions of its store, and others of a cache, none of which is of the key
 pub record ShowsHosted (view : View) (store : List Version) (k : KeyId) : Type 0 where
   pub cached : List Version

@@ -4,7 +4,7 @@ ghost use Rattle.dependency_set.specs.Snapshots.{accept_final};
 ghost use Rattle.partition_map.specs.Maps.{HasKey};
 ghost use Rattle.snapshot_read.specs.Causes.{GateWaits, IsAway, ReadWaits, ServeWaits};
 ghost use Rattle.snapshot_read.specs.ListReads.{gated_at, kind_read, list_read};
-ghost use Rattle.snapshot_read.specs.Shown.{AreNamed, AreTold, IsNamed, OthersNamed, Shows, ShowsHosted, StandAt, of_key};
+ghost use Rattle.snapshot_read.specs.Shown.{AreNamed, AreTold, InViews, IsNamed, OthersNamed, ShowsHosted, StandAt, of_key};
 ghost use Rattle.snapshot_read.specs.Turning.{serve_of, turn_of};
 ghost use Rattle.str_base.specs.declared.names.NodeId.{NodeId as Node};
 ghost use Rattle.str_base.specs.declared.names.TxId.{TxId as Name};
@@ -84,9 +84,9 @@ pub fn try_read(
     requires deps { AreNamed own.now snap.now.deps }
     requires told { AreTold own.now snap.now.rs store.now.versions cache.now.versions }
     ensures lists { turn_of result ≡ list_read node map.now own.now store.now.versions cache.now.versions snap.now key }
-    ensures turn { (here : Here) (view : View) → Shows here view node own.now store.now cache.now map.now → turn_of result ≡ read_turn here view snap.now key }
-    ensures wait { (here : Here) (view : View) → Shows here view node own.now store.now cache.now map.now → (by : Name) → (result ≡ ReadTurn.Wait by) ↔ ReadWaits here view snap.now key by }
-    ensures remote { (here : Here) (view : View) → Shows here view node own.now store.now cache.now map.now → (m : Node) → (result ≡ ReadTurn.Remote m) ↔ IsAway here view snap.now key m }
+    ensures turn { InViews node own.now store.now cache.now map.now (λ here view. turn_of result ≡ read_turn here view snap.now key) }
+    ensures wait { InViews node own.now store.now cache.now map.now (λ here view. (by : Name) → (result ≡ ReadTurn.Wait by) ↔ ReadWaits here view snap.now key by) }
+    ensures remote { InViews node own.now store.now cache.now map.now (λ here view. (m : Node) → (result ≡ ReadTurn.Remote m) ↔ IsAway here view snap.now key m) }
 {
     let _ = (store.node(), cache.node());
     read(node, snap, own, store, cache, map, key)

@@ -4,3 +4,4 @@ pub mod Plan
 pub mod Memory
 pub mod Sure
 pub mod Standard
+pub mod Clocks

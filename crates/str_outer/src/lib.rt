@@ -1,6 +1,8 @@
-//! The outside of the programs: what gives them bytes and what takes their bytes.
+//! The outside of the programs: what gives them bytes, what takes their bytes, clocks and gates.
 #![tactic(auto)]
 
+pub mod clocks;
+pub mod gates;
 pub mod memory;
 pub mod outside;
 pub mod reading;
@@ -8,8 +10,10 @@ pub mod standard;
 pub mod sure;
 pub mod writing;
 
+pub use clocks::{FixedClock, RealClock};
+pub use gates::OpenGate;
 pub use memory::{MemSink, MemSource};
-pub use outside::{Failed, Sink, Source, Stopped};
+pub use outside::{Clock, Failed, Gate, Sink, Source, Stopped};
 pub use reading::{LIMIT, ReadError, read_all};
 pub use standard::{StdSink, StdSource};
 pub use sure::{SureSink, SureSource};

@@ -3,6 +3,9 @@ ghost use Rattle.std.specs.Prelude.{ℕ, ◌<◌, List, length, Option, IfOk};
 ghost use Rattle.std.specs.Io.{ReadsAtMost, WritesAtMost};
 ghost use Rattle.std.specs.Io.KnownBytes.{ReadConsumes, WriteAppends};
 ghost use Rattle.str_outer.specs.Causes.{HasCause, HasCauses};
+ghost use Rattle.str_outer.specs.Clocks.{Gives};
+
+use str_base::NodeId;
 
 /// A read failed.
 #[derive(Clone, Copy, Debug, PartialEq, Eq)]
@@ -52,4 +55,20 @@ pub trait Sink {
         ensures bytes { WriteAppends (held self.old) (held self.new) result piece.now }
         ensures cause { HasCauses (faults self.old) (faults self.new)
             (wants self.old) (wants self.new) result };
+}
+
+/// What gives numbers that are read as times.
+pub trait Clock {
+    /// The numbers given so far, where the clock tells them.
+    ghost given: { Self → Option (List ℕ) };
+
+    /// Gives any number. It never fails.
+    fn now(&mut self) -> u64
+        ensures given { Gives (given self.old) (given self.new) result };
+}
+
+/// What a node passes before it works.
+pub trait Gate {
+    /// Is called at the start of each round, or of each turn, of this node. It may hold the node up.
+    fn before(&mut self, node: NodeId);
 }

@@ -1,10 +1,13 @@
 use crate::{
-    Failed, LIMIT, MemSink, MemSource, ReadError, Source, StdSink, StdSource, Stopped, SureSink,
-    SureSource, read_all, write_all,
+    Clock, Failed, FixedClock, Gate, LIMIT, MemSink, MemSource, OpenGate, ReadError, RealClock,
+    Source, StdSink, StdSource, Stopped, SureSink, SureSource, read_all, write_all,
 };
 use std::alloc::{AllocError, Global};
+use std::cell::Cell;
 use std::io::{Error, ErrorKind, Read};
 use std::test::Fail;
+use std::time::{Clock as Time, Duration};
+use str_base::NodeId;
 
 const TEXT: &[u8] = b"a text of forty bytes, in pieces of some";
 
@@ -113,5 +116,49 @@ fn standard_writers_are_sinks(rt: HostRuntime) -> Result<(), Fail> {
         assert_eq!(rt; write_all(&mut full, TEXT), Err(Stopped::Failed));
     }
     assert_eq!(rt; &room[..], &TEXT[..16]);
+    Ok(())
+}
+
+#[test]
+fn fixed_clocks_stay_at_their_last_number(rt: HostRuntime) -> Result<(), Fail> {
+    let mut clock = FixedClock::new(vec![in rt.alloc(); 5, 2, 9]?);
+    for want in [5, 2, 9, 9, 9] {
+        assert_eq!(rt; clock.now(), want);
+    }
+    Ok(())
+}
+
+// A system that tells its time once.
+#[derive(Drop)]
+struct Once {
+    has_time: Cell<bool>,
+}
+
+impl Time for Once {
+    fn monotonic(&self) -> std::io::Result<Duration> {
+        self.since_1970()
+    }
+
+    fn since_1970(&self) -> std::io::Result<Duration> {
+        if self.has_time.replace(false) {
+            Ok(Duration::from_millis(1500))
+        } else {
+            Err(Error::from(ErrorKind::Unsupported))
+        }
+    }
+}
+
+#[test]
+fn real_clocks_keep_their_last_number(rt: HostRuntime) -> Result<(), Fail> {
+    for (has_time, want) in [(true, 1500), (false, 0)] {
+        let mut clock = RealClock::new(Once {
+            has_time: Cell::new(has_time),
+        });
+        assert_eq!(rt; clock.now(), want);
+        assert_eq!(rt; clock.now(), want);
+    }
+    let mut system = RealClock::new(&rt);
+    OpenGate.before(NodeId(1));
+    assert!(rt; system.now() > 1_600_000_000_000);
     Ok(())
 }

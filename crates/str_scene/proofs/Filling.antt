@@ -41,7 +41,7 @@ add_tx_length ops (s ∷ []) = refl
 add_tx_length ops (s ∷ t ∷ ss) = ap suc (add_tx_length ops (t ∷ ss))
 
 -- as many at a node
-add_tx_at : (ops : List Op) (n : NodeId) (ss : List Session) → sessions_at n (add_tx ops ss) ≡ sessions_at n ss
+pub add_tx_at : (ops : List Op) (n : NodeId) (ss : List Session) → sessions_at n (add_tx ops ss) ≡ sessions_at n ss
 add_tx_at ops n [] = refl
 add_tx_at ops n (s ∷ []) = refl
 add_tx_at ops n (s ∷ t ∷ ss) =

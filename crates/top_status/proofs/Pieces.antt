@@ -18,7 +18,7 @@ one_more f xs i x piece h e p = ap (flat_map f) last ∙ (flat_map-append f (tak
     last = rw add-one (take-suc xs i x h ∙ ap (λ y. take i xs ++ y ∷ []) (sym e))
 
 -- the pieces of the first items, and those of the others
-parts : {A : Type 0} (f : A → List ℕ) (xs : List A) (i : ℕ) → flat_map f (take i xs) ++ flat_map f (drop i xs) ≡ flat_map f xs
+pub parts : {A : Type 0} (f : A → List ℕ) (xs : List A) (i : ℕ) → flat_map f (take i xs) ++ flat_map f (drop i xs) ≡ flat_map f xs
 parts f xs i = sym (flat_map-append f (take i xs) (drop i xs)) ∙ ap (flat_map f) (take-append-drop i xs)
 
 -- nothing was written and nothing waits

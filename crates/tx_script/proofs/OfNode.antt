@@ -12,13 +12,9 @@ use Rattle.str_scene.specs.declared.names.Op.{Op}
 use Rattle.str_scene.specs.declared.names.Op.TheVariants.{Abort, Add, Del, Get, Need, Put, Puts}
 use Rattle.str_scene.specs.Scenes.{Here, script_at}
 use Rattle.dependency_set.specs.Snapshots.{Snap}
-use Rattle.tx_script.specs.Doing.{by_turn, run_of}
+use Rattle.tx_script.specs.Doing.{done, needed, run_of}
 use Rattle.tx_script.specs.declared.turns.Turn.TheVariants.{Moved, Unmet}
-use Rattle.tx_script.specs.Turns.{Turned, add_turn, get_turn, given, known, moved, need_turn, op_turn, stays, turn_at, turn_of}
-
--- what is done with a turn
-abbrev pub done : Here → ℕ → Own → Turned → Doing → Doing
-done here i x t d = by_turn here i x t.turn t.run d
+use Rattle.tx_script.specs.Turns.{add_turn, get_turn, given, known, moved, need_turn, op_turn, stays, turn_at, turn_of}
 
 -- a get
 get_does : (here : Here) (i : ℕ) (k : KeyId) (x : Own) (d : Doing) (o : Option Value) → need_value here i (Get k) k x o d ≡ done here i x (get_turn k o (run_of x)) d
@@ -59,13 +55,6 @@ turn_does here i x d = by_op (own_op here x)
 
 -- ---- a value that has come
 
--- the key whose value an operation needs
-abbrev pub needed : Op → Option KeyId
-needed (Get k) = Some k
-needed (Add k n) = Some k
-needed (Need k n) = Some k
-needed _ = None
-
 -- an operation that needs a known value is finished with it
 value_does : (here : Here) (i : ℕ) (op : Op) (k : KeyId) (v : Value) (x : Own) (d : Doing) → needed op ≡ Some k → known (run_of x) k ≡ Some v
     → put i (finish op v x) d ≡ done here i x (op_turn op (run_of x)) d
@@ -99,7 +88,7 @@ found_last (r ∷ rs) k v by e = by_test (found_last rs k v by) (same_key r.key 
     by_test rec false f = rec f
 
 -- a key that was unknown is known once its read is kept
-known_given : (x : Own) (k : KeyId) (v : Value) (by : Option TxId) (snap : Snap) → known (run_of x) k ≡ None → known (run_of (noted k v by snap x)) k ≡ Some v
+pub known_given : (x : Own) (k : KeyId) (v : Value) (by : Option TxId) (snap : Snap) → known (run_of x) k ≡ None → known (run_of (noted k v by snap x)) k ≡ Some v
 known_given x k v by snap e = by_write (found_write (find (λ w. same_key w.key k) x.writes)) (found_last x.reads k v by) e
   where
     by_write : (o : Option Value)

@@ -10,3 +10,4 @@ pub mod Pending
 pub mod Changed
 pub mod Deciding
 pub mod Few
+pub mod Dropping

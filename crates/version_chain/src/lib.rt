@@ -6,6 +6,7 @@ mod pairs;
 mod places;
 mod sorted;
 pub mod walks;
+mod writes;
 
 pub use chains::Chains;
 pub use walks::Walk;

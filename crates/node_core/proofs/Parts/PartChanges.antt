@@ -99,9 +99,10 @@ fits_open i f w x own op h = subst (Fits w) (open_does i f w.doing x own op) h
 
 -- ---- a transaction begins
 
-count_open : (n : ℕ) (xs : List Own) → length (open_from n xs) ≡ how_many is_open xs
-count_open n [] = refl
-count_open n (x ∷ xs) = by_test (is_decided x.phase) (count_open (n + 1) xs)
+-- so many places as are undecided
+pub open_count : (n : ℕ) (xs : List Own) → length (open_from n xs) ≡ how_many is_open xs
+open_count n [] = refl
+open_count n (x ∷ xs) = by_test (is_decided x.phase) (open_count (n + 1) xs)
   where
     by_test : (b : Bool) → length (open_from (n + 1) xs) ≡ how_many is_open xs → length (if b then open_from (n + 1) xs else n ∷ open_from (n + 1) xs) ≡ one_if (not b) + how_many is_open xs
     by_test true r = omega (arith, r)
@@ -133,7 +134,7 @@ may_come here d place rs ok exists h =
     record {
       few = (let a = own_few here ok exists (own ++ x ∷ []) h.order in let b = length-append own (x ∷ []) in omega (arith, a, b));
       scripts = (let a = own_here here exists (own ++ x ∷ []) h.order in let b = length-append own (x ∷ []) in omega (arith, a, b));
-      undecided = (let a = open_few here ok exists (own ++ x ∷ []) h.order in let b = many_more is_open own x in let c = count_open 0 own in omega (arith, a, b, c));
+      undecided = (let a = open_few here ok exists (own ++ x ∷ []) h.order in let b = many_more is_open own x in let c = open_count 0 own in omega (arith, a, b, c));
       session = text_within here.scene.sessions place.session.0 p.text p.session;
     }
 

@@ -1,5 +1,6 @@
 -- The partitions of the writes of a transaction, one for each write, are those that the gate asks of its write buffer.
 use Rattle.std.proofs.Common.{Bool, List, Some, [], ap, append_assoc, arith, drop, eq-eqb, eqb-true, false, inl, inr, length, ltb-true, map, refl, slice_get, subst, suc, sym, take, true, zero, ℕ, ◌++◌, ◌+◌, ◌-◌, ◌<◌, ◌==◌, ◌∙◌, ◌∷◌, ◌≡◌, ◌≤◌}
+use Rattle.std.specs.Cmp.{both_ways}
 use Rattle.std.specs.List.{list_any, range_with_len}
 use Rattle.commit_gate.specs.Answers.{IsSame, Tells}
 use Rattle.dependency_set.specs.declared.names.Dep.{Dep}
@@ -28,12 +29,6 @@ use Rattle.str_model.specs.Views.{Own, View, is_decided}
 use Rattle.str_scene.specs.SceneLimits.{Exists, IsScene}
 use Rattle.str_scene.specs.Scenes.{Here, map_of, named_part, part_of, written_parts}
 
--- two tests that pass together are one
-pub both_so : (a b : Bool) → (a ≡ true → b ≡ true) → (b ≡ true → a ≡ true) → a ≡ b
-both_so true b f g = sym (f refl)
-both_so false true f g = g refl
-both_so false false f g = refl
-
 in_range : (a n k : ℕ) → a ≤ k → k < a + n → In k (range_with_len a n)
 in_range a zero k l m = absurd (omega (arith, l, m))
 in_range a (suc n) k l m = by_test (a == k) refl (λ h. in_range (a + 1) n k h (omega (arith, m)))
@@ -54,7 +49,7 @@ part_exists here ok w e =
 
 pub parts_same : (here : Here) → IsScene here.scene → (ws : List Write) → ((w : Write) → In w ws → has_key here w.key ≡ true) → (p : PartId)
     → list_any (same_part p) (map (λ (w : Write). part_of here.scene w.key) ws) ≡ list_any (same_part p) (written_parts here.scene ws)
-parts_same here ok ws f p = both_so _ _ there back
+parts_same here ok ws f p = both_ways _ _ there back
   where
     there : list_any (same_part p) (map (λ (w : Write). part_of here.scene w.key) ws) ≡ true → list_any (same_part p) (written_parts here.scene ws) ≡ true
     there e =

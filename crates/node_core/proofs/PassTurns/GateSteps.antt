@@ -1,51 +1,30 @@
 -- The gate of an own transaction in a loop: what each look needs, and that all of them are what the model does.
-use Rattle.std.proofs.Common.{List, None, Option, Some, [], ap, arith, false, find, inl, inr, is_some, length, map, not, refl, slice_get, subst, suc, sym, true, zero, ℕ, ◌+◌, ◌<◌, ◌∙◌, ◌∷◌, ◌≡◌, ◌≤◌}
+use Rattle.std.proofs.Common.{Some, ap, arith, false, inl, inr, length, map, refl, slice_get, subst, suc, sym, true, zero, ℕ, ◌+◌, ◌<◌, ◌∙◌, ◌≡◌, ◌≤◌}
 use Rattle.std.specs.List.{range_with_len}
 use Rattle.commit_gate.specs.Answers.{turn_of as gate_said}
 use Rattle.commit_gate.specs.declared.gates.GateTurn.{GateTurn}
 use Rattle.commit_gate.specs.declared.gates.GateTurn.TheVariants as spoken
-use Rattle.dependency_set.specs.declared.names.Dep.{Dep}
-use Rattle.dependency_set.specs.Snapshots.{Snap}
 use Rattle.node_core.proofs.PassTurns.GatesOver.{Asking, asked_owns, asking, asks_left, gates_commit, gates_few, gates_shut, of_scene}
 use Rattle.node_core.proofs.Whole.Growing.{fits_before}
 use Rattle.node_core.proofs.Whole.Moves.{did_as, facts_then, fits_as, holds_then, stays_self, stays_then}
 use Rattle.node_core.proofs.PassTurns.OwnMoments.{asked_moment}
 use Rattle.node_core.proofs.Rules.ScriptSteps.{own_then}
 use Rattle.node_core.specs.Working.{Did, Fits, HasFacts, OwnIs, Stays, WorkState}
-use Rattle.partition_map.specs.declared.rows.Asked.{Asked}
 use Rattle.str_base.specs.declared.names.PartId.{PartId}
 use Rattle.str_base.specs.declared.names.Ts.{Ts}
 use Rattle.str_base.specs.Members.{In}
 use Rattle.str_model.specs.Acts.{asked, committed}
-use Rattle.str_model.specs.Gates
-use Rattle.str_model.specs.Gates.{Ask, CommitAt, DepParts, gate_of, gate_turn, may_ask}
+use Rattle.str_model.specs.Gates.{Ask, gate_of}
 use Rattle.str_model.specs.NodeFacts.{IsShut}
 use Rattle.str_model.specs.Pass.{gates, gates_in}
 use Rattle.str_model.specs.Scripts.{at_own}
 use Rattle.str_model.specs.Strange.{has_part}
 use Rattle.str_model.specs.Views.{Doing, Own, is_decided, lc_of}
-use Rattle.str_model.proofs.OwnFacts.AskedParts.{find_some}
+use Rattle.str_model.proofs.OwnFacts.AskedParts.{gate_ask}
 use Rattle.str_model.proofs.ViewFacts.QuietTurns.{open_does}
 use Rattle.str_scene.specs.Scenes.{Scene, all_parts}
 
 -- ---- the partition that is asked exists
-
--- the participant for which the gate asks
-gate_asked : (snap : Snap) (lc : ℕ) (parts : List Asked) (wrote : List DepParts) (p : PartId) → gate_turn snap lc parts wrote ≡ Ask p → (a : Asked) × In a parts × (a.part ≡ p)
-unfolding gate_turn
-gate_asked snap lc parts wrote p e = by_ask (find (may_ask wrote) parts) refl e
-  where
-    by_missing : (o : Option Asked) → Gates.gate_acks lc parts o ≡ Ask p → ⊥
-    by_missing None q = cc q
-    by_missing (Some a) q = cc q
-
-    by_deps : (ds : List Dep) → Gates.gate_deps lc parts ds ≡ Ask p → ⊥
-    by_deps [] q = by_missing (find (λ a. not (is_some a.ack)) parts) q
-    by_deps (d ∷ ds) q = cc q
-
-    by_ask : (o : Option Asked) → find (may_ask wrote) parts ≡ o → Gates.gate_asks snap lc parts o ≡ Ask p → (a : Asked) × In a parts × (a.part ≡ p)
-    by_ask (Some a) f q = (a, find_some (may_ask wrote) parts a f, cc q)
-    by_ask None f q = absurd (by_deps snap.deps q)
 
 numbered_in : (a n : ℕ) (p : PartId) → In p (map (λ (k : ℕ). let q : PartId = record { 0 = k } in q) (range_with_len a n)) → (a ≤ p.0) × (p.0 < a + n)
 numbered_in a zero p h = absurd h
@@ -82,7 +61,7 @@ module _ (w : WorkState) (i lc : ℕ) (at : WorkState) (turn : GateTurn) (h : Ga
 
     pub asks_part : has_part at.here p ≡ true
     asks_part =
-        let a = gate_asked h.own.0.snap lc h.own.0.parts _ p asks in
+        let a = gate_ask h.own.0.snap lc h.own.0.parts _ p asks in
         let m = of_scene at.here at.doing.view i h.own.0 h.facts.moment h.own.1 a.0 a.1 in
         let t = part_there at.here.scene p (subst (λ q. In q (all_parts at.here.scene)) a.2 m) in
         in_bounds t.0 t.1

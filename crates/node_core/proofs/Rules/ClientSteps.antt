@@ -1,5 +1,5 @@
 -- A client step by the session's last transaction.
-use Rattle.std.proofs.Common.{Bool, List, None, Option, Some, ap, arith, false, if◌then◌else◌, is_some, length, max, min, refl, suc, sym, true, ℕ, ◌+◌, ◌<◌, ◌∙◌, ◌∷◌, ◌≡◌, ◌≤◌, []}
+use Rattle.std.proofs.Common.{Bool, List, None, Option, Some, ap, arith, false, if◌then◌else◌, is_some, max, min, refl, sym, true, ℕ, ◌+◌, ◌∙◌, ◌≡◌, ◌≤◌}
 use Rattle.node_parts.specs.Sites.{has_script, is_at}
 use Rattle.node_core.specs.Beginning.{IsNext, MayBegin, at_first, at_next, script_in, script_of}
 use Rattle.node_core.specs.Working.{WorkState}
@@ -96,18 +96,6 @@ module _ (here : Here) (s : SessionId) (t : ℕ) (d : Doing) (a : AtSession here
         by_phase (Global lc) f n = refl
         by_phase (Committed m fc) f n = absurd (cc f)
         by_phase (Aborted m c) f n = absurd (cc f)
-
--- ---- the last transaction of a session
-
-pub last_there : {X : Type 0} (p : X → Bool) (xs : List X) (i : ℕ) → last_index p xs ≡ Some i → i < length xs
-last_there p [] i e = absurd (cc e)
-last_there p (x ∷ xs) i e = by_last (last_index p xs) refl (p x) e (λ k. last_there p xs k)
-  where
-    by_last : (o : Option ℕ) → last_index p xs ≡ o → (b : Bool) → elim o [ Some k ↦ Some (suc k) | None ↦ (if b then Some 0 else None) ] ≡ Some i
-        → ((k : ℕ) → last_index p xs ≡ Some k → k < length xs) → i < suc (length xs)
-    by_last (Some k) q b e rec = let r = rec k q in let is : suc k ≡ i = cc e in omega (arith, r, is)
-    by_last None q true e rec = let is : 0 ≡ i = cc e in omega (arith, is)
-    by_last None q false e rec = absurd (cc e)
 
 pub open_less : (v : View) (m n : ℕ) → m ≤ n → OpenTo v n → OpenTo v m
 open_less v m n le h i x dep lt own f j = h i x dep (omega (arith, lt, le)) own f j

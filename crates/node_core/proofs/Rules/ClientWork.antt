@@ -1,15 +1,16 @@
 -- A client step of a work: which session, which transaction, and what may begin.
-use Rattle.std.proofs.Common.{Bool, List, None, Some, [], ap, arith, false, is_some, length, not, refl, sym, true, ℕ, ◌+◌, ◌<◌, ◌^◌, ◌∙◌, ◌≡◌, ◌≤◌, ◌∷◌, eqb-true, slice_get, sum_by, suc, zero}
-use Rattle.std.proofs.lemmas.List.Sums.{sum_by-cons}
+use Rattle.std.proofs.Common.{Bool, List, None, Some, [], ap, arith, false, get_or, is_some, length, not, refl, sym, true, ℕ, ◌+◌, ◌<◌, ◌^◌, ◌∙◌, ◌≡◌, ◌≤◌, slice_get, sum_by, suc, zero}
+use Rattle.std.proofs.lemmas.List.Sums.{get_or-le-sum_by}
+use Rattle.std.proofs.lemmas.Option.{slice_get-get_or, slice_get_within}
+use Rattle.node_parts.proofs.Owning.LastPlaces.{last_within}
 use Rattle.node_parts.specs.Sites.{has_script, is_at}
-use Rattle.node_core.proofs.Rules.ClientSteps.{AtSession, at_session, begin_moves, last_there, no_session, rule_active, rule_decided, rule_first, rule_waits}
+use Rattle.node_core.proofs.Rules.ClientSteps.{AtSession, at_session, begin_moves, no_session, rule_active, rule_decided, rule_first, rule_waits}
 use Rattle.node_core.specs.Beginning.{MayBegin, at_next, script_of}
 use Rattle.node_core.specs.Working.{HasFacts, WorkState}
 use Rattle.str_base.proofs.Lists.{slice_get_there}
 use Rattle.str_base.specs.declared.names.SessionId.{SessionId}
 use Rattle.str_model.specs.Clients.{begin, client_rule, last_index, of_session, place_in}
 use Rattle.str_model.specs.Views.{Active, Own, is_decided}
-use Rattle.str_model.proofs.Changes.AnswerChanges.{last_index-some}
 use Rattle.str_scene.specs.declared.names.TxPlace.{TxPlace}
 use Rattle.str_scene.specs.Scenes.{Here, Session, nth}
 
@@ -26,21 +27,20 @@ module _ (w : WorkState) (s : SessionId) (h : Here) (b : Bool) (here_is : h ≡ 
 
 module _ (w : WorkState) (s : SessionId) (a : AtSession w.here s) (i : ℕ) (l : last_index (of_session s) w.doing.view.own ≡ Some i) where
   pub last_owns : (x : Own) × (slice_get w.doing.view.own i ≡ Some x)
-  last_owns = slice_get_there w.doing.view.own i (last_there (of_session s) w.doing.view.own i l)
+  last_owns = slice_get_there w.doing.view.own i (last_within (of_session s) w.doing.view.own i l)
 
   pub next_begins : (x : Own) → slice_get w.doing.view.own i ≡ Some x → is_decided x.phase ≡ true → MayBegin w (place_in s (x.place.index + 1))
   next_begins x own f = record { text = a.text; session = a.session; node = a.node; next = at_next i x l own f refl }
 
 -- ---- the index in a session is small
 
-one_of_sum : {A : Type 0} (f : A → ℕ) (xs : List A) (i : ℕ) (x : A) → slice_get xs i ≡ Some x → f x ≤ sum_by f xs
-one_of_sum f [] i x e = absurd (cc e)
-one_of_sum f (y ∷ xs) zero x e = let q : y ≡ x = cc e in let r : f y ≡ f x = ap f q in let s = sum_by-cons f y xs in omega (arith, r, s)
-one_of_sum f (y ∷ xs) (suc i) x e = let r = one_of_sum f xs i x e in let s = sum_by-cons f y xs in omega (arith, r, s)
-
 nth_of_sum : {A : Type 0} (f : A → ℕ) (xs : List A) (n : ℕ) (x : A) → nth xs n ≡ Some x → f x ≤ sum_by f xs
 nth_of_sum f xs zero x e = absurd (cc e)
-nth_of_sum f xs (suc i) x e = one_of_sum f xs i x e
+nth_of_sum f xs (suc i) x e =
+    let l = slice_get_within xs i x e in
+    let g : Some (get_or xs i x) ≡ Some x = sym (slice_get-get_or xs i x l) ∙ e in
+    let q : f (get_or xs i x) ≡ f x = (let same : get_or xs i x ≡ x = cc g in ap f same) in
+    let s = get_or-le-sum_by f xs i x l in omega (arith, q, s)
 
 pub index_few : (w : WorkState) → HasFacts w → (i : ℕ) (x : Own) → slice_get w.doing.view.own i ≡ Some x → x.place.index + 1 < 2 ^ 32
 index_few w f i x own =

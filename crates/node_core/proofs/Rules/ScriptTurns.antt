@@ -1,5 +1,5 @@
 -- What the turn of a script tells of an own transaction, and a read that is kept and finished at once.
-use Rattle.std.proofs.Common.{Bool, List, None, Option, Some, [], ap, arith, eq-eqb, false, find, if◌then◌else◌, length, refl, slice_get, slice_set, subst, suc, sym, true, zero, ℕ, ℤ, ◌++◌, ◌+◌, ◌∙◌, ◌∷◌, ◌≡◌, ◌<◌, ◌≤◌, ◌⊎◌, inl, inr}
+use Rattle.std.proofs.Common.{Bool, List, None, Option, Some, [], ap, arith, false, if◌then◌else◌, length, refl, slice_get, slice_set, subst, suc, sym, true, zero, ℕ, ℤ, ◌+◌, ◌∙◌, ◌∷◌, ◌≡◌, ◌<◌, ◌≤◌, ◌⊎◌, inl, inr}
 use Rattle.std.proofs.lemmas.Option.{slice_get_within}
 use Rattle.node_parts.specs.Owning.{HasPlace, IsFree, turned}
 use Rattle.node_core.specs.Reading.{CanTurn}
@@ -7,12 +7,10 @@ use Rattle.str_base.specs.declared.names.KeyId.{KeyId}
 use Rattle.str_base.specs.declared.names.TxId.{TxId}
 use Rattle.str_base.specs.declared.names.Value.{Value}
 use Rattle.str_base.specs.Values.{is_below}
-use Rattle.str_base.specs.Versions.{same_key}
 use Rattle.dependency_set.specs.Snapshots.{Snap}
-use Rattle.str_model.specs.declared.names.ReadDone.{ReadDone}
 use Rattle.str_model.specs.NodeFacts.{AtNeed, MomentFacts, Needs, is_stopped}
 use Rattle.str_model.specs.Owned.{Owns, WaitsFor}
-use Rattle.str_model.specs.Scripts.{finish, finish_next, found_read, found_write, known, noted, or_else, own_op, with_value}
+use Rattle.str_model.specs.Scripts.{finish, finish_next, known, noted, own_op, with_value}
 use Rattle.str_model.specs.Strange.{has_key}
 use Rattle.str_model.specs.Views.{Aborted, Active, CertWait, Closing, Committed, Doing, Global, Local, Own, Phase, ReadWait, Remote, Reply, View, is_decided, lc_of, put}
 use Rattle.str_model.proofs.Room.SmallNumbers.{script_few}
@@ -21,9 +19,10 @@ use Rattle.str_scene.specs.declared.names.Op.{Op}
 use Rattle.str_scene.specs.declared.names.Op.TheVariants.{Abort, Add, Del, Get, Need, Put, Puts}
 use Rattle.str_scene.specs.SceneLimits.{IsScene}
 use Rattle.str_scene.specs.Scenes.{Here, script_at}
+use Rattle.tx_script.proofs.OfNode.{known_given}
 use Rattle.tx_script.specs.Doing.{run_of}
 use Rattle.tx_script.specs.declared.turns.Turn.TheVariants.{Ask, End, Got, Moved, Unmet}
-use Rattle.tx_script.specs.Turns.{ScriptRun, Turned, add_turn, get_turn, need_turn, op_turn, stays, turn_at, turn_of}
+use Rattle.tx_script.specs.Turns.{ScriptRun, add_turn, get_turn, need_turn, op_turn, stays, turn_at, turn_of}
 use Rattle.tx_script.specs.Turns
 
 -- ---- a transaction that waits for a key, or is Active
@@ -169,29 +168,6 @@ set_again (x ∷ xs) (suc i) a b = ap (λ ys. x ∷ ys) (set_again xs i a b)
 -- what is put at a place is put over what was put there
 pub put_again : (i : ℕ) (a b : Own) (d : Doing) → put i b (put i a d) ≡ put i b d
 put_again i a b d = ap (λ xs. let v : View = record (d.view) { own = xs } in let e : Doing = record d { view = v } in e) (set_again d.view.own i a b)
-
--- a key that was not found is found at the end
-found_last : (rs : List ReadDone) (k : KeyId) (v : Value) (by : Option TxId) → found_read (find (λ r. same_key r.key k) rs) ≡ None
-    → found_read (find (λ r. same_key r.key k) (rs ++ record { key = k; value = v; by = by } ∷ [])) ≡ Some v
-found_last [] k v by e = rw (eq-eqb k.0 k.0 refl) refl
-found_last (r ∷ rs) k v by e = by_test (found_last rs k v by) (same_key r.key k) e
-  where
-    by_test : (found_read (find (λ r. same_key r.key k) rs) ≡ None → found_read (find (λ r. same_key r.key k) (rs ++ record { key = k; value = v; by = by } ∷ [])) ≡ Some v)
-        → (b : Bool) → found_read (if b then Some r else find (λ r. same_key r.key k) rs) ≡ None
-        → found_read (if b then Some r else find (λ r. same_key r.key k) (rs ++ record { key = k; value = v; by = by } ∷ [])) ≡ Some v
-    by_test rec true f = absurd (cc f)
-    by_test rec false f = rec f
-
--- a key that was unknown is known once its read is kept
-known_given : (x : Own) (k : KeyId) (v : Value) (by : Option TxId) (snap : Snap) → known x k ≡ None → known (noted k v by snap x) k ≡ Some v
-known_given x k v by snap e = by_write (found_write (find (λ w. same_key w.key k) x.writes)) (found_last x.reads k v by) e
-  where
-    by_write : (o : Option Value)
-        → (found_read (find (λ r. same_key r.key k) x.reads) ≡ None → found_read (find (λ r. same_key r.key k) (x.reads ++ record { key = k; value = v; by = by } ∷ [])) ≡ Some v)
-        → or_else o (found_read (find (λ r. same_key r.key k) x.reads)) ≡ None
-        → or_else o (found_read (find (λ r. same_key r.key k) (x.reads ++ record { key = k; value = v; by = by } ∷ []))) ≡ Some v
-    by_write None h f = h f
-    by_write (Some u) h f = absurd (cc f)
 
 -- a value has come for the key that the next operation needs: the read is kept, and the turn is done
 pub value_turns : (here : Here) (i : ℕ) (k : KeyId) (v : Value) (by : Option TxId) (snap : Snap) (x : Own) (d : Doing) → AtNeed here x k

@@ -1,13 +1,14 @@
 -- The room that a step needs, and what a node can be asked between steps.
-use Rattle.std.proofs.Common.{Bool, List, None, Option, Some, ap, arith, false, if◌then◌else◌, is_some, length, not, option_map, refl, sym, true, ℕ, ◌*◌, ◌+◌, ◌^◌, ◌∙◌, ◌∷◌, ◌≡◌, ◌≤◌, []}
+use Rattle.std.proofs.Common.{List, None, Option, Some, ap, arith, if◌then◌else◌, is_some, length, not, option_map, refl, sym, ℕ, ◌*◌, ◌+◌, ◌^◌, ◌∙◌, ◌≡◌, ◌≤◌}
 use Rattle.std.specs.List.{count_by}
+use Rattle.node_core.proofs.Parts.PartChanges.{open_count}
 use Rattle.node_parts.specs.Owning.{open_from}
-use Rattle.node_core.specs.Working.{FitsRule, IsFresh, IsNode, WorkState}
+use Rattle.node_core.specs.Working.{FitsRule, IsFresh, IsNode, NodeState, SameNode, WorkState, here_of}
 use Rattle.str_base.specs.declared.names.SessionId.{SessionId}
 use Rattle.str_model.specs.Clients.{client_rule}
 use Rattle.str_model.specs.declared.messages.Input.{Input}
 use Rattle.str_model.specs.declared.messages.Input.TheVariants.{Client}
-use Rattle.str_model.specs.NodeFacts.{ViewBelow, how_many, one_if, times_end}
+use Rattle.str_model.specs.NodeFacts.{ViewBelow, times_end}
 use Rattle.str_model.specs.Steps.{after_rule, count_of, need, rule, step}
 use Rattle.str_model.specs.Views.{Doing, Own, View, is_decided, starts}
 use Rattle.str_model.proofs.OwnFacts.FewOwn.{is_open, many_count, open_few, own_few, times_low}
@@ -16,15 +17,9 @@ use Rattle.str_model.proofs.Room.NeedRules.{InputFits}
 use Rattle.str_model.proofs.ViewFacts.TimesBelow.{view_higher}
 use Rattle.str_scene.specs.Scenes.{Here}
 
--- so many places as are undecided
-pub open_count : (n : ℕ) (own : List Own) → length (open_from n own) ≡ how_many is_open own
-open_count n [] = refl
-open_count n (x ∷ own) = by_test (is_decided x.phase) (open_count (n + 1) own)
-  where
-    by_test : (b : Bool) → length (open_from (n + 1) own) ≡ how_many is_open own
-        → length (if b then open_from (n + 1) own else n ∷ open_from (n + 1) own) ≡ one_if (not b) + how_many is_open own
-    by_test true r = omega (arith, r)
-    by_test false r = omega (arith, r)
+-- what a step needs is the same at the node that was made ready
+pub need_same : (n m : NodeState) (input : Input) → SameNode n m → need (here_of n) input n.view ≡ need (here_of m) input m.view
+need_same n m input s = λ j. need (record { scene = (sym s.scene) j; node = (sym s.id) j }) input ((sym s.view) j)
 
 pub held_count : (own : List Own) → length (open_from 0 own) ≡ count_by (λ x. not (is_decided x.phase)) own
 held_count own = open_count 0 own ∙ sym (many_count is_open own)

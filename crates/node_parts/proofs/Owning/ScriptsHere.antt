@@ -1,13 +1,14 @@
 -- A node has no more own transactions than its sessions have scripts.
-use Rattle.std.proofs.Common.{Bool, List, None, Some, [], ap, arith, eq-eqb, eqb-true, false, if◌then◌else◌, inl, inr, length, lt-ltb, nat_lt, refl, slice_get, subst, suc, sum_by, sym, true, zero, ℕ, ◌+◌, ◌-◌, ◌<◌, ◌==◌, ◌∙◌, ◌∷◌, ◌≡◌, ◌≤◌}
+use Rattle.std.proofs.Common.{Bool, List, Some, [], ap, arith, eq-eqb, eqb-true, false, if◌then◌else◌, inl, inr, length, lt-ltb, nat_lt, refl, slice_get, subst, suc, sum_by, sym, true, ℕ, ◌+◌, ◌-◌, ◌<◌, ◌==◌, ◌∙◌, ◌∷◌, ◌≡◌, ◌≤◌}
 use Rattle.std.proofs.lemmas.Bool.{cases_order, false_from_ne_true, le-ltb, ne_eqb}
 use Rattle.std.proofs.lemmas.List.Sums.{sum_by-cons}
 use Rattle.str_base.specs.Versions.{same_node}
-use Rattle.str_base.specs.declared.names.NodeId.{NodeId}
 use Rattle.str_model.specs.NodeFacts.{InOrder, how_many, one_if}
 use Rattle.str_model.specs.Strange.{has_node}
 use Rattle.str_model.specs.Views.{Own}
 use Rattle.str_scene.specs.Scenes.{Here, Session, nth}
+use Rattle.str_model.proofs.OwnFacts.FewOwn.{rising_few}
+use Rattle.str_model.proofs.OwnFacts.PlacesInOrder.{nth_exists}
 use Rattle.str_model.proofs.ViewFacts.MomentKept.{node_number}
 use Rattle.node_parts.specs.NodeScripts.{scripts_of}
 
@@ -65,28 +66,7 @@ none_pass p (x ∷ xs) h =
     let a : one_if (p x) ≡ 0 = ap one_if (h 0 x refl) in
     let r = none_pass p xs (λ i y e. h (suc i) y e) in omega (arith, a, r)
 
--- numbers that rise from c on, up to m
-rising_few : (q : Own → Bool) (m c : ℕ) (xs : List Own) → c ≤ m → ((i : ℕ) (x : Own) → slice_get xs i ≡ Some x → q x ≡ true → (c < x.place.index) × (x.place.index ≤ m))
-    → ((i j : ℕ) (x y : Own) → i < j → slice_get xs i ≡ Some x → slice_get xs j ≡ Some y → q x ≡ true → q y ≡ true → x.place.index < y.place.index) → how_many q xs + c ≤ m
-rising_few q m c [] le h r = omega (arith, le)
-rising_few q m c (y ∷ ys) le h r =
-    by_test (q y) refl (λ k l g. rising_few q m k ys l g (λ i j x z l e f s u. r (suc i) (suc j) x z (omega (arith, l)) e f s u))
-  where
-    by_test : (b : Bool) → q y ≡ b → ((k : ℕ) → k ≤ m → ((i : ℕ) (x : Own) → slice_get ys i ≡ Some x → q x ≡ true → (k < x.place.index) × (x.place.index ≤ m)) → how_many q ys + k ≤ m)
-        → (one_if b + how_many q ys) + c ≤ m
-    by_test true t rec =
-        let k = h 0 y refl t in
-        let n = rec y.place.index k.1 (λ i x e s. (r 0 (suc i) y x (omega arith) refl e t s, (h (suc i) x e s).1)) in
-        omega (arith, n, k.0)
-    by_test false t rec = let n = rec c le (λ i x e s. h (suc i) x e s) in omega (arith, n)
-
 -- ---- by the scene
-
-nth_within : {X : Type 0} (xs : List X) (k : ℕ) (x : X) → nth xs k ≡ Some x → (1 ≤ k) × (k < 1 + length xs)
-nth_within xs zero x e = absurd cc
-nth_within [] (suc k) x e = absurd (cc e)
-nth_within (y ∷ xs) (suc zero) x e = (omega arith, omega arith)
-nth_within (y ∷ xs) (suc (suc k)) x e = let r = nth_within xs (suc k) x e in (omega arith, omega (arith, r.1))
 
 module _ (here : Here) (exists : has_node here here.node ≡ true) (own : List Own) (h : InOrder here.scene (here.node.0 - 1) own) where
   -- those of one session are no more than its scripts, and none where the session is one of another node
@@ -117,8 +97,8 @@ module _ (here : Here) (exists : has_node here here.node ≡ true) (own : List O
   -- no more than there are scripts of the node
   pub own_here : length own ≤ scripts_of here.node here.scene.sessions
   own_here =
-      let within = λ (i : ℕ) (x : Own) (e : slice_get own i ≡ Some x). nth_within here.scene.sessions x.place.session.0 (h.placed i x e).text (h.placed i x e).session in
+      let within = λ (i : ℕ) (x : Own) (e : slice_get own i ≡ Some x). nth_exists here.scene.sessions x.place.session.0 (h.placed i x e).text (h.placed i x e).session in
       let a = below_all own (λ (s : Session). if same_node s.node here.node then length s.txs else 0) 1 here.scene.sessions session_few in
-      let b = all_pass (is_below (1 + length here.scene.sessions)) own (λ i x e. lt-ltb x.place.session.0 (1 + length here.scene.sessions) (within i x e).1) in
+      let b = all_pass (is_below (1 + length here.scene.sessions)) own (λ i x e. lt-ltb x.place.session.0 (1 + length here.scene.sessions) (omega (arith, (within i x e).1))) in
       let c = none_pass (is_below 1) own (λ i x e. le-ltb x.place.session.0 1 (within i x e).0) in
       omega (arith, a, b, c)

@@ -46,7 +46,7 @@ row_fits nodes (n ∷ row) few e =
     and_from (nat_lt n.0 256) (list_all (λ r. nat_lt r.0 256) row) (lt-ltb n.0 256 small) (row_fits nodes row few p.1)
 
 -- a partition of the scene fits
-part_fits : (n p : ℕ) → n ≤ PARTITIONS → is_up_to n p ≡ true → p < 256
+pub part_fits : (n p : ℕ) → n ≤ PARTITIONS → is_up_to n p ≡ true → p < 256
 part_fits n p few e = omega (arith, (up_to n p e).1)
 
 -- a line whose numbers are in range fits

@@ -60,7 +60,7 @@ no_version AtStart next e b = absurd (cc)
 no_version _ next e b = absurd (none-some _ e)
 
 -- the draft keeps its version
-settle_version : (ops : List Op) (d : Scene) → (settle ops d).version ≡ d.version
+pub settle_version : (ops : List Op) (d : Scene) → (settle ops d).version ≡ d.version
 settle_version [] d = refl
 settle_version (o ∷ ops) d = refl
 

@@ -32,7 +32,7 @@ pub record IsTaken (limits : Limits) (s : State) (l : Line) (t : State) : Type 0
   pub state : after next s l ≡ t
 
 -- what two states are that a line comes to
-now_same : (s t : State) → Now s ≡ Now t → s ≡ t
+pub now_same : (s t : State) → Now s ≡ Now t → s ≡ t
 now_same s t e = cc
 
 -- each line that is taken is taken for these reasons

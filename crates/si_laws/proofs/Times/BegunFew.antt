@@ -30,7 +30,7 @@ abbrev pub places_of : List View → List (ℕ × ℕ)
 places_of [] = []
 places_of (v ∷ vs) = map place_key v.own ++ places_of vs
 
-places_length : (vs : List View) → length (places_of vs) ≡ own_total vs
+pub places_length : (vs : List View) → length (places_of vs) ≡ own_total vs
 places_length [] = refl
 places_length (v ∷ vs) =
     let rec = places_length vs in

@@ -84,7 +84,7 @@ sum_bound p xs f n (s ∷ rest) h =
 -- ---- one session
 
 -- numbers that rise from c on, up to m
-rising_few : (q : Own → Bool) (m c : ℕ) (xs : List Own) → c ≤ m → ((i : ℕ) (x : Own) → slice_get xs i ≡ Some x → q x ≡ true → (c < x.place.index) × (x.place.index ≤ m))
+pub rising_few : (q : Own → Bool) (m c : ℕ) (xs : List Own) → c ≤ m → ((i : ℕ) (x : Own) → slice_get xs i ≡ Some x → q x ≡ true → (c < x.place.index) × (x.place.index ≤ m))
     → ((i j : ℕ) (x y : Own) → i < j → slice_get xs i ≡ Some x → slice_get xs j ≡ Some y → q x ≡ true → q y ≡ true → x.place.index < y.place.index) → how_many q xs + c ≤ m
 rising_few q m c [] le h r = omega (arith, le)
 rising_few q m c (y ∷ ys) le h r =

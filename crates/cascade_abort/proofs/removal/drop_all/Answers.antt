@@ -1,7 +1,8 @@
-use Rattle.std.proofs.Common.{arith, refl, sym, ◌∙◌, ◌≡◌}
+use Rattle.std.proofs.Common.{ap, arith, refl, sym, ◌∙◌, ◌≡◌}
 use Rattle.cascade_abort.proofs.Dropping.{narrowed_at, out_at, shed_at}
 use Rattle.replica_store.proofs.MergedChanges.{without_merged}
 use Rattle.str_base.specs.Versions.{of_tx, without}
+use Rattle.version_chain.specs.ChainLists.{merged}
 use Rattle.cascade_abort.proofs.removal.drop_all.Goals as goal
 
 pub loop-part-preserved : goal.loop-part-preserved
@@ -30,4 +31,5 @@ pub returns-clause-merged : goal.returns-clause-merged
 returns-clause-merged c k s a =
     let store : c.loop-part.store.versions ≡ without (of_tx c.args.tx) c.args.store.now.versions = returns-clause-store c in
     let cache : c.loop-part.cache.versions ≡ without (of_tx c.args.tx) c.args.cache.now.versions = returns-clause-cache c in
-    rw (store, cache) (sym (without_merged (of_tx c.args.tx) c.args.cache.now.versions c.args.store.now.versions k.0 s.0 a))
+    ap (λ vs. merged vs c.loop-part.store.versions) cache ∙ ap (λ vs. merged (without (of_tx c.args.tx) c.args.cache.now.versions) vs) store
+    ∙ sym (without_merged (of_tx c.args.tx) c.args.cache.now.versions c.args.store.now.versions k.0 s.0 a)

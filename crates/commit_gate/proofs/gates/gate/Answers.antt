@@ -24,7 +24,7 @@ returns-in-Some-clause-own c =
     own_gate c.args.snap.now c.args.lc.0 c.args.parts.now c.args.wrote.now _ (asks c.args.snap.now c.args.lc.0 c.args.parts.now c.args.wrote.now c.in-Some.free found)
 
 pub returns-in-Some-clause-least : goal.returns-in-Some-clause-least
-returns-in-Some-clause-least c part i a e up g p =
+returns-in-Some-clause-least c part e up i a g p =
     let found : find (may_ask c.args.wrote.now) c.args.parts.now ≡ Some c.in-Some.free = search rules in
     let same : c.in-Some.free.part ≡ part = cc e in
     subst (λ (q : PartId). q.0 ≤ a.part.0) same (least_part (may_ask c.args.wrote.now) c.args.parts.now c.in-Some.free a i found up g p)

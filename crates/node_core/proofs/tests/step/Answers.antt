@@ -1,12 +1,6 @@
-use Rattle.std.proofs.Common.{arith, sym, ◌≡◌}
+use Rattle.std.proofs.Common.{arith, ◌≡◌}
+use Rattle.node_core.proofs.Whole.Readying.{need_same}
 use Rattle.node_core.proofs.tests.step.Goals as goal
-use Rattle.node_core.specs.Working.{NodeState, SameNode, here_of}
-use Rattle.str_model.specs.Steps.{need}
-use Rattle.str_model.specs.declared.messages.Input.{Input}
-
--- what a step needs is the same at the node that was made ready
-need_same : (n m : NodeState) (input : Input) → SameNode n m → need (here_of n) input n.view ≡ need (here_of m) input m.view
-need_same n m input s = λ j. need (record { scene = (sym s.scene) j; node = (sym s.id) j }) input ((sym s.view) j)
 
 pub step-requires-clause-room : goal.step-requires-clause-room
 step-requires-clause-room c =

@@ -4,7 +4,7 @@ use Rattle.replica_store.proofs.MergedChanges.{decided_merged, none_hosted}
 use Rattle.str_base.specs.Versions.{of_tx, without}
 use Rattle.str_model.specs.Acts.{decided_versions}
 use Rattle.str_scene.specs.Scenes.{hosts}
-use Rattle.version_chain.specs.ChainLists.{is_among}
+use Rattle.version_chain.specs.ChainLists.{is_among, merged}
 use Rattle.node_parts.proofs.commits.commit_all.Goals as goal
 
 pub loop-write-preserved : goal.loop-write-preserved
@@ -40,6 +40,6 @@ returns-clause-merged c a =
     let here = c.args.site.now in
     let store : c.loop-write.store.versions ≡ decided_versions here c.args.tx c.args.fc.0 c.args.store.now.versions = returns-clause-store c in
     let cache : c.loop-write.cache.versions ≡ without (of_tx c.args.tx) c.args.cache.now.versions = returns-clause-cache c in
-    rw (store, cache)
-    (sym (decided_merged here c.args.tx c.args.fc.0 c.args.cache.now.versions c.args.store.now.versions c.node-2.ensures.kept.0 c.node.ensures.kept.0 a
-    (none_hosted here c.args.tx c.args.cache.now.versions (cached_elsewhere here c.args.cache.now c.node-2.ensures.kept c.requires.here.cache_hosts))))
+    (λ j. merged (cache j) (store j))
+    ∙ sym (decided_merged here c.args.tx c.args.fc.0 c.args.cache.now.versions c.args.store.now.versions c.node-2.ensures.kept.0 c.node.ensures.kept.0 a
+    (none_hosted here c.args.tx c.args.cache.now.versions (cached_elsewhere here c.args.cache.now c.node-2.ensures.kept c.requires.here.cache_hosts)))

@@ -1,4 +1,5 @@
 use Rattle.std.proofs.Common.{ap, arith, subst, sym, ◌+◌, ◌∙◌}
+use Rattle.node_parts.proofs.Owning.LastPlaces.{last_within}
 use Rattle.node_parts.specs.Phases.{phase_of}
 use Rattle.str_scene.specs.declared.names.TxPlace.{TxPlace}
 use Rattle.node_core.specs.Beginning.{MayBegin, script_of}
@@ -7,7 +8,7 @@ use Rattle.str_model.specs.Clients.{begin, place_in}
 use Rattle.str_model.specs.Scripts.{op_or_commit, own_op}
 use Rattle.str_model.specs.Views.{is_decided}
 use Rattle.str_model.proofs.ViewFacts.QuietTurns.{open_does}
-use Rattle.node_core.proofs.Rules.ClientSteps.{last_there, open_less, rule_active, rule_decided, rule_first, rule_waits}
+use Rattle.node_core.proofs.Rules.ClientSteps.{open_less, rule_active, rule_decided, rule_first, rule_waits}
 use Rattle.node_core.proofs.Rules.ClientWork.{index_few, last_owns, next_begins, session_at, session_none}
 use Rattle.node_core.proofs.Whole.Moves.{did_as, did_rule, fits_as, fits_rule, fits_rule_as, idle_rule, rule_as}
 use Rattle.node_core.proofs.Parts.PhaseWords.{is_active}
@@ -27,10 +28,10 @@ returns-in_default c =
     rule_as c.args.self.now c.begin_at.new.self _ _ c.begin_at.result (rule_first c.args.self.now.here c.args.session c.args.reading c.args.self.now.doing a (sym c.last_of.ensures ∙ c.in_default.is)) c.begin_at.ensures
 
 pub phase-phase-requires : goal.phase-phase-requires
-phase-phase-requires c = last_there _ c.args.self.now.doing.view.own c.in-Some.i (sym c.last_of.ensures ∙ c.in-Some.is)
+phase-phase-requires c = last_within _ c.args.self.now.doing.view.own c.in-Some.i (sym c.last_of.ensures ∙ c.in-Some.is)
 
 pub place-index-requires : goal.place-index-requires
-place-index-requires c = last_there _ c.args.self.now.doing.view.own c.in-Some.i (sym c.last_of.ensures ∙ c.in-Some.is)
+place-index-requires c = last_within _ c.args.self.now.doing.view.own c.in-Some.i (sym c.last_of.ensures ∙ c.in-Some.is)
 
 pub overflow_add-index : goal.overflow_add-index
 overflow_add-index c =
@@ -86,7 +87,7 @@ go_on-requires-clause-own c =
 
 pub go_on-requires-clause-open_ : goal.go_on-requires-clause-open_
 go_on-requires-clause-open_ c =
-    let m = last_there _ c.args.self.now.doing.view.own c.in-Some.i (sym c.last_of.ensures ∙ c.in-Some.is) in
+    let m = last_within _ c.args.self.now.doing.view.own c.in-Some.i (sym c.last_of.ensures ∙ c.in-Some.is) in
     open_less c.args.self.now.doing.view (c.in-Some.i + 1) _ (omega (arith, m)) c.requires.open_
 
 pub go_on-requires-clause-fits : goal.go_on-requires-clause-fits

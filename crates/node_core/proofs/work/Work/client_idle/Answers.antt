@@ -1,11 +1,11 @@
 use Rattle.std.proofs.Common.{ap, arith, is_some, not, sym, ◌+◌, ◌∙◌}
+use Rattle.node_parts.proofs.Owning.LastPlaces.{last_within}
 use Rattle.node_parts.specs.Phases.{phase_of}
 use Rattle.node_parts.specs.Sites.{has_script}
 use Rattle.str_model.specs.Clients.{place_in}
 use Rattle.str_model.specs.Views.{is_decided}
 use Rattle.str_scene.specs.declared.names.TxPlace.{TxPlace}
 use Rattle.str_scene.specs.Scenes.{nth}
-use Rattle.node_core.proofs.Rules.ClientSteps.{last_there}
 use Rattle.node_core.proofs.Rules.ClientWork.{idle_active, idle_first, idle_next, idle_waits, index_few, last_owns, session_at, session_none}
 use Rattle.node_core.proofs.Parts.PhaseWords.{is_active}
 use Rattle.node_core.proofs.work.Work.client_idle.Goals as goal
@@ -19,10 +19,10 @@ returns-in_default c t =
     idle_first c.args.self.now c.args.session t a (sym c.last_of.ensures ∙ c.in_default.is) c.site-in_default.result.now c.site-in_default.ensures.value c.has_script.result c.has_script.ensures
 
 pub phase-phase-requires : goal.phase-phase-requires
-phase-phase-requires c = last_there _ c.args.self.now.doing.view.own c.in-Some.i (sym c.last_of.ensures ∙ c.in-Some.is)
+phase-phase-requires c = last_within _ c.args.self.now.doing.view.own c.in-Some.i (sym c.last_of.ensures ∙ c.in-Some.is)
 
 pub place-index-requires : goal.place-index-requires
-place-index-requires c = last_there _ c.args.self.now.doing.view.own c.in-Some.i (sym c.last_of.ensures ∙ c.in-Some.is)
+place-index-requires c = last_within _ c.args.self.now.doing.view.own c.in-Some.i (sym c.last_of.ensures ∙ c.in-Some.is)
 
 pub overflow_add-index : goal.overflow_add-index
 overflow_add-index c =
