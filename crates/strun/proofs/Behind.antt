@@ -2,11 +2,10 @@
 use Rattle.std.proofs.Common.{Err, List, Ok, OnErr, OnOk, Option, Result, [], add-one, ap, append-nil, append_assoc, drop, flat_map, get_or, length, refl, subst, sym, take, ℕ, ◌++◌, ◌+◌, ◌<◌, ◌∙◌, ◌∷◌, ◌≡◌}
 use Rattle.std.proofs.KnownBytes.{Appends-trans}
 use Rattle.std.proofs.Math.Seq.{take-suc}
-use Rattle.std.proofs.lemmas.List.{take-append-drop}
 use Rattle.std.proofs.lemmas.List.Concat.{flat_map-append}
 use Rattle.std.specs.Io.KnownBytes.{Appends}
 use Rattle.str_outer.specs.Pieces.{AppendsPrefix}
-use Rattle.top_status.proofs.Pieces.{last_partly, so_far_written}
+use Rattle.top_status.proofs.Pieces.{last_partly, parts, so_far_written}
 use Rattle.top_status.proofs.Prefixes.{appends_none, further}
 use Rattle.top_status.specs.Waiting.{WrittenBut}
 
@@ -32,10 +31,6 @@ one_more f xs i x h e = ap (flat_map f) last ∙ (flat_map-append f (take i xs) 
   where
     last : take (i + 1) xs ≡ take i xs ++ x ∷ []
     last = rw add-one (take-suc xs i x h ∙ ap (λ y. take i xs ++ y ∷ []) (sym e))
-
--- the lines of the first items, and those of the others
-parts : {A : Type 0} (f : A → List ℕ) (xs : List A) (i : ℕ) → flat_map f (take i xs) ++ flat_map f (drop i xs) ≡ flat_map f xs
-parts f xs i = sym (flat_map-append f (take i xs) (drop i xs)) ∙ ap (flat_map f) (take-append-drop i xs)
 
 -- one more line is written behind what waited, or is left waiting
 pub one_line : {A : Type 0} (a b d : Option (List ℕ)) (f : A → List ℕ) (first : List ℕ) (xs : List A) (i : ℕ) (x : A) (w waiting v : List ℕ) → i < length xs → x ≡ get_or xs i x

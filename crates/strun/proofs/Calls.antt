@@ -1,14 +1,16 @@
 -- What a call does for its words.
 use Rattle.std.proofs.Common.{Err, IfErr, List, Ok, OnOk, Option, Result, Some, inl, inr, refl, subst, sym, ℕ, ◌∙◌, ◌≡◌, ◌⊎◌}
-use Rattle.std.specs.Io.KnownBytes.{Consumes, IsAtEnd}
+use Rattle.scene_text.proofs.FirstBad.FirstBadLaws.{one_scene_of}
 use Rattle.str_outer.specs.Causes.{Rose}
 use Rattle.str_scene.specs.Scenes.{Scene}
+use Rattle.str_scene.specs.Spelling.{IsText}
 use Rattle.strun.proofs.Refusing.{not_refused}
 use Rattle.strun.specs.Failing.{CallFails, TaskFails}
-use Rattle.strun.specs.Inputs.{HasScene, IsRefusal, IsRefused, IsSpelled, Offers, OffersNone, ReadFailed, ReadsNothing, origin_of}
-use Rattle.strun.specs.Tops.{Asked, Completes, Done, IsPartial, PartlyDone, Refuses}
-use Rattle.strun.specs.declared.inputs.Origin.{Origin}
-use Rattle.strun.specs.declared.inputs.Origin.TheVariants.{Input, Seed}
+use Rattle.strun.specs.Banks.{IsBankScene, accounts_of, amounts_of}
+use Rattle.strun.specs.Inputs.{HasScene, IsRefused, IsSpelled, Offers, OffersNone, Origin, ReadFailed, ReadsNothing, origin_of}
+use Rattle.strun.specs.Inputs.Origin.{makes, reads, reads_bank}
+use Rattle.strun.specs.Tops.{Asked, Completes, CompletesFrom, Done, IsPartial, PartlyDone, Refuses, RefusesFrom}
+use Rattle.strun.specs.declared.inputs.Form.TheVariants.{Text}
 use Rattle.strun_words.proofs.Apart.{one_task}
 use Rattle.strun_words.specs.Tasks.{AskFor, AskNothing, IsUnasked}
 use Rattle.strun_words.specs.declared.task.Task.{Task}
@@ -134,10 +136,16 @@ refused_of words left left' read read' held held' write write' (Err Memory) f e 
 
 -- an input that spells a scene is not refused
 told_not_refused : (origin : Origin) (left left' : Option (List ℕ)) (said : List ℕ) → Offers origin left → IsRefused origin left left' said → ⊥
-told_not_refused (Input form) left left' said o g =
+told_not_refused (reads form) left left' said o g =
     let same : o.0 ≡ g.bytes = all_told left left' o.0 g.bytes o.2 g.consumed g.whole o.3.short in
     not_refused form g.bytes said o.1 (subst (λ (xs : List ℕ). IsSpelled form xs o.1) same o.3) g.refusal
-told_not_refused (Seed seed) left left' said o g = g
+told_not_refused reads_bank left left' said o (inl g) = told_not_refused (reads Text) left left' said (o.0, o.1, o.2, o.3) g
+told_not_refused reads_bank left left' said o (inr g) =
+    let bytes : o.0 ≡ g.has.bytes = all_told left left' o.0 g.has.bytes o.2 g.has.consumed (inr g.has.ended) o.3.short in
+    let scene : o.1 ≡ g.scene =
+    one_scene_of g.has.bytes o.1 g.scene o.3.scene_ g.has.spelled.scene_ (subst (λ (xs : List ℕ). IsText xs o.1) bytes o.3.spelled) g.has.spelled.spelled in
+    g.reason.0 (accounts_of g.scene) (amounts_of g.scene) (subst IsBankScene scene o.4)
+told_not_refused (makes seed) left left' said o g = g
 
 -- the one task of the words has what another task of the words has
 of_task : {words : List (List ℕ)} (P : Task → Type 0) (task : Task) → AskFor words task → Asked words P → P task
@@ -146,7 +154,7 @@ of_task {words} P task q a = subst P (one_task words a.0 task a.1 q) a.2
 -- where the words ask for a task and its scene is offered, the status is Ok or want of memory
 pub complete_of : (words : List (List ℕ)) (left left' : Option (List ℕ)) (read read' : ℕ) (held held' : Option (List ℕ)) (write write' : ℕ) (done : Result (Unit {0}) Failure)
     → IfErr done (CallFails words left left' read read' held held' write write') → (task : Task) → AskFor words task
-    → Completes (origin_of task) left read read' write write' (status_of done)
+    → CompletesFrom (origin_of task) left read read' write write' (status_of done)
 complete_of words left left' read read' held held' write write' (Ok u) f task q o r w = inl refl
 complete_of words left left' read read' held held' write write' (Err Usage) f task q o r w = absurd (f.0 task q)
 complete_of words left left' read read' held held' write write' (Err (Refusal said)) f task q o r w =
@@ -157,15 +165,18 @@ complete_of words left left' read read' held held' write write' (Err Memory) f t
 
 -- no scene is read from an input that spells none
 no_scene_read : (origin : Origin) (left left' : Option (List ℕ)) (scene : Scene) → OffersNone origin left → HasScene origin left left' scene → ⊥
-no_scene_read (Input form) left left' scene o h =
+no_scene_read (reads form) left left' scene o h =
     let same : o.0 ≡ h.bytes = all_read left left' o.0 h.bytes o.1 h.consumed (inr h.ended) h.spelled.short in
     o.2 scene (subst (λ (xs : List ℕ). IsSpelled form xs scene) (sym same) h.spelled)
-no_scene_read (Seed seed) left left' scene o h = o
+no_scene_read reads_bank left left' scene o h =
+    let same : o.0 ≡ h.0.bytes = all_read left left' o.0 h.0.bytes o.1 h.0.consumed (inr h.0.ended) h.0.spelled.short in
+    o.2 scene (subst (λ (xs : List ℕ). IsSpelled Text xs scene) (sym same) h.0.spelled) h.1
+no_scene_read (makes seed) left left' scene o h = o
 
 -- where the words ask for a task and what is told spells no scene for it, it is refused, or memory was wanting
 pub refuses_of : (words : List (List ℕ)) (left left' : Option (List ℕ)) (read read' : ℕ) (held held' : Option (List ℕ)) (write write' : ℕ) (done : Result (Unit {0}) Failure)
     → OnOk done (Asked words (λ task. Done task left left' held held')) → IfErr done (CallFails words left left' read read' held held' write write')
-    → (task : Task) → AskFor words task → Refuses (origin_of task) left read read' (status_of done)
+    → (task : Task) → AskFor words task → RefusesFrom (origin_of task) left read read' (status_of done)
 refuses_of words left left' read read' held held' write write' (Ok u) d f task q o r =
     let g = of_task (λ t. Done t left left' held held') task q d in absurd (no_scene_read (origin_of task) left left' g.scene o g.has)
 refuses_of words left left' read read' held held' write write' (Err Usage) d f task q o r = absurd (f.0 task q)
@@ -181,13 +192,12 @@ reads_nothing words task q a = of_task (λ t. ReadsNothing (origin_of t)) task q
 
 -- the same of the status that a call ends with
 pub completes : (words : List (List ℕ)) (left left' : Option (List ℕ)) (read read' : ℕ) (held held' : Option (List ℕ)) (write write' : ℕ) (done : Result (Unit {0}) Failure) (status : Status)
-    → status ≡ status_of done → IfErr done (CallFails words left left' read read' held held' write write') → (task : Task) → AskFor words task
-    → Completes (origin_of task) left read read' write write' status
+    → status ≡ status_of done → IfErr done (CallFails words left left' read read' held held' write write') → Completes words left read read' write write' status
 completes words left left' read read' held held' write write' done status s f task q =
-    subst (λ (k : Status). Completes (origin_of task) left read read' write write' k) (sym s) (complete_of words left left' read read' held held' write write' done f task q)
+    subst (λ (k : Status). CompletesFrom (origin_of task) left read read' write write' k) (sym s) (complete_of words left left' read read' held held' write write' done f task q)
 
 pub refuses : (words : List (List ℕ)) (left left' : Option (List ℕ)) (read read' : ℕ) (held held' : Option (List ℕ)) (write write' : ℕ) (done : Result (Unit {0}) Failure) (status : Status)
     → status ≡ status_of done → OnOk done (Asked words (λ task. Done task left left' held held')) → IfErr done (CallFails words left left' read read' held held' write write')
-    → (task : Task) → AskFor words task → Refuses (origin_of task) left read read' status
+    → Refuses words left read read' status
 refuses words left left' read read' held held' write write' done status s d f task q =
-    subst (λ (k : Status). Refuses (origin_of task) left read read' k) (sym s) (refuses_of words left left' read read' held held' write write' done d f task q)
+    subst (λ (k : Status). RefusesFrom (origin_of task) left read read' k) (sym s) (refuses_of words left left' read read' held held' write write' done d f task q)

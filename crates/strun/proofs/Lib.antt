@@ -1,4 +1,8 @@
 pub mod WholeRun
+pub mod BankRuns
+pub mod BankWritten
+pub mod Totals
+pub mod BalanceLines
 pub mod Behind
 pub mod Written
 pub mod Events

@@ -1,10 +1,13 @@
 -- Why a step of a call failed.
+use Rattle.bank_book.specs.Books.{IsReason}
+use Rattle.bank_book.specs.declared.books.BookFault.TheVariants.{Not}
 use Rattle.std.specs.Prelude.{List, Option, ℕ, ⊤, ◌≡◌, ◌⊎◌}
 use Rattle.str_outer.specs.Causes.{Rose}
-use Rattle.strun.specs.Inputs.{IsRefusal, IsRefused, ReadFailed, origin_of}
+use Rattle.str_scene.specs.Scenes.{Scene}
+use Rattle.str_scene.specs.declared.names.TxPlace.{TxPlace}
+use Rattle.strun.specs.Inputs.{IsRefusal, IsRefused, Origin, ReadFailed, not_bank_said, origin_of}
 use Rattle.strun.specs.Tops.{Asked, IsPartial, PartlyDone}
 use Rattle.strun.specs.declared.inputs.Form.{Form}
-use Rattle.strun.specs.declared.inputs.Origin.{Origin}
 use Rattle.strun_words.specs.Tasks.{AskNothing}
 use Rattle.strun_words.specs.declared.task.Task.{Task}
 use Rattle.top_status.specs.declared.failure.Failure.{Failure}
@@ -20,6 +23,12 @@ abbrev pub RefusesInput : Form → List ℕ → Failure → Type 0
 RefusesInput form bytes (Refusal said) = IsRefusal form bytes said.items
 RefusesInput form bytes Memory = ⊤
 RefusesInput form bytes _ = ⊥
+
+-- why a scene is refused that was to be a bank's
+abbrev pub RefusesScene : Scene → Failure → Type 0
+RefusesScene scene (Refusal said) = (place : TxPlace) × IsReason scene (Not place) × (said.items ≡ not_bank_said place)
+RefusesScene scene Memory = ⊤
+RefusesScene scene _ = ⊥
 
 -- why no scene came
 abbrev pub SceneFails : Origin → Option (List ℕ) → Option (List ℕ) → ℕ → ℕ → Failure → Type 0

@@ -1,30 +1,43 @@
 -- Where a task has its scene from, and which bytes are refused.
+use Rattle.bank_book.specs.Books.{IsReason}
+use Rattle.bank_book.specs.declared.books.BookFault.TheVariants.{Not}
 use Rattle.request_frame.specs.FirstBad.{FirstBad as FirstBadFrame}
 use Rattle.request_frame.specs.Spelling.{IsFrames}
 use Rattle.scene_gen.specs.Made.{made}
 use Rattle.scene_text.specs.FirstBad.{FirstBad as FirstBadLine}
 use Rattle.std.specs.Io.KnownBytes.{Consumes, IsAtEnd}
-use Rattle.std.specs.Prelude.{List, Option, Some, codes, decimal, false, length, true, ℕ, ⊤, ◌++◌, ◌≡◌, ◌≤◌, ◌⊎◌}
+use Rattle.std.specs.Prelude.{Bool, List, Option, Some, codes, decimal, false, length, true, ℕ, ⊤, ◌++◌, ◌≡◌, ◌≤◌, ◌⊎◌}
 use Rattle.str_outer.specs.Causes.{Rose}
 use Rattle.str_scene.specs.SceneLimits.{IsScene}
 use Rattle.str_scene.specs.Scenes.{Scene}
 use Rattle.str_scene.specs.Spelling.{IsText}
 use Rattle.str_scene.specs.declared.faults.Why.{Why}
 use Rattle.str_scene.specs.declared.faults.Why.TheVariants.{Count, Cut, Form as NoForm, Range}
+use Rattle.str_scene.specs.declared.names.TxPlace.{TxPlace}
+use Rattle.strun.specs.Banks.{IsBankScene}
 use Rattle.strun.specs.declared.inputs.Form.{Form}
 use Rattle.strun.specs.declared.inputs.Form.TheVariants.{Frames, Text}
-use Rattle.strun.specs.declared.inputs.Origin.{Origin}
-use Rattle.strun.specs.declared.inputs.Origin.TheVariants.{Input, Seed}
 use Rattle.strun_words.specs.declared.task.Task.{Task}
-use Rattle.strun_words.specs.declared.task.Task.TheVariants.{Generate, Pack, Run, Show}
+use Rattle.strun_words.specs.declared.task.Task.TheVariants.{Bank, Generate, Pack, Run, Show}
 
--- where a task has its scene from
+-- where a task has its scene from: it reads it in a form, it reads the text of a bank's scene, or it makes it of a seed
+pub data Origin : Type 0 where
+  reads : Form → Origin
+  reads_bank : Origin
+  makes : ℕ → Origin
+
+-- the form in which `run` reads a scene, with or without `--frames`
+abbrev pub form_of : Bool → Form
+form_of false = Text
+form_of true = Frames
+
+-- where each task has its scene from
 abbrev pub origin_of : Task → Origin
-origin_of (Run false journal) = Input Text
-origin_of (Run true journal) = Input Frames
-origin_of Pack = Input Text
-origin_of Show = Input Frames
-origin_of (Generate seed run) = Seed seed
+origin_of (Run frames journal) = reads (form_of frames)
+origin_of Pack = reads Text
+origin_of Show = reads Frames
+origin_of (Generate seed run) = makes seed
+origin_of Bank = reads_bank
 
 -- the bytes are the spelling of the scene in a form
 abbrev pub Spells : Form → List ℕ → Scene → Type 0
@@ -44,30 +57,35 @@ pub record HasRead (form : Form) (left left' : Option (List ℕ)) (scene : Scene
   pub ended : IsAtEnd left'
   pub spelled : IsSpelled form bytes scene
 
--- this is the scene: it was read, or nothing was read and it is the one that is made of the seed
+-- this is the scene: it was read, and is a bank's where that is asked for; or nothing was read and it is the one that is made of the seed
 abbrev pub HasScene : Origin → Option (List ℕ) → Option (List ℕ) → Scene → Type 0
-HasScene (Input form) left left' scene = HasRead form left left' scene
-HasScene (Seed seed) left left' scene = (left' ≡ left) × (scene ≡ made seed)
+HasScene (reads form) left left' scene = HasRead form left left' scene
+HasScene reads_bank left left' scene = HasRead Text left left' scene × IsBankScene scene
+HasScene (makes seed) left left' scene = (left' ≡ left) × (scene ≡ made seed)
 
 -- nothing is to be read
 abbrev pub ReadsNothing : Origin → Type 0
-ReadsNothing (Input form) = ⊥
-ReadsNothing (Seed seed) = ⊤
+ReadsNothing (reads form) = ⊥
+ReadsNothing reads_bank = ⊥
+ReadsNothing (makes seed) = ⊤
 
 -- a read failed: the source's count rose
 abbrev pub ReadFailed : Origin → ℕ → ℕ → Type 0
-ReadFailed (Input form) read read' = Rose read read'
-ReadFailed (Seed seed) read read' = ⊥
+ReadFailed (reads form) read read' = Rose read read'
+ReadFailed reads_bank read read' = Rose read read'
+ReadFailed (makes seed) read read' = ⊥
 
--- the source tells the spelling of a scene, or nothing is to be read
+-- the source tells the spelling of a scene, or of a bank's scene, or nothing is to be read
 abbrev pub Offers : Origin → Option (List ℕ) → Type 0
-Offers (Input form) left = (bytes : List ℕ) × (scene : Scene) × (left ≡ Some bytes) × IsSpelled form bytes scene
-Offers (Seed seed) left = ⊤
+Offers (reads form) left = (bytes : List ℕ) × (scene : Scene) × (left ≡ Some bytes) × IsSpelled form bytes scene
+Offers reads_bank left = (bytes : List ℕ) × (scene : Scene) × (left ≡ Some bytes) × IsSpelled Text bytes scene × IsBankScene scene
+Offers (makes seed) left = ⊤
 
--- the source tells bytes that spell no scene
+-- the source tells bytes that spell no scene, or no bank's scene
 abbrev pub OffersNone : Origin → Option (List ℕ) → Type 0
-OffersNone (Input form) left = (bytes : List ℕ) × (left ≡ Some bytes) × ((scene : Scene) → ¬ IsSpelled form bytes scene)
-OffersNone (Seed seed) left = ⊥
+OffersNone (reads form) left = (bytes : List ℕ) × (left ≡ Some bytes) × ((scene : Scene) → ¬ IsSpelled form bytes scene)
+OffersNone reads_bank left = (bytes : List ℕ) × (left ≡ Some bytes) × ((scene : Scene) → IsSpelled Text bytes scene → ¬ IsBankScene scene)
+OffersNone (makes seed) left = ⊥
 
 -- the first bad line of a text is the one of this number; the first bad frame is the one that begins at this place
 abbrev pub IsFirstBad : Form → List ℕ → ℕ → Why → Type 0
@@ -106,7 +124,20 @@ pub record HasRefused (form : Form) (left left' : Option (List ℕ)) (said : Lis
   pub whole : (length bytes ≡ 1048577) ⊎ IsAtEnd left'
   pub refusal : IsRefusal form bytes said
 
--- what is to be read was refused with these words
+-- what is said of a scene that is no bank's: the place of the first transaction that fits no form
+abbrev pub not_bank_said : TxPlace → List ℕ
+not_bank_said place = codes "transaction " ++ decimal place.session.0 ++ codes "/" ++ decimal place.index ++ codes ": not a bank"
+
+-- a scene was read that is no bank's, as its transaction at a place says, and this is said of it
+pub record HasNoBank (left left' : Option (List ℕ)) (said : List ℕ) : Type 0 where
+  pub scene : Scene
+  pub has : HasRead Text left left' scene
+  pub place : TxPlace
+  pub reason : IsReason scene (Not place)
+  pub is_said : said ≡ not_bank_said place
+
+-- what is to be read was refused with these words: its bytes are, or the scene that they spell is no bank's
 abbrev pub IsRefused : Origin → Option (List ℕ) → Option (List ℕ) → List ℕ → Type 0
-IsRefused (Input form) left left' said = HasRefused form left left' said
-IsRefused (Seed seed) left left' said = ⊥
+IsRefused (reads form) left left' said = HasRefused form left left' said
+IsRefused reads_bank left left' said = HasRefused Text left left' said ⊎ HasNoBank left left' said
+IsRefused (makes seed) left left' said = ⊥

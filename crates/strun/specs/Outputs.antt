@@ -7,7 +7,7 @@ use Rattle.si_laws.specs.SnapshotIsolation.{SIRun}
 use Rattle.si_laws.specs.SpeculativeIsolation.{SPSI}
 use Rattle.si_laws.specs.TrueCause.{TrueCause}
 use Rattle.spsi_laws.specs.Laws.Ends.{NoneOpen}
-use Rattle.std.specs.Prelude.{List, false, take, true, ℕ, ⊤, ◌≡◌}
+use Rattle.std.specs.Prelude.{List, false, take, true, ℕ, ⊤, ◌++◌, ◌≡◌}
 use Rattle.str_model.specs.Drains.{cluster_events, cluster_run}
 use Rattle.str_model.specs.Lines.{counts, end_line, render, render_j}
 use Rattle.str_model.specs.Runs.{run}
@@ -15,11 +15,12 @@ use Rattle.str_model.specs.Traces.{trace}
 use Rattle.str_scene.specs.SceneLimits.{IsScene}
 use Rattle.str_scene.specs.Scenes.{Scene}
 use Rattle.str_scene.specs.Spelling.{spelling}
+use Rattle.strun.specs.Banks.{BankRunHolds, balances_after, bank_lines}
 use Rattle.strun_words.specs.declared.task.Task.{Task}
-use Rattle.strun_words.specs.declared.task.Task.TheVariants.{Generate, Pack, Run, Show}
+use Rattle.strun_words.specs.declared.task.Task.TheVariants.{Bank, Generate, Pack, Run, Show}
 
 -- what a task writes: of its one run the rendering (the events of the schedule, and then those of the drain where it has one), with or
--- without its journal, or the last line alone; or the scene's frames, or its text
+-- without its journal, with the balances of a bank behind it, or the last line alone; or the scene's frames, or its text
 abbrev pub output : Task → Scene → List ℕ
 output (Run frames false) scene = render scene (cluster_run scene)
 output (Run frames true) scene = render_j scene (cluster_run scene)
@@ -27,6 +28,7 @@ output Pack scene = bytes_of (frames_of scene)
 output Show scene = spelling scene
 output (Generate seed false) scene = spelling scene
 output (Generate seed true) scene = end_line (counts scene (cluster_run scene))
+output Bank scene = render scene (cluster_run scene) ++ bank_lines scene.keys (balances_after scene)
 
 -- what is promised of the answers of the run of a scene
 pub record RunHolds (scene : Scene) : Type 0 where
@@ -52,3 +54,4 @@ Promised Pack scene = ⊤
 Promised Show scene = ⊤
 Promised (Generate seed false) scene = IsScene scene
 Promised (Generate seed true) scene = RunHolds scene
+Promised Bank scene = RunHolds scene × BankRunHolds scene

@@ -5,9 +5,8 @@ use Rattle.std.specs.Prelude.{List, Option, codes, ℕ, ◌≡◌, ◌⊎◌}
 use Rattle.str_outer.specs.Causes.{Rose}
 use Rattle.str_outer.specs.Pieces.{AppendsPrefix}
 use Rattle.str_scene.specs.Scenes.{Scene}
-use Rattle.strun.specs.Inputs.{HasScene, IsRefused, Offers, OffersNone, ReadFailed, origin_of}
+use Rattle.strun.specs.Inputs.{HasScene, IsRefused, Offers, OffersNone, Origin, ReadFailed, origin_of}
 use Rattle.strun.specs.Outputs.{Promised, output}
-use Rattle.strun.specs.declared.inputs.Origin.{Origin}
 use Rattle.strun_words.specs.Tasks.{AskFor}
 use Rattle.strun_words.specs.declared.task.Task.{Task}
 use Rattle.top_status.specs.Statuses.{line_of}
@@ -44,16 +43,24 @@ IsPartial words left left' held held' = (held' ≡ held) ⊎ Asked words (λ tas
 
 -- standard error grew by the line of the status, or by a prefix of it where one of its counts rose; that of a refusal says why what was
 -- read is refused
-pub record IsTold (words : List (List ℕ)) (left left' : Option (List ℕ)) (status : Status) (held held' : Option (List ℕ)) (faults faults' wants wants' : ℕ) : Type 0 where
+pub record IsTold {E : Type 0} (words : List (List ℕ)) (left left' : Option (List ℕ)) (status : Status) (held : E → Option (List ℕ)) (faults wants : E → ℕ) (err err' : E) : Type 0 where
   pub said : List ℕ
   pub refused : status ≡ Refused → Asked words (λ task. IsRefused (origin_of task) left left' said)
-  pub tells : Tells (line_of own_name said status) held held' faults faults' wants wants'
+  pub tells : Tells (line_of own_name said status) (held err) (held err') (faults err) (faults err') (wants err) (wants err')
 
--- completeness: where a scene is told, or none is to be read, and no read and no write failed, the status is Ok or want of memory
-abbrev pub Completes : Origin → Option (List ℕ) → ℕ → ℕ → ℕ → ℕ → Status → Type 0
-Completes origin left read read' write write' status =
+-- where a scene is told, or none is to be read, and no read and no write failed, the status is Ok or want of memory
+abbrev pub CompletesFrom : Origin → Option (List ℕ) → ℕ → ℕ → ℕ → ℕ → Status → Type 0
+CompletesFrom origin left read read' write write' status =
     Offers origin left → ¬ ReadFailed origin read read' → ¬ Rose write write' → (status ≡ StatusOk) ⊎ (status ≡ NoMemory)
 
+-- completeness: this holds of the task that the words ask for
+abbrev pub Completes : List (List ℕ) → Option (List ℕ) → ℕ → ℕ → ℕ → ℕ → Status → Type 0
+Completes words left read read' write write' status = (task : Task) → AskFor words task → CompletesFrom (origin_of task) left read read' write write' status
+
 -- where bytes are told that spell no scene and no read failed, they are refused, or memory was wanting
-abbrev pub Refuses : Origin → Option (List ℕ) → ℕ → ℕ → Status → Type 0
-Refuses origin left read read' status = OffersNone origin left → ¬ ReadFailed origin read read' → (status ≡ Refused) ⊎ (status ≡ NoMemory)
+abbrev pub RefusesFrom : Origin → Option (List ℕ) → ℕ → ℕ → Status → Type 0
+RefusesFrom origin left read read' status = OffersNone origin left → ¬ ReadFailed origin read read' → (status ≡ Refused) ⊎ (status ≡ NoMemory)
+
+-- this holds of the task that the words ask for
+abbrev pub Refuses : List (List ℕ) → Option (List ℕ) → ℕ → ℕ → Status → Type 0
+Refuses words left read read' status = (task : Task) → AskFor words task → RefusesFrom (origin_of task) left read read' status

@@ -1,18 +1,15 @@
-//! The scene of a task: what it reads as its text or as its frames, or what is made of its seed.
-ghost use Rattle.scene_gen.specs.Made.{made};
+//! The scene of a task: what it reads, as its text or as its frames.
 ghost use Rattle.std.specs.Prelude.{◌≡◌, ◌≤◌, length, IfErr, IfOk};
-ghost use Rattle.str_scene.specs.SceneLimits.{IsScene};
-ghost use Rattle.strun.specs.Inputs.{HasRead, HasScene, IsSpelled, ReadsNothing, bad_said, origin_of, place_said, why_said};
-ghost use Rattle.strun.specs.Failing.{IsWant, RefusesInput, SceneFails};
+ghost use Rattle.strun.specs.Inputs.{HasRead, IsSpelled, bad_said, form_of, place_said, why_said};
+ghost use Rattle.strun.specs.Inputs.Origin.{reads};
+ghost use Rattle.strun.specs.Failing.{RefusesInput, SceneFails};
 ghost use Rattle.top_status.specs.Failures.{RefusesWith};
 
 use request_frame::{FrameFault, read_frames};
-use scene_gen::make;
 use scene_text::{TextFault, read_scene};
 use std::alloc::Global;
 use str_outer::Source;
 use str_scene::{Scene, Why};
-use strun_words::Task;
 use top_status::{Failure, read_input, refuse, refuse_at};
 
 /// The form of a scene that is read.
@@ -24,56 +21,21 @@ pub enum Form {
     Frames,
 }
 
-/// Where a task has its scene from.
-#[derive(Clone, Copy, Debug, PartialEq, Eq)]
-pub enum Origin {
-    /// It is read in this form.
-    Input(Form),
-    /// It is made of this seed, and nothing is read.
-    Seed(u64),
-}
-
-/// Where a task has its scene from.
-pub(crate) fn origin_of(task: Task) -> Origin
-    ensures { result ≡ origin_of task }
+/// The form in which `run` reads a scene, with or without `--frames`.
+pub(crate) fn form_of(frames: bool) -> Form
+    ensures { result ≡ form_of frames }
 {
-    match task {
-        Task::Run { frames: false, .. } | Task::Pack => Origin::Input(Form::Text),
-        Task::Run { frames: true, .. } | Task::Show => Origin::Input(Form::Frames),
-        Task::Generate { seed, .. } => Origin::Seed(seed),
-    }
-}
-
-/// The scene of a task. Where nothing is to be read the source stays as it was.
-pub(crate) fn take_scene<S: Source>(
-    alloc: Global,
-    origin: Origin,
-    src: &mut S,
-) -> Result<Scene, Failure>
-    ensures taken { IfOk result (λ scene. HasScene origin (S.left src.old) (S.left src.new) scene) }
-    ensures limits { IfOk result (λ scene. IsScene scene) }
-    ensures failed { IfErr result (SceneFails origin (S.left src.old) (S.left src.new) (S.faults src.old) (S.faults src.new)) }
-    ensures unread { ReadsNothing origin → src.new ≡ src.old }
-{
-    match origin {
-        Origin::Input(form) => read_form(alloc, form, src),
-        Origin::Seed(seed) => made_scene(alloc, seed),
-    }
-}
-
-/// The scene that is made of a seed.
-fn made_scene(alloc: Global, seed: u64) -> Result<Scene, Failure>
-    ensures made { IfOk result (λ scene. scene ≡ made seed) }
-    ensures limits { IfOk result (λ scene. IsScene scene) }
-    ensures failed { IfErr result IsWant }
-{
-    Ok(make(alloc, seed)?)
+    if frames { Form::Frames } else { Form::Text }
 }
 
 /// Reads a scene in this form.
-fn read_form<S: Source>(alloc: Global, form: Form, src: &mut S) -> Result<Scene, Failure>
+pub(crate) fn read_form<S: Source>(
+    alloc: Global,
+    form: Form,
+    src: &mut S,
+) -> Result<Scene, Failure>
     ensures taken { IfOk result (λ scene. HasRead form (S.left src.old) (S.left src.new) scene) }
-    ensures failed { IfErr result (SceneFails (Origin.Input form) (S.left src.old) (S.left src.new) (S.faults src.old) (S.faults src.new)) }
+    ensures failed { IfErr result (SceneFails (reads form) (S.left src.old) (S.left src.new) (S.faults src.old) (S.faults src.new)) }
 {
     let bytes = read_input(alloc, src)?;
     accept(alloc, form, bytes.as_slice())

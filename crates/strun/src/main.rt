@@ -1,9 +1,12 @@
-//! The program `strun`: it runs a scene and writes the released answers, or writes a scene's text as frames or the other way, or makes
-//! a scene.
+//! The program `strun`: it runs a scene and writes the released answers, and the balances where it is a bank's; or writes a scene's text
+//! as frames or the other way, or makes a scene.
 #![tactic(auto)]
 
+mod banks;
+mod books;
 mod inputs;
 mod journal;
+mod tasks;
 #[cfg(test)]
 mod tests;
 mod tops;

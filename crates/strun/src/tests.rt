@@ -41,6 +41,19 @@ const EARLY_JOURNAL: &[u8] =
     b"j c 1 10\nj c 1 0\nj c 1 0\nj c 2 0\nj c 2 0\nj c 2 0\nj c 2 0\nj d 2\nj d 3\nj d 1\nj d 4\n\
     1.1 s1/1 commit rs=10 fc=11\n1.2 s2/1 commit rs=11 fc=12 a@1=1\nj d 5\nj d 6\nend commits=2 aborts=0 held=0 unbegun=0 messages=6\n";
 
+/// An opening, a transfer of 30 and a statement.
+const BANK: &[u8] =
+    b"str 1\nnodes 1\npart 1 1\nsession 1\ntx\nput a@1 100\nput b@1 0\nsession 1\ntx\nneed a@1 30\nadd a@1 -30\nadd b@1 30\n\
+    tx\nget a@1\nget b@1\nschedule\nc 1 10\ndrain\nend\n";
+
+const BANK_LINES: &[u8] =
+    b"1.1 s1/1 commit rs=10 fc=11\n1.2 s2/1 commit rs=11 fc=12\n1.3 s2/2 commit rs=12 fc=- a@1=70 b@1=30\n\
+    end commits=3 aborts=0 held=0 unbegun=0 messages=0\nbalance a@1=70\nbalance b@1=30\nbank total=100\n";
+
+/// The same accounts and a put, which is neither a transfer nor a statement.
+const NO_BANK: &[u8] =
+    b"str 1\nnodes 1\npart 1 1\nsession 1\ntx\nput a@1 100\nput b@1 0\nsession 1\ntx\nget a@1\nget b@1\ntx\nput a@1 1\nschedule\nend\n";
+
 /// The last line of the run of the scene that is made of 7.
 const SEVEN_END: &[u8] = b"end commits=287 aborts=13 held=0 unbegun=0 messages=1451\n";
 
@@ -387,6 +400,50 @@ fn made_scenes(rt: HostRuntime) -> Result<(), Fail> {
         &Call {
             words: &["gen", "-1"],
             ..unknown
+        },
+    )
+}
+
+#[test]
+fn banks(rt: HostRuntime) -> Result<(), Fail> {
+    let bank = Call {
+        words: &["bank"],
+        text: BANK,
+        failing_read: 0,
+        failing_write: 0,
+        status: Status::Ok,
+        out: BANK_LINES,
+        err: b"",
+    };
+    check(&rt, &bank)?;
+    check(
+        &rt,
+        &Call {
+            failing_write: 12,
+            status: Status::WriteFault,
+            out: &BANK_LINES[..164],
+            err: b"strun: write fault\n",
+            ..bank
+        },
+    )?;
+    check(
+        &rt,
+        &Call {
+            text: NO_BANK,
+            status: Status::Refused,
+            out: b"",
+            err: b"strun: transaction 2/2: not a bank\n",
+            ..bank
+        },
+    )?;
+    check(
+        &rt,
+        &Call {
+            text: &NO_BANK[..20],
+            status: Status::Refused,
+            out: b"",
+            err: b"strun: line 3: cut\n",
+            ..bank
         },
     )
 }

@@ -1,37 +1,30 @@
 //! The top call of the program.
-ghost use Rattle.std.specs.Prelude.{◌≡◌, ◌⊎◌, map, OnErr, OnOk, IfErr};
+ghost use Rattle.std.specs.Prelude.{◌≡◌, ◌⊎◌, map, OnOk, IfErr};
 ghost use Rattle.std.specs.String.{string_bytes};
-ghost use Rattle.std.specs.Io.KnownBytes.{Appends};
 ghost use Rattle.str_outer.specs.Causes.{Rose};
-ghost use Rattle.str_outer.specs.Pieces.{AppendsPrefix};
-ghost use Rattle.strun.specs.Failing.{CallFails, TaskFails};
+ghost use Rattle.strun.specs.Failing.{CallFails};
 ghost use Rattle.strun.specs.Inputs.{ReadFailed, ReadsNothing, origin_of};
-ghost use Rattle.strun.specs.Outputs.{output};
 ghost use Rattle.strun.specs.Tops.{Asked, Completes, Done, IsPartial, IsTold, Refuses, own_name};
-ghost use Rattle.strun_words.specs.Tasks.{AskFor, AskNothing};
-ghost use Rattle.top_status.specs.Failures.{HasWriteCause, refusal_of, status_of};
+ghost use Rattle.strun_words.specs.Tasks.{AskNothing};
+ghost use Rattle.top_status.specs.Failures.{refusal_of, status_of};
 ghost use Rattle.top_status.specs.Statuses.{IsQuiet, IsStopped, line_of};
 ghost use Rattle.top_status.specs.Telling.{Tells};
 
-use crate::inputs::{origin_of, take_scene};
-use crate::journal::write_journal;
-use crate::writing::{write_end, write_run};
-use request_frame::write_frames;
-use scene_text::write_scene;
+use crate::tasks::do_task;
 use std::alloc::Global;
 use str_outer::{Sink, Source};
-use str_scene::Scene;
-use strun_words::{Task, read_task};
-use top_status::{Failure, Status, answer, write_piece};
+use strun_words::read_task;
+use top_status::{Failure, Status, answer};
 
 /// Does what the words ask for. `run` reads the text of a scene, and `run --frames` its frames, runs it, and writes the answers and
 /// the last line; with `--journal` each event has a line before its answers. `pack` writes the frames of a text's scene, and `show`
 /// the text of the frames' scene. `gen N` reads nothing and writes the text of the scene that is made of N; with `--run` it runs that
-/// scene and writes the last line alone.
+/// scene and writes the last line alone. `bank` reads the text of a bank's scene, runs it, and writes the answers, the last line, the
+/// balance of each account and their sum.
 ///
 /// Where it reads `src`, it does so to its end or to 1,048,577 bytes. Where the status isn't `Ok`, one line is written on `err`; a
-/// refusal of `err` changes no status. Refused are more than 1,048,576 bytes, a text with a bad line and frames with a bad frame; the
-/// line says which. After a write fault or want of memory `out` has taken a prefix of what would have been written.
+/// refusal of `err` changes no status. Refused are more than 1,048,576 bytes, a text with a bad line, frames with a bad frame, and for
+/// `bank` a scene that is no bank's; the line says which. After a write fault or want of memory `out` has taken a prefix of what would have been written.
 ///
 /// What is written, and what is promised of it, is the clause `done`: `Done` of `specs/Tops.antt`.
 pub fn top<S: Source, K: Sink, E: Sink>(
@@ -52,12 +45,10 @@ pub fn top<S: Source, K: Sink, E: Sink>(
     ensures quiet { IsQuiet result → K.held out.new ≡ K.held out.old }
     ensures partial { IsStopped result
         → IsPartial (map string_bytes words.now) (S.left src.old) (S.left src.new) (K.held out.old) (K.held out.new) }
-    ensures complete { (task : _) → AskFor (map string_bytes words.now) task
-        → Completes (origin_of task) (S.left src.old) (S.faults src.old) (S.faults src.new) (K.faults out.old) (K.faults out.new) result }
-    ensures refuses { (task : _) → AskFor (map string_bytes words.now) task
-        → Refuses (origin_of task) (S.left src.old) (S.faults src.old) (S.faults src.new) result }
-    ensures told { IsTold (map string_bytes words.now) (S.left src.old) (S.left src.new) result (E.held err.old) (E.held err.new)
-        (E.faults err.old) (E.faults err.new) (E.wants err.old) (E.wants err.new) }
+    ensures complete { Completes (map string_bytes words.now) (S.left src.old) (S.faults src.old) (S.faults src.new)
+        (K.faults out.old) (K.faults out.new) result }
+    ensures refuses { Refuses (map string_bytes words.now) (S.left src.old) (S.faults src.old) (S.faults src.new) result }
+    ensures told { IsTold (map string_bytes words.now) (S.left src.old) (S.left src.new) result E.held E.faults E.wants err.old err.new }
 {
     let done = do_words(alloc, words, src, out);
     report(err, done)
@@ -78,43 +69,6 @@ fn do_words<S: Source, K: Sink>(
 {
     let task = read_task(alloc, words)?;
     do_task(alloc, task, src, out)
-}
-
-/// Takes the scene of a task, and writes what the task writes of it.
-fn do_task<S: Source, K: Sink>(
-    alloc: Global,
-    task: Task,
-    src: &mut S,
-    out: &mut K,
-) -> Result<(), Failure>
-    ensures done { OnOk result (Done task (S.left src.old) (S.left src.new) (K.held out.old) (K.held out.new)) }
-    ensures unread { ReadsNothing (origin_of task) → src.new ≡ src.old }
-    ensures failed { IfErr result (TaskFails task (S.left src.old) (S.left src.new) (S.faults src.old) (S.faults src.new)
-        (K.held out.old) (K.held out.new) (K.faults out.old) (K.faults out.new)) }
-{
-    let scene = take_scene(alloc, origin_of(task), src)?;
-    write_task(alloc, task, scene, out)
-}
-
-/// Writes what a task writes of its scene.
-fn write_task<K: Sink>(alloc: Global, task: Task, scene: Scene, out: &mut K) -> Result<(), Failure>
-    ensures written { OnOk result (Appends (K.held out.old) (K.held out.new) (output task scene)) }
-    ensures partial { OnErr result (AppendsPrefix (K.held out.old) (K.held out.new) (output task scene)) }
-    ensures failed { IfErr result (HasWriteCause (K.faults out.old) (K.faults out.new)) }
-{
-    match task {
-        Task::Run { journal: false, .. } => write_run(alloc, scene, out),
-        Task::Run { journal: true, .. } => write_journal(alloc, scene, out),
-        Task::Generate { run: true, .. } => write_end(alloc, scene, out),
-        Task::Pack => {
-            let frames = write_frames(alloc, &scene)?;
-            write_piece(out, frames.as_slice())
-        }
-        Task::Show | Task::Generate { run: false, .. } => {
-            let text = write_scene(alloc, &scene)?;
-            write_piece(out, text.as_slice())
-        }
-    }
 }
 
 /// Ends the call: says the line of a failure, and gives the status. A refusal of `err` is dropped.

@@ -5,7 +5,7 @@ use Rattle.std.specs.Prelude.{[], decimal, slice_index, ◌∷◌}
 use Rattle.std.specs.Str.Parse.{digits_value}
 use Rattle.strun_words.specs.Tasks.{AskFor, IsTask, words_of}
 use Rattle.strun_words.specs.declared.task.Task.{Task}
-use Rattle.strun_words.specs.declared.task.Task.TheVariants.{Generate, Pack, Run, Show}
+use Rattle.strun_words.specs.declared.task.Task.TheVariants.{Bank, Generate, Pack, Run, Show}
 
 -- a number is not less than itself
 pub not_less : {X : Type 0} (m n : ℕ) → m ≡ n → m < n → X
@@ -27,7 +27,8 @@ generate_told (w ∷ v ∷ ws) = Generate (digits_value 10 w) true
 abbrev task_told : List (List ℕ) → Task
 task_told [] = Show
 task_told (w ∷ ws) =
-    if slice_index w 0 == 114 then run_told ws else (if slice_index w 0 == 112 then Pack else (if slice_index w 0 == 115 then Show else generate_told ws))
+    if slice_index w 0 == 114 then run_told ws
+    else (if slice_index w 0 == 112 then Pack else (if slice_index w 0 == 115 then Show else (if slice_index w 0 == 98 then Bank else generate_told ws)))
 
 -- a number is told from its decimal
 number_told : (n : ℕ) → n < 2 ^ 64 → digits_value 10 (decimal n) ≡ n
@@ -43,6 +44,7 @@ told Pack i = refl
 told Show i = refl
 told (Generate seed false) i = ap (λ (n : ℕ). Generate n false) (number_told seed i)
 told (Generate seed true) i = ap (λ (n : ℕ). Generate n true) (number_told seed i)
+told Bank i = refl
 
 -- words ask for one task at most
 pub one_task : (words : List (List ℕ)) (t u : Task) → AskFor words t → AskFor words u → t ≡ u

@@ -8,7 +8,7 @@ use Rattle.str_base.proofs.DecimalLemmas.{spelling_first}
 use Rattle.strun_words.specs.Parsing.{Finds, HasFlag, program}
 use Rattle.strun_words.specs.Tasks.{IsTask, words_of}
 use Rattle.strun_words.specs.declared.task.Task.{Task}
-use Rattle.strun_words.specs.declared.task.Task.TheVariants.{Generate, Pack, Run, Show}
+use Rattle.strun_words.specs.declared.task.Task.TheVariants.{Bank, Generate, Pack, Run, Show}
 
 -- this word and this flag are found behind `gen`
 abbrev FindsWord : Option (Text × List Row) → List ℕ → Bool → Type 0
@@ -51,6 +51,7 @@ words_taken Pack i = refl
 words_taken Show i = refl
 words_taken (Generate seed false) i = begins (λ ds. takes program (codes "gen" ∷ ds ∷ []) ≡ true) seed i gen_taken
 words_taken (Generate seed true) i = begins (λ ds. takes program (codes "gen" ∷ ds ∷ codes "--run" ∷ []) ≡ true) seed i gen_run_taken
+words_taken Bank i = refl
 
 -- where the word is a number's decimal, the task is found
 finds_generate : (found : Option (Text × List Row)) (seed : ℕ) (run : Bool) → seed < 2 ^ 64 → FindsWord found (decimal seed) run → Finds found (Generate seed run)
@@ -70,3 +71,4 @@ words_found (Generate seed false) i =
     finds_generate (subcommand_of program (codes "gen" ∷ decimal seed ∷ [])) seed false i (begins (λ ds. FindsWord (subcommand_of program (codes "gen" ∷ ds ∷ [])) ds false) seed i gen_found)
 words_found (Generate seed true) i =
     finds_generate (subcommand_of program (codes "gen" ∷ decimal seed ∷ codes "--run" ∷ [])) seed true i (begins (λ ds. FindsWord (subcommand_of program (codes "gen" ∷ ds ∷ codes "--run" ∷ [])) ds true) seed i gen_run_found)
+words_found Bank i = (refl, tt)

@@ -12,7 +12,7 @@ use Rattle.std.specs.Prelude.{Box, codes, decimal, false, option_map, slice_inde
 use Rattle.strun_words.proofs.Apart.{not_less}
 use Rattle.strun_words.specs.Parsing.{Finds, HasArguments, HasFlag, flag_text, name_of}
 use Rattle.strun_words.specs.declared.task.Task.{Task}
-use Rattle.strun_words.specs.declared.task.Task.TheVariants.{Generate, Pack, Run, Show}
+use Rattle.strun_words.specs.declared.task.Task.TheVariants.{Bank, Generate, Pack, Run, Show}
 
 -- the name of a subcommand that was found
 abbrev name_found : Option (Text × List Row) → Option Text
@@ -52,6 +52,7 @@ pack_named Pack e = refl
 pack_named (Run frames journal) e = not_less 112 114 (sym (first_byte _ _ e)) (omega arith)
 pack_named Show e = not_less 112 115 (sym (first_byte _ _ e)) (omega arith)
 pack_named (Generate seed run) e = not_less 103 112 (first_byte _ _ e) (omega arith)
+pack_named Bank e = not_less 98 112 (first_byte _ _ e) (omega arith)
 
 -- the task with the name `show`
 pub show_named : (task : Task) → name_of task ≡ codes "show" → Show ≡ task
@@ -59,6 +60,15 @@ show_named Show e = refl
 show_named (Run frames journal) e = not_less 114 115 (first_byte _ _ e) (omega arith)
 show_named Pack e = not_less 112 115 (first_byte _ _ e) (omega arith)
 show_named (Generate seed run) e = not_less 103 115 (first_byte _ _ e) (omega arith)
+show_named Bank e = not_less 98 115 (first_byte _ _ e) (omega arith)
+
+-- the task with the name `bank`
+pub bank_named : (task : Task) → name_of task ≡ codes "bank" → Bank ≡ task
+bank_named Bank e = refl
+bank_named (Run frames journal) e = not_less 98 114 (sym (first_byte _ _ e)) (omega arith)
+bank_named Pack e = not_less 98 112 (sym (first_byte _ _ e)) (omega arith)
+bank_named Show e = not_less 98 115 (sym (first_byte _ _ e)) (omega arith)
+bank_named (Generate seed run) e = not_less 98 103 (sym (first_byte _ _ e)) (omega arith)
 
 -- a task with the name `run` has the flags that are read
 pub run_named : (f : Found) (frames journal : Bool) (task : Task) → name_of task ≡ codes "run" → HasArguments task (rows_of f) → ((flag : Bool) → HasFlag (codes "frames") flag (rows_of f) → frames ≡ flag)
@@ -67,6 +77,7 @@ run_named f frames journal (Run a b) e h x y = ap₂ Run (x a h.0) (y b h.1)
 run_named f frames journal Pack e h x y = not_less 112 114 (first_byte _ _ e) (omega arith)
 run_named f frames journal Show e h x y = not_less 114 115 (sym (first_byte _ _ e)) (omega arith)
 run_named f frames journal (Generate seed run) e h x y = not_less 103 114 (first_byte _ _ e) (omega arith)
+run_named f frames journal Bank e h x y = not_less 98 114 (first_byte _ _ e) (omega arith)
 
 -- a task with the name `gen` has a seed and a flag
 generate_named : {X : Type 0} (rows : List Row) (task : Task) → name_of task ≡ codes "gen" → HasArguments task rows
@@ -75,6 +86,7 @@ generate_named rows (Generate seed run) e h then = then seed run refl h
 generate_named rows (Run frames journal) e h then = not_less 103 114 (sym (first_byte _ _ e)) (omega arith)
 generate_named rows Pack e h then = not_less 103 112 (sym (first_byte _ _ e)) (omega arith)
 generate_named rows Show e h then = not_less 103 115 (sym (first_byte _ _ e)) (omega arith)
+generate_named rows Bank e h then = not_less 98 103 (first_byte _ _ e) (omega arith)
 
 -- it has a word
 pub word_given : (f : Found) (task : Task) → first_value f (codes "seed") ≡ None → name_of task ≡ codes "gen" → HasArguments task (rows_of f) → None ≡ Some task

@@ -5,7 +5,7 @@ use Rattle.clap.specs.declared.error.kind.ErrorKind.{ErrorKind}
 use Rattle.clap.specs.declared.error.kind.ErrorKind.TheVariants.{OutOfMemory}
 use Rattle.std.specs.Prelude.{Bool, List, None, Option, Some, codes, decimal, false, true, ⊤, ◌<◌, ◌^◌, ◌≡◌}
 use Rattle.strun_words.specs.declared.task.Task.{Task}
-use Rattle.strun_words.specs.declared.task.Task.TheVariants.{Generate, Pack, Run, Show}
+use Rattle.strun_words.specs.declared.task.Task.TheVariants.{Bank, Generate, Pack, Run, Show}
 use Rattle.top_status.specs.declared.failure.Failure.{Failure}
 use Rattle.top_status.specs.declared.failure.Failure.TheVariants.{Memory, Usage}
 
@@ -30,6 +30,9 @@ show_command = new_app (codes "show")
 abbrev pub generate_command : App
 generate_command = with_rule (with_rule (new_app (codes "gen")) seed_rule) (flag (codes "run"))
 
+abbrev pub bank_command : App
+bank_command = new_app (codes "bank")
+
 -- the command, whose words have no program's name in front
 abbrev pub plain_command : App
 plain_command = let a = new_app (codes "strun") in record a { top = record a.top { no_binary_name = true } }
@@ -38,8 +41,10 @@ plain_command = let a = new_app (codes "strun") in record a { top = record a.top
 abbrev pub program : App
 program =
     with_subcommand
+    (with_subcommand
     (with_subcommand (with_subcommand (with_subcommand plain_command run_command.top) pack_command.top) show_command.top)
-    generate_command.top
+    generate_command.top)
+    bank_command.top
 
 -- the value of a flag as text
 abbrev pub flag_text : Bool → Text
@@ -56,6 +61,7 @@ name_of (Run frames journal) = codes "run"
 name_of Pack = codes "pack"
 name_of Show = codes "show"
 name_of (Generate seed run) = codes "gen"
+name_of Bank = codes "bank"
 
 -- the arguments are those of the task
 abbrev pub HasArguments : Task → List Row → Type 0
@@ -63,6 +69,7 @@ HasArguments (Run frames journal) rows = HasFlag (codes "frames") frames rows ×
 HasArguments Pack rows = ⊤
 HasArguments Show rows = ⊤
 HasArguments (Generate seed run) rows = (seed < 2 ^ 64) × (first_of (codes "seed") rows ≡ Some (decimal seed)) × HasFlag (codes "run") run rows
+HasArguments Bank rows = ⊤
 
 -- the subcommand and the arguments that were found are those of the task
 abbrev pub Finds : Option (Text × List Row) → Task → Type 0

@@ -1,7 +1,7 @@
 -- The lists of words that are taken, and what each asks for.
 use Rattle.std.specs.Prelude.{List, [], codes, decimal, false, true, ℕ, ⊤, ◌<◌, ◌^◌, ◌∷◌, ◌≡◌}
 use Rattle.strun_words.specs.declared.task.Task.{Task}
-use Rattle.strun_words.specs.declared.task.Task.TheVariants.{Generate, Pack, Run, Show}
+use Rattle.strun_words.specs.declared.task.Task.TheVariants.{Bank, Generate, Pack, Run, Show}
 use Rattle.top_status.specs.declared.failure.Failure.{Failure}
 use Rattle.top_status.specs.declared.failure.Failure.TheVariants.{Memory, Usage}
 
@@ -15,6 +15,7 @@ words_of Pack = codes "pack" ∷ []
 words_of Show = codes "show" ∷ []
 words_of (Generate seed false) = codes "gen" ∷ decimal seed ∷ []
 words_of (Generate seed true) = codes "gen" ∷ decimal seed ∷ codes "--run" ∷ []
+words_of Bank = codes "bank" ∷ []
 
 -- a seed has 64 bits
 abbrev pub IsTask : Task → Type 0

@@ -16,7 +16,8 @@ use std::alloc::{AllocError, Global};
 use str_base::read_u64;
 use top_status::Failure;
 
-/// What the words ask for: `run` with its flags, `pack`, `show`, or `gen` with a number and its flag, in this order, and nothing else.
+/// What the words ask for: `run` with its flags, `pack`, `show`, `gen` with a number and its flag, or `bank`, in this order, and nothing
+/// else.
 ///
 /// # Errors
 ///
@@ -105,7 +106,8 @@ fn program<'a>(alloc: Global) -> Result<Command<'a>, AllocError>
         .subcommand(run_command(alloc)?)?
         .subcommand(Command::new(alloc, "pack"))?
         .subcommand(Command::new(alloc, "show"))?
-        .subcommand(generate_command(alloc)?)
+        .subcommand(generate_command(alloc)?)?
+        .subcommand(Command::new(alloc, "bank"))
 }
 
 /// What `clap` makes of the words. It fails on the words of no task, but for want of memory.
@@ -133,6 +135,9 @@ fn task_of(matches: &ArgMatches<'_>) -> Option<Task>
     }
     if name == "gen" {
         return generate_of(given);
+    }
+    if name == "bank" {
+        return Some(Task::Bank);
     }
     None
 }

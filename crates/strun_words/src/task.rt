@@ -17,6 +17,8 @@ pub enum Task {
     Show,
     /// Write the text of the scene that is made from a seed, or, with `--run`, run it and write the last line alone.
     Generate { seed: u64, run: bool },
+    /// Run the scene of a bank, which comes as its text, and write the answers, the last line, the balance of each account and their sum.
+    Bank,
 }
 
 impl Task {
@@ -29,6 +31,7 @@ impl Task {
             Task::Pack => are_same(words, &["pack"]),
             Task::Show => are_same(words, &["show"]),
             Task::Generate { seed, run } => is_generate(seed, run, words),
+            Task::Bank => are_same(words, &["bank"]),
         }
     }
 }

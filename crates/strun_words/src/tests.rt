@@ -41,6 +41,7 @@ fn lists_that_are_taken(rt: HostRuntime) -> Result<(), Fail> {
     check(&rt, &["run", "--frames", "--journal"], run_with(true, true))?;
     check(&rt, &["pack"], Ok(Task::Pack))?;
     check(&rt, &["show"], Ok(Task::Show))?;
+    check(&rt, &["bank"], Ok(Task::Bank))?;
     check(&rt, &["gen", "0"], made_of(0, false))?;
     check(&rt, &["gen", "7", "--run"], made_of(7, true))?;
     check(
@@ -52,7 +53,7 @@ fn lists_that_are_taken(rt: HostRuntime) -> Result<(), Fail> {
 
 #[test]
 fn other_lists(rt: HostRuntime) -> Result<(), Fail> {
-    let lists: [&[&str]; 36] = [
+    let lists: [&[&str]; 37] = [
         &[],
         &[""],
         &["--"],
@@ -78,6 +79,7 @@ fn other_lists(rt: HostRuntime) -> Result<(), Fail> {
         &["pack", "--frames"],
         &["show", "--journal"],
         &["show", "x"],
+        &["bank", "--journal"],
         &["--", "show"],
         &["gen"],
         &["gen", ""],
