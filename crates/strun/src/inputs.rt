@@ -29,11 +29,7 @@ pub(crate) fn form_of(frames: bool) -> Form
 }
 
 /// Reads a scene in this form.
-pub(crate) fn read_form<S: Source>(
-    alloc: Global,
-    form: Form,
-    src: &mut S,
-) -> Result<Scene, Failure>
+pub(crate) fn read_form<S: Source>(alloc: Global, form: Form, src: &mut S) -> Result<Scene, Failure>
     ensures taken { IfOk result (λ scene. HasRead form (S.left src.old) (S.left src.new) scene) }
     ensures failed { IfErr result (SceneFails (reads form) (S.left src.old) (S.left src.new) (S.faults src.old) (S.faults src.new)) }
 {

@@ -33,8 +33,14 @@ pub(crate) fn do_task<S: Source, K: Sink>(
         (K.held out.old) (K.held out.new) (K.faults out.old) (K.faults out.new)) }
 {
     match task {
-        Task::Run { frames, journal: false } => do_run(alloc, frames, src, out),
-        Task::Run { frames, journal: true } => do_journal(alloc, frames, src, out),
+        Task::Run {
+            frames,
+            journal: false,
+        } => do_run(alloc, frames, src, out),
+        Task::Run {
+            frames,
+            journal: true,
+        } => do_journal(alloc, frames, src, out),
         Task::Pack => do_pack(alloc, src, out),
         Task::Show => do_show(alloc, src, out),
         Task::Generate { seed, run: false } => write_made(alloc, seed, out),
