@@ -1,5 +1,5 @@
 -- What a call does for its words.
-use Rattle.std.proofs.Common.{Err, IfErr, List, Ok, OnOk, Option, Result, Some, inl, inr, refl, subst, sym, ℕ, ◌∙◌, ◌≡◌, ◌⊎◌}
+use Rattle.std.proofs.Common.{Err, IfErr, List, Ok, OnOk, Option, Result, Some, inl, inr, refl, subst, sym, ℕ, ◌≡◌, ◌⊎◌}
 use Rattle.scene_text.proofs.FirstBad.FirstBadLaws.{one_scene_of}
 use Rattle.str_outer.specs.Causes.{Rose}
 use Rattle.str_scene.specs.Scenes.{Scene}
@@ -7,9 +7,10 @@ use Rattle.str_scene.specs.Spelling.{IsText}
 use Rattle.strun.proofs.Refusing.{not_refused}
 use Rattle.strun.specs.Failing.{CallFails, TaskFails}
 use Rattle.strun.specs.Banks.{IsBankScene, accounts_of, amounts_of}
-use Rattle.strun.specs.Inputs.{HasScene, IsRefused, IsSpelled, Offers, OffersNone, Origin, ReadFailed, ReadsNothing, origin_of}
+use Rattle.strun.specs.Inputs.{HasRefused, HasScene, IsRefused, IsSpelled, Offers, OffersNone, Origin, ReadFailed, ReadsNothing, origin_of}
 use Rattle.strun.specs.Inputs.Origin.{makes, reads, reads_bank}
 use Rattle.strun.specs.Tops.{Asked, Completes, CompletesFrom, Done, IsPartial, PartlyDone, Refuses, RefusesFrom}
+use Rattle.strun.specs.declared.inputs.Form.{Form}
 use Rattle.strun.specs.declared.inputs.Form.TheVariants.{Text}
 use Rattle.strun_words.proofs.Apart.{one_task}
 use Rattle.strun_words.specs.Tasks.{AskFor, AskNothing, IsUnasked}
@@ -134,12 +135,16 @@ refused_of words left left' read read' held held' write write' (Err Read) f e = 
 refused_of words left left' read read' held held' write write' (Err Write) f e = absurd (cc e)
 refused_of words left left' read read' held held' write write' (Err Memory) f e = absurd (cc e)
 
+-- bytes that are told and spell a scene are not refused
+spelled_not_refused : (form : Form) (left left' : Option (List ℕ)) (said bytes : List ℕ) (scene : Scene) → left ≡ Some bytes → IsSpelled form bytes scene → HasRefused form left left' said → ⊥
+spelled_not_refused form left left' said bytes scene e s g =
+    let same : bytes ≡ g.bytes = all_told left left' bytes g.bytes e g.consumed g.whole s.short in
+    not_refused form g.bytes said scene (subst (λ (xs : List ℕ). IsSpelled form xs scene) same s) g.refusal
+
 -- an input that spells a scene is not refused
 told_not_refused : (origin : Origin) (left left' : Option (List ℕ)) (said : List ℕ) → Offers origin left → IsRefused origin left left' said → ⊥
-told_not_refused (reads form) left left' said o g =
-    let same : o.0 ≡ g.bytes = all_told left left' o.0 g.bytes o.2 g.consumed g.whole o.3.short in
-    not_refused form g.bytes said o.1 (subst (λ (xs : List ℕ). IsSpelled form xs o.1) same o.3) g.refusal
-told_not_refused reads_bank left left' said o (inl g) = told_not_refused (reads Text) left left' said (o.0, o.1, o.2, o.3) g
+told_not_refused (reads form) left left' said o g = spelled_not_refused form left left' said o.0 o.1 o.2 o.3 g
+told_not_refused reads_bank left left' said o (inl g) = spelled_not_refused Text left left' said o.0 o.1 o.2 o.3 g
 told_not_refused reads_bank left left' said o (inr g) =
     let bytes : o.0 ≡ g.has.bytes = all_told left left' o.0 g.has.bytes o.2 g.has.consumed (inr g.has.ended) o.3.short in
     let scene : o.1 ≡ g.scene =

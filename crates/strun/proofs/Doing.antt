@@ -5,7 +5,6 @@ use Rattle.scene_gen.proofs.MadeLimits.{made_holds}
 use Rattle.scene_gen.specs.Made.{made}
 use Rattle.std.specs.Io.KnownBytes.{Appends, Consumes, IsAtEnd}
 use Rattle.str_base.specs.declared.names.KeyId.{KeyId}
-use Rattle.str_outer.specs.Causes.{Rose}
 use Rattle.str_outer.specs.Pieces.{AppendsPrefix}
 use Rattle.str_scene.specs.SceneLimits.{IsScene}
 use Rattle.str_scene.specs.Scenes.{Scene}

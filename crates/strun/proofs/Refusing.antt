@@ -1,11 +1,9 @@
 -- Why an input is refused.
 use Rattle.request_frame.proofs.FrameLaws.{first_bad_no_scene, first_bad_unique as one_bad_frame}
-use Rattle.request_frame.specs.FirstBad.{FirstBad as FirstBadFrame}
 use Rattle.request_frame.specs.Reading.{IsFaultOf as IsFrameFault}
 use Rattle.request_frame.specs.declared.read.FrameFault.{FrameFault}
 use Rattle.request_frame.specs.declared.read.FrameFault.TheVariants.{Bad as BadFrame}
 use Rattle.scene_text.proofs.FirstBad.FirstBadLaws.{first_bad_no_text, first_bad_unique as one_bad_line}
-use Rattle.scene_text.specs.FirstBad.{FirstBad as FirstBadLine}
 use Rattle.scene_text.specs.Reading.{IsFaultOf as IsTextFault}
 use Rattle.scene_text.specs.declared.read.TextFault.{TextFault}
 use Rattle.scene_text.specs.declared.read.TextFault.TheVariants.{Bad as BadLine}
