@@ -1,0 +1,4 @@
+pub mod Searching
+pub mod Dropping
+pub mod ByKeys
+pub mod SameSeen

@@ -1,0 +1,14 @@
+pub mod Lengths
+pub mod RisingNumbers
+pub mod CommitOrders
+pub mod Lookups
+pub mod Entries
+pub mod EvaluationSteps
+pub mod WrittenKeys
+pub mod NextAnswers
+pub mod SeenOnLedgers
+pub mod LoopSteps
+pub mod Findings
+pub mod ValuesSame
+pub mod Walks
+pub mod SameGots
