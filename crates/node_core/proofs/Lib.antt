@@ -3,3 +3,4 @@ pub mod Rules
 pub mod PassTurns
 pub mod Waiting
 pub mod Whole
+pub mod OldVersions

@@ -6,6 +6,7 @@ mod arrivals;
 mod clients;
 pub mod nodes;
 mod pass;
+mod pruning;
 mod queries;
 mod returns;
 mod scripts;

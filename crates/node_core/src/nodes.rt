@@ -23,7 +23,7 @@ use str_scene::Scene;
 /// messages came to the node.
 #[derive(Drop)]
 pub struct Node {
-    work: Work,
+    pub(crate) work: Work,
 }
 
 impl Model for Node {

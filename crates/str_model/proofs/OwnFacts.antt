@@ -6,6 +6,7 @@ pub mod EarlierDependencies
 pub mod TurnsBelow
 pub mod DependenciesStand
 pub mod AtHome
+pub mod HomeFinals
 pub mod ScriptsCovered
 pub mod UnmetNeeds
 pub mod PlacesInOrder

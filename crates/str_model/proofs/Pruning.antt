@@ -12,5 +12,6 @@ pub mod TwinTurns
 pub mod TwinRules
 pub mod TwinStep
 pub mod PruneGood
+pub mod PruneFacts
 pub mod TwinGood
 pub mod PruneBounds

@@ -165,12 +165,19 @@ pub record OwnGood (here : Here) (vs : List Version) (i : ℕ) (x : Own) : Type 
   pub none : lc_of x.phase ≡ None → x.parts ≡ []
   pub locals : is_decided x.phase ≡ false → (lc : ℕ) → lc_of x.phase ≡ Some lc → (w : Write) → In w x.writes → In (local_version here i lc w) vs
   pub has_lc : (l : Option ℕ) (fc : ℕ) → x.phase ≡ Committed l (Some fc) → (lc : ℕ) × (l ≡ Some lc)
-  pub finals : (l : Option ℕ) (fc : ℕ) → x.phase ≡ Committed l (Some fc) → (w : Write) → In w x.writes → hosts_key here w.key ≡ true → In (final_version here i fc w) vs
   pub answered : (l : Option ℕ) (fc : ℕ) → x.phase ≡ Committed l (Some fc) → (a : Asked) → In a x.parts → Answered fc a
 
 -- each own transaction
 abbrev pub AtHome : Here → View → Type 0
 AtHome here v = (i : ℕ) (x : Own) → Owns v i x → OwnGood here v.versions i x
+
+-- the Final versions of what an own transaction wrote stand in the partitions that the node has
+abbrev pub HasFinals : Here → List Version → ℕ → Own → Type 0
+HasFinals here vs i x = (l : Option ℕ) (fc : ℕ) → x.phase ≡ Committed l (Some fc) → (w : Write) → In w x.writes → hosts_key here w.key ≡ true → In (final_version here i fc w) vs
+
+-- those of each own transaction. This holds as long as no old version is taken out, so it is none of the facts of a node
+abbrev pub AllHaveFinals : Here → View → Type 0
+AllHaveFinals here v = (i : ℕ) (x : Own) → Owns v i x → HasFinals here v.versions i x
 
 -- the times of an own transaction
 pub record OwnBelow (b : ℕ) (x : Own) : Type 0 where

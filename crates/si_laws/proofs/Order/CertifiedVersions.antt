@@ -158,7 +158,7 @@ module _ (scene : Scene) (s : Stage) (h : Linked scene s) where
             final_version (at_place scene st.n) st.i fc w,
             is,
             st.there,
-            good.finals cm.0 fc cm.1 w m hosted_here,
+            h.home_finals st.n st.view st.there st.i x st.own cm.0 fc cm.1 w m hosted_here,
             record { tx_is = sym st.name; key_is = refl; part_is = refl },
             a_final refl refl,
           )

@@ -2,6 +2,8 @@
 use Rattle.partition_map.specs.declared.rows.Asked.{Asked}
 use Rattle.si_laws.proofs.Stages.AcksKnown.{comes_some}
 use Rattle.si_laws.proofs.Stages.PreAsked.{pre_from}
+use Rattle.str_model.proofs.OwnFacts.HomeFinals.{finals-step}
+use Rattle.str_model.specs.NodeFacts.{AllHaveFinals}
 use Rattle.str_model.proofs.OwnFacts.AtHome.{AckStep, AtHome, a_new, a_old, acked_parts, asked_part, home-step}
 use Rattle.si_laws.proofs.Stages.LinkedStates.{AckSent, AreWrites, Linked}
 use Rattle.si_laws.proofs.Stages.LinksKept.{came, came_told, known_by_commit, node_e, placed_unknown, sent_more, there_d, told_e, writes_stay}
@@ -150,6 +152,11 @@ module _ (scene : Scene) (s : Stage) (i : ℕ) (v : View) (input : Input) (w : W
       | inl q ↦ subst₂ (λ (k : ℕ) (z : View). AtHome (at_place scene k) z) (sym q.0) (sym q.1) (home-step (at_place scene i) input w d e act (h.home i d.view (there_d scene s i v input w d e is seen act h)))
       | inr q ↦ h.home n u q.1
     ];
+    home_finals = λ n u g. elim (node_e scene s i v input w d e is seen act h n u g) [
+      | inl q ↦ (let there = there_d scene s i v input w d e is seen act h in
+          subst₂ (λ (k : ℕ) (z : View). AllHaveFinals (at_place scene k) z) (sym q.0) (sym q.1) (finals-step (at_place scene i) input w d e act (h.home i d.view there) (h.home_finals i d.view there)))
+      | inr q ↦ h.home_finals n u q.1
+    ];
     master = λ n u g. elim (node_e scene s i v input w d e is seen act h n u g) [
       | inl q ↦ subst₂ (λ (k : ℕ) (z : View). AtMaster (at_place scene k) z) (sym q.0) (sym q.1) (λ a k. (held_e a (wait_step (at_place scene i) input w d e act) k).1)
       | inr q ↦ h.master n u q.1
@@ -181,6 +188,7 @@ module _ (scene : Scene) (s : Stage) (i : ℕ) (v : View) (input : Input) (w : W
 pub linked_opening : (scene : Scene) → Linked scene (stage_of (opening scene))
 linked_opening scene = record {
   home = λ n v g i x own. absurd (cc (ap (λ (z : View). slice_get z.own i) (sym (empty n v g)), own));
+  home_finals = λ n v g i x own. absurd (cc (ap (λ (z : View). slice_get z.own i) (sym (empty n v g)), own));
   master = λ n v g a k. absurd (subst (λ (z : View). In (Held a) z.waiters) (empty n v g) k);
   quiet = λ n v g tx p other. subst (λ (z : View). Quiet tx p z) (sym (empty n v g)) (record { few = omega arith; apart = λ k. refl });
   told = λ m k. absurd k;

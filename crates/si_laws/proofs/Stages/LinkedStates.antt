@@ -1,6 +1,6 @@
 -- What messages, replicas and origins have to do with one another, in every state of a run.
 use Rattle.partition_map.specs.declared.rows.Asked.{Asked}
-use Rattle.str_model.proofs.OwnFacts.AtHome.{AtHome}
+use Rattle.str_model.specs.NodeFacts.{AllHaveFinals, AtHome}
 use Rattle.si_laws.proofs.Changes.LettersSent.{AreMarked}
 use Rattle.str_model.proofs.Changes.PairChanges.{AtMaster, Quiet}
 use Rattle.str_model.proofs.Changes.PairWords.{Has, decided-step}
@@ -113,6 +113,7 @@ pub record AckSent (s : Stage) (tx : TxId) (p : PartId) (from : NodeId) (ts : Ts
 -- pair that is done is what the decision under way goes by
 pub record Linked (scene : Scene) (s : Stage) : Type 0 where
   pub home : (n : ℕ) (v : View) → slice_get s.nodes n ≡ Some v → AtHome (at_place scene n) v
+  pub home_finals : (n : ℕ) (v : View) → slice_get s.nodes n ≡ Some v → AllHaveFinals (at_place scene n) v
   pub master : (n : ℕ) (v : View) → slice_get s.nodes n ≡ Some v → AtMaster (at_place scene n) v
   pub quiet : (n : ℕ) (v : View) → slice_get s.nodes n ≡ Some v → (tx : TxId) (p : PartId) → tx.node.0 ≢ n + 1 → Quiet tx p v
   pub told : (m : Message) → In m s.sent → Told scene s m.sender m.receiver m.body

@@ -1,5 +1,5 @@
--- A transaction at its origin: its participants, its own versions, and the answers at which it commits.
-pub use Rattle.str_model.specs.NodeFacts.{seats, seats, final_version, final_version, Answered, Answered, OwnGood, AtHome, AtHome}
+-- A transaction at its origin: its participants, its Local versions, and the answers at which it commits.
+pub use Rattle.str_model.specs.NodeFacts.{Answered, AtHome, OwnGood, final_version, seats}
 use Rattle.dependency_set.specs.Snapshots.{Snap}
 use Rattle.dependency_set.specs.declared.names.Dep.{Dep}
 use Rattle.partition_map.specs.declared.rows.Asked.{Asked}
@@ -121,19 +121,12 @@ module _ (here : Here) (d e : View) (stays : (i : ℕ) (v : Version) → v.tx �
     | inr z ↦ (let both : Some z.new ≡ Some y = sym z.is ∙ own in let same : z.new ≡ y = cc both in absurd (cc (ap (λ (u : Own). is_decided u.phase) same, z.decided, f)))
   ]
 
-  final_stays : (i : ℕ) (x : Own) → Owns d i x → is_decided x.phase ≡ true → (fc : ℕ) (w : Write) → In (final_version here i fc w) d.versions → In (final_version here i fc w) e.versions
-  final_stays i x own f fc w h = elim (stays i (final_version here i fc w) refl h) [
-    | inl k ↦ k
-    | inr z ↦ (let both : Some z.old ≡ Some x = sym z.was ∙ own in let same : z.old ≡ x = cc both in absurd (cc (ap (λ (u : Own). is_decided u.phase) same, z.open_, f)))
-  ]
-
   rests-good : (i : ℕ) (x : Own) → Owns d i x → Owns e i x → OwnGood here d.versions i x → OwnGood here e.versions i x
   rests-good i x was own g = record {
     seats_are = g.seats_are;
     none = g.none;
     locals = λ f lc l w h. local_stays i x x own f lc w (g.locals f lc l w h);
     has_lc = g.has_lc;
-    finals = λ l fc q w h k. final_stays i x was (ap is_decided q) fc w (g.finals l fc q w h k);
     answered = g.answered;
   }
 
@@ -146,7 +139,6 @@ module _ (here : Here) (d e : View) (stays : (i : ℕ) (v : Version) → v.tx �
     locals = λ o lc q w h. let q' : lc_of x.phase ≡ Some lc = sym l ∙ q in
         local_stays i x y own f' lc w (g.locals f lc q' w (subst (λ (zs : List Write). In w zs) (ws lc q') h));
     has_lc = λ k fc q. absurd (cc (ap is_decided q, f'));
-    finals = λ k fc q w h z. absurd (cc (ap is_decided q, f'));
     answered = λ k fc q a h. absurd (cc (ap is_decided q, f'));
   }
 
@@ -159,7 +151,6 @@ module _ (here : Here) (d e : View) (stays : (i : ℕ) (v : Version) → v.tx �
         subst (λ (k : ℕ). In (local_version here i k w) e.versions) is
         (subst (λ (vs : List Version). In (local_version here i lc w) vs) (sym q) (in_all_new (map (local_version here i lc) x.writes) d.versions (local_version here i lc w) (map_in (local_version here i lc) x.writes w h)));
     has_lc = λ k fc z. absurd (cc z);
-    finals = λ k fc z w h u. absurd (cc z);
     answered = λ k fc z a h. absurd (cc z);
   }
 
@@ -169,31 +160,19 @@ module _ (here : Here) (d e : View) (stays : (i : ℕ) (v : Version) → v.tx �
     none = g.none;
     locals = λ f m l w h. absurd (cc f);
     has_lc = λ k fc z. absurd (cc z);
-    finals = λ k fc z w h u. absurd (cc z);
     answered = λ k fc z a h. absurd (cc z);
   }
 
-  committed-good : (i lc fc : ℕ) (x : Own) → is_decided x.phase ≡ false → lc_of x.phase ≡ Some lc → gate_of here d lc x ≡ CommitAt fc
-      → e.versions ≡ decided_versions here (name_of here i) fc d.versions → OwnGood here d.versions i x → OwnGood here e.versions i (decided_as (Committed (Some lc) (Some fc)) x)
-  committed-good i lc fc x f l gate q g = record {
+  committed-good : (i lc fc : ℕ) (x : Own) → lc_of x.phase ≡ Some lc → gate_of here d lc x ≡ CommitAt fc → OwnGood here d.versions i x
+      → OwnGood here e.versions i (decided_as (Committed (Some lc) (Some fc)) x)
+  committed-good i lc fc x l gate g = record {
     seats_are = λ m n. g.seats_are lc l;
     none = λ n. absurd (cc n);
     locals = λ o m n w h. absurd (cc o);
     has_lc = λ k fc' z. let is : k ≡ Some lc = cc z in (lc, is);
-    finals = λ k fc' z w h u. let is : fc ≡ fc' = cc z in
-        subst (λ (n : ℕ). In (final_version here i n w) e.versions) is (subst (λ (vs : List Version). In (final_version here i fc w) vs) (sym q) (settled_in w h u));
     answered = λ k fc' z a h. let is : fc ≡ fc' = cc z in
         subst (λ (n : ℕ). Answered n a) is (gate_answers x.snap lc x.parts (map (dep_parts here d.own) x.snap.deps) fc gate a h);
   }
-    where
-      hosted : (w : Write) → hosts_key here w.key ≡ true → is_hosted_of here (name_of here i) (local_version here i lc w) ≡ true
-      hosted w u = rw (eq-eqb here.node.0 here.node.0 refl, eq-eqb (i + 1) (i + 1) refl) u
-
-      settled_in : (w : Write) → In w x.writes → hosts_key here w.key ≡ true → In (final_version here i fc w) (decided_versions here (name_of here i) fc d.versions)
-      settled_in w h u =
-          in_all_new (map (settled fc) (filter (is_hosted_of here (name_of here i)) d.versions)) (without (of_tx (name_of here i)) d.versions) (final_version here i fc w)
-          (map_in (settled fc) (filter (is_hosted_of here (name_of here i)) d.versions) (local_version here i lc w)
-          (filter_in (is_hosted_of here (name_of here i)) d.versions (local_version here i lc w) (g.locals f lc l w h) (hosted w u)))
 
   closed-good : (i : ℕ) (x : Own) → x.phase ≡ Closing false → OwnGood here d.versions i x → OwnGood here e.versions i (decided_as (Committed None None) x)
   closed-good i x q g = record {
@@ -201,7 +180,6 @@ module _ (here : Here) (d e : View) (stays : (i : ℕ) (v : Version) → v.tx �
     none = λ l. g.none (ap lc_of q);
     locals = λ f m l w h. absurd (cc f);
     has_lc = λ k fc z. absurd (cc z);
-    finals = λ k fc z w h u. absurd (cc z);
     answered = λ k fc z a h. absurd (cc z);
   }
 
@@ -211,7 +189,6 @@ module _ (here : Here) (d e : View) (stays : (i : ℕ) (v : Version) → v.tx �
     none = λ l. refl;
     locals = λ f m l w h. absurd h;
     has_lc = λ k fc z. absurd (cc z);
-    finals = λ k fc z w h u. absurd h;
     answered = λ k fc z a h. absurd h;
   }
 
@@ -237,7 +214,7 @@ module _ (here : Here) (d e : View) (stays : (i : ℕ) (v : Version) → v.tx �
       let new : AckedParts from p ts.0 x.parts parts = acked_parts x.parts p from ts.0 parts a.parts_are in
       one_new i x (record x { parts = parts }) own q (λ k. open-good i x _ k (ap is_decided g) (ap is_decided g) refl (λ m n. refl) new.same_seats (λ n. absurd (cc (sym a.parts_are ∙ ap (λ (zs : List Asked). with_ack zs p from ts.0) n))) (h i x own)) h
   home-change input (o_aborts i cause x own f q) h = one_new i x _ own q (λ k. aborted-good i cause x (h i x own)) h
-  home-change input (o_commits i lc fc x own f l gate q s) h = one_new i x _ own q (λ k. committed-good i lc fc x f l gate s (h i x own)) h
+  home-change input (o_commits i lc fc x own f l gate q s) h = one_new i x _ own q (λ k. committed-good i lc fc x l gate (h i x own)) h
   home-change input (o_closes i x own p q) h = one_new i x _ own q (λ k. closed-good i x p (h i x own)) h
 
 pub home-step : (here : Here) (input : Input) (w : Where) (d e : Doing) → Act here input w d e → AtHome here d.view → AtHome here e.view

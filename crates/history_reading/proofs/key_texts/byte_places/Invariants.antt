@@ -1,0 +1,6 @@
+use Rattle.history_reading.proofs.PlacesFound.{ArePlacesTo}
+use Rattle.history_reading.specs.Places.{byte_texts}
+use Rattle.history_reading.proofs.key_texts.byte_places.Given as goal
+
+abbrev pub invariant-loop-number : goal.invariant-loop-number
+invariant-loop-number l = ArePlacesTo (byte_texts l.table) l.number l.places

@@ -1,0 +1,5 @@
+-- The low mark of a node, what its stores become where old versions go, and how many versions they have.
+
+pub mod LowMark
+pub mod PrunedStores
+pub mod Counting
