@@ -2,7 +2,7 @@
 use Rattle.std.proofs.Common.{List, None, Option, Some, [], ap, append-nil, append_assoc, arith, decimal, flat_map, length, map, not, refl, slice_get, sym, ℕ, ◌++◌, ◌<◌, ◌^◌, ◌∙◌, ◌∷◌, ◌≡◌, ◌≤◌}
 use Rattle.std.proofs.lemmas.Grind.{flat_map-append}
 use Rattle.std.proofs.lemmas.List.Sums.{count_by-le-length}
-use Rattle.history_reading.proofs.PartsRead.{placed_within}
+use Rattle.history_reading.proofs.Spelled.PartsRead.{placed_within}
 use Rattle.history_reading.proofs.TypedAnswers.{key_stands, text_stands}
 use Rattle.history_reading.specs.Histories.{IsEnding, IsHistory, history_lines, history_spelling}
 use Rattle.history_reading.specs.HistoryLines.{any_cause, any_gets, any_outcome, any_value, cause_text, counts_text, end_text, fc_text, get_text, gets_text, name_text, spelled_answer, value_text, any_get}

@@ -4,7 +4,7 @@ use Rattle.std.proofs.lemmas.List.{length-map}
 use Rattle.std.proofs.lemmas.List.Sums.{count_by-le-length, sum_by-cons}
 use Rattle.std.specs.List.{count_by, sum_by}
 use Rattle.history_reading.proofs.HistoryTexts.{one_history}
-use Rattle.history_reading.proofs.PlacesFound.{from_map}
+use Rattle.history_reading.proofs.Spelled.PlacesFound.{from_map}
 use Rattle.history_reading.proofs.RunAnswers.{answer_in}
 use Rattle.history_reading.specs.AuditLaw.{AuditHolds, printed}
 use Rattle.history_reading.specs.Histories.{HasFewGets, IsHistory, IsHistoryText, history_spelling}

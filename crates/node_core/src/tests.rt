@@ -6,7 +6,7 @@ use scene_text::read_scene;
 use std::alloc::AllocError;
 use std::process::Abort;
 use std::test::Fail;
-use str_base::{KeyId, NodeId, TextId, Value};
+use str_base::{KeyId, NodeId, TextId, Ts, Value};
 use str_model::Input;
 
 /// Node 1 is the master of partition 1 and a slave of partition 2. It does not host partition 3.
@@ -369,4 +369,28 @@ fn every_kind_of_message(rt: HostRuntime) -> Result<(), Fail> {
 #[test]
 fn strangers_change_nothing(rt: HostRuntime) -> Result<(), Fail> {
     check_all(&rt, &STRANGERS)
+}
+
+/// One key is written three times.
+const THREE_PUTS: &[u8] = b"str 1\nnodes 1\npart 1 1\nsession 1\ntx\nput a@1 1\ntx\nput a@1 2\n\
+    tx\nput a@1 3\nschedule\nend\n";
+
+#[test]
+fn old_versions_go(rt: HostRuntime) -> Result<(), Fail> {
+    let scene = read_scene(rt.alloc(), THREE_PUTS)?;
+    if scene.nodes() == 0 {
+        return Err("a node".into());
+    }
+    let mut node = Node::new(rt.alloc(), NodeId(1), &scene)?;
+    let mut out = Outbox::new(rt.alloc());
+    for _ in 0..9 {
+        step(&mut node, &input(Given::Client(1, 10)), &mut out)?;
+    }
+    assert_eq!(rt; node.low(), Ts(13));
+    assert_eq!(rt; node.versions(), 3);
+    for below in [11, 12, 13] {
+        assert_eq!(rt; node.prune(Ts(below)), u64::from(below > 11));
+    }
+    assert_eq!(rt; node.versions(), 1);
+    Ok(())
 }

@@ -1,5 +1,5 @@
 use Rattle.std.proofs.Common.{refl}
-use Rattle.history_reading.proofs.EndsRead.{abort_no_rs, abort_one_word}
+use Rattle.history_reading.proofs.Spelled.EndsRead.{abort_no_rs, abort_one_word}
 use Rattle.history_reading.proofs.answers.abort_parts.Goals as goal
 
 pub returns-in_err-rest_after-clause-none : goal.returns-in_err-rest_after-clause-none

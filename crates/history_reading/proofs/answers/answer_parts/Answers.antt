@@ -1,5 +1,5 @@
 use Rattle.std.proofs.Common.{refl}
-use Rattle.history_reading.proofs.AnswersRead.{answer_is, answer_one_word, answer_two_words}
+use Rattle.history_reading.proofs.Spelled.AnswersRead.{answer_is, answer_one_word, answer_two_words}
 use Rattle.history_reading.proofs.answers.answer_parts.Goals as goal
 
 pub returns-in_err-name-clause-none : goal.returns-in_err-name-clause-none

@@ -1,5 +1,5 @@
 use Rattle.std.proofs.Common.{refl}
-use Rattle.history_reading.proofs.EndsRead.{commit_is, commit_no_fc, commit_no_rs, commit_one_word}
+use Rattle.history_reading.proofs.Spelled.EndsRead.{commit_is, commit_no_fc, commit_no_rs, commit_one_word}
 use Rattle.history_reading.proofs.answers.commit_parts.Goals as goal
 
 pub returns-in_err-rest_after-clause-none : goal.returns-in_err-rest_after-clause-none

@@ -1,5 +1,5 @@
 use Rattle.std.proofs.Common.{rules, sym, ◌∙◌}
-use Rattle.history_reading.proofs.EndsRead.{abort_no_cause, abort_no_end, abort_no_time, abort_read, abort_wide}
+use Rattle.history_reading.proofs.Spelled.EndsRead.{abort_no_cause, abort_no_end, abort_no_time, abort_read, abort_wide}
 use Rattle.history_reading.proofs.answers.read_abort.Goals as goal
 
 pub returns-in_default-clause-bad : goal.returns-in_default-clause-bad

@@ -1,6 +1,6 @@
 use Rattle.std.proofs.Common.{rules, sym, ◌∙◌}
 use Rattle.std.proofs.lemmas.Result.{err_from_is_err_and}
-use Rattle.history_reading.proofs.AnswersRead.{answer_bad, answer_no_name, answer_no_place, answer_read, answer_wide_at}
+use Rattle.history_reading.proofs.Spelled.AnswersRead.{answer_bad, answer_no_name, answer_no_place, answer_read, answer_wide_at}
 use Rattle.history_reading.proofs.answers.read_answer.Goals as goal
 
 pub returns-in_default-clause-bad : goal.returns-in_default-clause-bad

@@ -1,6 +1,6 @@
 use Rattle.std.proofs.Common.{Some, ap, arith, false, rules, sym, true, ◌∙◌, ◌≡◌}
 use Rattle.std.proofs.lemmas.Grind.{common_steps}
-use Rattle.history_reading.proofs.EndsRead.{commit_long, commit_no_end, commit_no_final, commit_no_gets, commit_no_time, commit_read, commit_wide_gets, commit_wide_times, kept_all, kept_none}
+use Rattle.history_reading.proofs.Spelled.EndsRead.{commit_long, commit_no_end, commit_no_final, commit_no_gets, commit_no_time, commit_read, commit_wide_gets, commit_wide_times, kept_all, kept_none}
 use Rattle.history_reading.specs.Parts.{kept_gets}
 use Rattle.history_reading.proofs.answers.read_commit.Goals as goal
 

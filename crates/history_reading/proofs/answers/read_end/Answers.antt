@@ -1,5 +1,5 @@
 use Rattle.std.proofs.Common.{rules}
-use Rattle.history_reading.proofs.EndsRead.{bad_end_from, end_from, no_end_word}
+use Rattle.history_reading.proofs.Spelled.EndsRead.{bad_end_from, end_from, no_end_word}
 use Rattle.history_reading.proofs.answers.read_end.Goals as goal
 
 pub returns-in-Some-clause-end : goal.returns-in-Some-clause-end

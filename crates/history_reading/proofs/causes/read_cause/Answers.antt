@@ -1,6 +1,6 @@
 use Rattle.std.proofs.Common.{refl, rules}
-use Rattle.history_reading.proofs.CausesRead.{conflict_cause, late_cause, lost_read, lost_wide, no_cause_word, no_conflict_cause, no_late_cause, no_lost_cause, wish_read}
-use Rattle.history_reading.proofs.Zips.{if_some}
+use Rattle.history_reading.proofs.Spelled.CausesRead.{conflict_cause, late_cause, lost_read, lost_wide, no_cause_word, no_conflict_cause, no_late_cause, no_lost_cause, wish_read}
+use Rattle.history_reading.proofs.Spelled.Zips.{if_some}
 use Rattle.history_reading.proofs.causes.read_cause.Goals as goal
 
 pub returns-then-is_same-clause-cause : goal.returns-then-is_same-clause-cause

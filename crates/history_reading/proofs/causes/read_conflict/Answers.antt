@@ -1,7 +1,7 @@
 use Rattle.std.proofs.Common.{[], ap, refl, sym, ◌∙◌, ◌∷◌}
 use Rattle.std.proofs.lemmas.List.{append_cancel_left}
 use Rattle.std.specs.Option.{option_zip}
-use Rattle.history_reading.proofs.CausesRead.{conflict_lost, conflict_no_word, conflict_one_word, conflict_read, conflict_two_words, conflict_words}
+use Rattle.history_reading.proofs.Spelled.CausesRead.{conflict_lost, conflict_no_word, conflict_one_word, conflict_read, conflict_two_words, conflict_words}
 use Rattle.history_reading.proofs.causes.read_conflict.Goals as goal
 
 pub returns-in_err-by-clause-none : goal.returns-in_err-by-clause-none

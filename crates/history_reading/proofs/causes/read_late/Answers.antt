@@ -1,6 +1,6 @@
 use Rattle.std.proofs.Common.{[], refl, sym, ◌∙◌, ◌∷◌}
 use Rattle.std.proofs.lemmas.List.{append_cancel_left}
-use Rattle.history_reading.proofs.CausesRead.{late_lost, late_no_word, late_one_word, late_read}
+use Rattle.history_reading.proofs.Spelled.CausesRead.{late_lost, late_no_word, late_one_word, late_read}
 use Rattle.history_reading.proofs.causes.read_late.Goals as goal
 
 pub returns-in_err-by-clause-none : goal.returns-in_err-by-clause-none

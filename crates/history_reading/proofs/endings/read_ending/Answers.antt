@@ -1,6 +1,6 @@
 use Rattle.std.proofs.Common.{ap, refl, sym, ◌∙◌}
 use Rattle.std.specs.Option.{option_zip}
-use Rattle.history_reading.proofs.EndingsRead.{four_read, no_aborts, no_commits, no_held, no_last, no_messages, no_unbegun, numbers_read, numbers_wide, two_read}
+use Rattle.history_reading.proofs.Spelled.EndingsRead.{four_read, no_aborts, no_commits, no_held, no_last, no_messages, no_unbegun, numbers_read, numbers_wide, two_read}
 use Rattle.history_reading.proofs.endings.read_ending.Goals as goal
 
 pub returns-in_err-commits-clause-none : goal.returns-in_err-commits-clause-none

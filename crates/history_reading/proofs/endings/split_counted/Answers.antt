@@ -1,5 +1,5 @@
 use Rattle.std.proofs.Common.{refl}
-use Rattle.history_reading.proofs.EndingsRead.{counted_no_number, counted_no_space, counted_no_word, counted_read}
+use Rattle.history_reading.proofs.Spelled.EndingsRead.{counted_no_number, counted_no_space, counted_no_word, counted_read}
 use Rattle.history_reading.proofs.endings.split_counted.Goals as goal
 
 pub returns-in_err-rest_after-clause-none : goal.returns-in_err-rest_after-clause-none

@@ -1,5 +1,5 @@
 use Rattle.std.proofs.Common.{refl, sym, ◌∙◌}
-use Rattle.history_reading.proofs.GetsRead.{get_lost, get_no_sign, get_read, no_get_key, no_get_value}
+use Rattle.history_reading.proofs.Spelled.GetsRead.{get_lost, get_no_sign, get_read, no_get_key, no_get_value}
 use Rattle.history_reading.proofs.gets.read_get.Goals as goal
 
 pub returns-in_err-key-clause-none : goal.returns-in_err-key-clause-none

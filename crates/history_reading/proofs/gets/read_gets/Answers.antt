@@ -1,5 +1,5 @@
 use Rattle.std.proofs.Common.{refl, rules}
-use Rattle.history_reading.proofs.GetsRead.{gets_begin, gets_end, gets_next, gets_shorter, gets_stop, kept_new}
+use Rattle.history_reading.proofs.Spelled.GetsRead.{gets_begin, gets_end, gets_next, gets_shorter, gets_stop, kept_new}
 use Rattle.history_reading.specs.Parts.{kept_gets}
 use Rattle.history_reading.proofs.gets.read_gets.Goals as goal
 

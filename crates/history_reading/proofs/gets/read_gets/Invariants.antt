@@ -1,5 +1,5 @@
 use Rattle.std.proofs.Common.{length}
-use Rattle.history_reading.proofs.GetsRead.{GetsSoFar}
+use Rattle.history_reading.proofs.Spelled.GetsRead.{GetsSoFar}
 use Rattle.history_reading.specs.Parts.{kept_gets}
 use Rattle.history_reading.proofs.gets.read_gets.Given as goal
 

@@ -1,5 +1,5 @@
 use Rattle.std.proofs.Common.{sym, ◌∙◌}
-use Rattle.history_reading.proofs.GetsRead.{bytes_lost, bytes_read}
+use Rattle.history_reading.proofs.Spelled.GetsRead.{bytes_lost, bytes_read}
 use Rattle.history_reading.proofs.gets.read_known_bytes.Goals as goal
 
 pub returns-in-Some-clause-value : goal.returns-in-Some-clause-value

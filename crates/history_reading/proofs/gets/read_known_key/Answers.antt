@@ -1,5 +1,5 @@
 use Rattle.std.proofs.Common.{sym, ◌∙◌}
-use Rattle.history_reading.proofs.GetsRead.{key_lost, key_read}
+use Rattle.history_reading.proofs.Spelled.GetsRead.{key_lost, key_read}
 use Rattle.history_reading.proofs.gets.read_known_key.Goals as goal
 
 pub returns-in-Some-clause-key : goal.returns-in-Some-clause-key

@@ -3,7 +3,7 @@ use Rattle.std.proofs.lemmas.Int.{to_z-of_z}
 use Rattle.std.specs.Int.{w64}
 use Rattle.history_reading.specs.Parts.{SpellsValue}
 use Rattle.str_base.specs.declared.names.Value.TheVariants.{Num}
-use Rattle.history_reading.proofs.GetsRead.{no_value, none_value, number_read, number_wide, signed_fits}
+use Rattle.history_reading.proofs.Spelled.GetsRead.{no_value, none_value, number_read, number_wide, signed_fits}
 use Rattle.history_reading.proofs.gets.read_value.Goals as goal
 
 pub returns-then-is_same-clause-value : goal.returns-then-is_same-clause-value

@@ -1,4 +1,4 @@
-use Rattle.history_reading.proofs.PlacesFound.{ArePlacesTo}
+use Rattle.history_reading.proofs.Spelled.PlacesFound.{ArePlacesTo}
 use Rattle.history_reading.specs.Places.{byte_texts}
 use Rattle.history_reading.proofs.key_texts.byte_places.Given as goal
 

@@ -1,7 +1,7 @@
 use Rattle.std.proofs.Common.{Some, ap, arith, length, slice_get, subst, sym, ◌+◌, ◌<◌, ◌∙◌, ◌≡◌}
 use Rattle.std.proofs.lemmas.Grind.{common_steps}
 use Rattle.std.proofs.lemmas.List.{length-map}
-use Rattle.history_reading.proofs.PlacesFound.{ArePlacesTo, all_places, at_map, no_places, one_place}
+use Rattle.history_reading.proofs.Spelled.PlacesFound.{ArePlacesTo, all_places, at_map, no_places, one_place}
 use Rattle.history_reading.specs.Places.{key_texts}
 use Rattle.str_scene.specs.Spelling.{name_spelled}
 use Rattle.history_reading.proofs.key_texts.key_places.Goals as goal

@@ -1,4 +1,4 @@
-use Rattle.history_reading.proofs.PlacesFound.{ArePlacesTo}
+use Rattle.history_reading.proofs.Spelled.PlacesFound.{ArePlacesTo}
 use Rattle.history_reading.specs.Places.{key_texts}
 use Rattle.history_reading.proofs.key_texts.key_places.Given as goal
 

@@ -1,6 +1,6 @@
 use Rattle.std.proofs.Common.{arith, length, ◌≤◌}
 use Rattle.std.proofs.lemmas.Grind.{common_steps}
-use Rattle.history_reading.proofs.PartsRead.{index_small}
+use Rattle.history_reading.proofs.Spelled.PartsRead.{index_small}
 use Rattle.history_reading.proofs.parts.known_place.Goals as goal
 
 pub overflow_cast-result : goal.overflow_cast-result

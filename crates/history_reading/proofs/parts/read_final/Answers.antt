@@ -1,5 +1,5 @@
 use Rattle.std.proofs.Common.{refl}
-use Rattle.history_reading.proofs.PartsRead.{final_none, final_read, final_wide, no_final}
+use Rattle.history_reading.proofs.Spelled.PartsRead.{final_none, final_read, final_wide, no_final}
 use Rattle.history_reading.proofs.parts.read_final.Goals as goal
 
 pub returns-then-is_same-clause-time : goal.returns-then-is_same-clause-time

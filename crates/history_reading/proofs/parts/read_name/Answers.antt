@@ -1,5 +1,5 @@
 use Rattle.std.proofs.Common.{arith, refl, subst, sym, ◌∙◌}
-use Rattle.history_reading.proofs.PartsRead.{name_read, name_wide, no_name_dot, no_name_first, no_name_second}
+use Rattle.history_reading.proofs.Spelled.PartsRead.{name_read, name_wide, no_name_dot, no_name_first, no_name_second}
 use Rattle.history_reading.specs.Parts.{SpellsName}
 use Rattle.history_reading.proofs.parts.read_name.Goals as goal
 

@@ -1,5 +1,5 @@
 use Rattle.std.proofs.Common.{arith}
-use Rattle.history_reading.proofs.PartsRead.{node_lost, node_read, node_wide}
+use Rattle.history_reading.proofs.Spelled.PartsRead.{node_lost, node_read, node_wide}
 use Rattle.history_reading.proofs.parts.read_node.Goals as goal
 
 pub returns-in-Some-clause-node : goal.returns-in-Some-clause-node

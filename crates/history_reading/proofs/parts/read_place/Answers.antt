@@ -1,5 +1,5 @@
 use Rattle.std.proofs.Common.{arith, refl, sym, ◌∙◌}
-use Rattle.history_reading.proofs.PartsRead.{no_place_first, no_place_s, no_place_second, no_place_slash, place_read, place_wide}
+use Rattle.history_reading.proofs.Spelled.PartsRead.{no_place_first, no_place_s, no_place_second, no_place_slash, place_read, place_wide}
 use Rattle.history_reading.proofs.parts.read_place.Goals as goal
 
 pub returns-in_err-numbers-clause-none : goal.returns-in_err-numbers-clause-none

@@ -1,4 +1,4 @@
-use Rattle.history_reading.proofs.PartsRead.{time_lost, time_read, time_wide}
+use Rattle.history_reading.proofs.Spelled.PartsRead.{time_lost, time_read, time_wide}
 use Rattle.history_reading.proofs.parts.read_time.Goals as goal
 
 pub returns-in-Some-clause-time : goal.returns-in-Some-clause-time

@@ -1,5 +1,5 @@
 use Rattle.std.proofs.Common.{Global, Vec, ap, refl, ℕ, ◌∙◌}
-use Rattle.history_reading.proofs.PlacesFound.{found_same}
+use Rattle.history_reading.proofs.Spelled.PlacesFound.{found_same}
 use Rattle.history_reading.specs.Places.{place_in}
 use Rattle.history_reading.proofs.places.Places.find.Goals as goal
 

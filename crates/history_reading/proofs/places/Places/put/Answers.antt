@@ -1,6 +1,6 @@
 use Rattle.std.proofs.Common.{Global, Vec, ap, refl, ℕ, ◌∙◌}
 use Rattle.std.specs.Str.{bytes_eq}
-use Rattle.history_reading.proofs.PlacesFound.{by_bytes, put_same}
+use Rattle.history_reading.proofs.Spelled.PlacesFound.{by_bytes, put_same}
 use Rattle.indexmap.specs.IndexMap.{insert_entry}
 use Rattle.history_reading.proofs.places.Places.put.Goals as goal
 

@@ -1,6 +1,6 @@
 use Rattle.std.proofs.Common.{inl, inr, rules, subst, sym}
 use Rattle.history_reading.proofs.EndingsTaken.{refused_end, refused_one}
-use Rattle.history_reading.proofs.Zips.{if_err, on_ok}
+use Rattle.history_reading.proofs.Spelled.Zips.{if_err, on_ok}
 use Rattle.history_reading.specs.Reading.{TakesEnd}
 use Rattle.history_reading.proofs.reading.Answers.take.Goals as goal
 

@@ -19,8 +19,8 @@ invariant_of-self c =
     let w = c.self.inside.work in
     let v = ap (λ (z : Doing). z.view) d.done in (
       subst (λ (here : Here). IsNode here c.prune.new.self.doing.view) (sym d.stays.here)
-      (subst (λ (u : View). IsNode w.here u) (sym v)
-      (record { limits = n.limits; exists = n.exists; facts = facts_pruned w.here g w.doing.view n.facts; ordered = ordered_pruned g w.doing.view.versions n.ordered })),
+          (subst (λ (u : View). IsNode w.here u) (sym v)
+          (record { limits = n.limits; exists = n.exists; facts = facts_pruned w.here g w.doing.view n.facts; ordered = ordered_pruned g w.doing.view.versions n.ordered })),
       record {
         sent = ap (λ (z : Doing). z.sent) d.done ∙ f.sent;
         released = ap (λ (z : Doing). z.released) d.done ∙ f.released;

@@ -35,7 +35,7 @@ returns c =
     let past = c.loop-key-test.false in
     let end : c.loop-key.key ≡ c.len-key-end.result = omega (arith, below, past) in
     let keys : c.loop-key.key ≡ length site.scene.keys.names =
-        end ∙ (c.len-key-end.ensures.value ∙ (ap (λ (t : KeyTable). length t.names) c.keys.ensures.value ∙ ap (λ (t : Scene). length t.keys.names) c.scene.ensures.value)) in
+    end ∙ (c.len-key-end.ensures.value ∙ (ap (λ (t : KeyTable). length t.names) c.keys.ensures.value ∙ ap (λ (t : Scene). length t.keys.names) c.scene.ensures.value)) in
     let a = all_below c.loop-key.key h.store.versions (key_within site _ h.store h.cache s c.loop-key.key keys) in
     let b = all_below c.loop-key.key h.cache.versions (cached_within site _ h.store h.cache s c.loop-key.key keys) in
     let l = length-merged h.cache.versions h.store.versions in

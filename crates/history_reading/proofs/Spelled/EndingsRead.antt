@@ -3,7 +3,7 @@ use Rattle.std.proofs.Common.{List, None, Option, Some, [], ap, inl, inr, subst,
 use Rattle.std.proofs.lemmas.List.{append_cancel_left}
 use Rattle.std.specs.Option.{SomeIff, option_zip}
 use Rattle.history_reading.proofs.AnswersApart.{aborts_text, counted_parts, counted_same, held_text, messages_text, unbegun_text}
-use Rattle.history_reading.proofs.Zips.{zip_none, zip_some}
+use Rattle.history_reading.proofs.Spelled.Zips.{zip_none, zip_some}
 use Rattle.history_reading.specs.HistoryLines.{numbers_text}
 use Rattle.history_reading.specs.Parts.{AreSmall, SpellsCounted, SpellsNoCounted, SpellsNoNumbers, SpellsNumbers}
 use Rattle.scene_text.specs.LineReading.{Spells, SpellsNone, is_without}

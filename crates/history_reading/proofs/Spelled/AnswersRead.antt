@@ -4,7 +4,7 @@ use Rattle.std.specs.Option.{option_zip}
 use Rattle.std.specs.Prelude.{IfErr, IfOk}
 use Rattle.history_reading.proofs.AnswersApart.{answer_parts}
 use Rattle.history_reading.proofs.WordsApart.{name_text-space}
-use Rattle.history_reading.proofs.Zips.{zip_none, zip_some}
+use Rattle.history_reading.proofs.Spelled.Zips.{zip_none, zip_some}
 use Rattle.history_reading.specs.HistoryLines.{AnyAnswer, AnyOutcome, IsFormOutcome, answer_text, any_answer, any_outcome, end_text, name_text, place_text}
 use Rattle.history_reading.specs.HistoryRanges.{IsNamed, IsOfScene, IsPlaced}
 use Rattle.history_reading.specs.Parts.{IsAnswerParts, IsBadAnswer, IsBadEnd, KnownItself, SpellsAnswer, SpellsEnd, SpellsName, SpellsNoAnswer, SpellsNoEnd, SpellsNoName, SpellsNoPlace, SpellsPlace, SpellsWideAnswer, SpellsWideEnd, wide_fault}

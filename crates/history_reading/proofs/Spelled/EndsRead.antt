@@ -4,7 +4,7 @@ use Rattle.std.proofs.lemmas.List.{append_cancel_left}
 use Rattle.std.specs.Option.{option_zip}
 use Rattle.std.specs.Prelude.{IfErr, IfOk, Result}
 use Rattle.history_reading.proofs.AnswersApart.{abort_parts, commit_parts}
-use Rattle.history_reading.proofs.Zips.{zip_none, zip_some}
+use Rattle.history_reading.proofs.Spelled.Zips.{zip_none, zip_some}
 use Rattle.history_reading.specs.HistoryLines.{Aborts, AnyCause, AnyGet, Commits, IsFormCause, IsFormGet, abort_text, any_cause, any_gets, any_outcome, cause_text, commit_text, fc_text, gets_text}
 use Rattle.history_reading.specs.HistoryRanges.{IsCause, IsFinal, IsOutcome, IsTime}
 use Rattle.history_reading.specs.Histories.{gets_of}

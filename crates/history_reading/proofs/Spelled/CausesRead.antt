@@ -4,7 +4,7 @@ use Rattle.std.proofs.lemmas.List.{append_cancel_left}
 use Rattle.std.specs.Option.{option_zip}
 use Rattle.history_reading.proofs.AnswersApart.{conflict_parts, first_two, late_parts}
 use Rattle.history_reading.proofs.WordsApart.{name_text-space}
-use Rattle.history_reading.proofs.Zips.{zip_none, zip_some}
+use Rattle.history_reading.proofs.Spelled.Zips.{zip_none, zip_some}
 use Rattle.history_reading.specs.HistoryLines.{ByConflict, ByLate, ByLost, ByWish, any_cause, conflict_text, late_text, name_text}
 use Rattle.history_reading.specs.HistoryRanges.{IsCause, IsNamed, IsTime}
 use Rattle.history_reading.specs.Parts.{Known, KnownItself, SpellsCause, SpellsConflict, SpellsKnownKey, SpellsLate, SpellsName, SpellsNoCause, SpellsNoConflict, SpellsNoLate, SpellsNoName, SpellsNode, SpellsTime}
