@@ -35,11 +35,7 @@ pub(crate) fn write_verdict<K: Sink>(
 }
 
 /// Appends the line of a verdict.
-fn push_verdict(
-    answers: &[Answer],
-    verdict: Verdict,
-    line: &mut Vec<u8>,
-) -> Result<(), AllocError>
+fn push_verdict(answers: &[Answer], verdict: Verdict, line: &mut Vec<u8>) -> Result<(), AllocError>
     ensures { OnOk result (line.new.items ≡ line.old.items ++ verdict_line answers.now verdict) }
 {
     match verdict {
