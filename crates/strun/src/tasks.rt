@@ -1,7 +1,7 @@
 //! What each task does.
 ghost use Rattle.scene_gen.specs.Made.{made};
 ghost use Rattle.std.specs.Io.KnownBytes.{Appends};
-ghost use Rattle.std.specs.Prelude.{◌≡◌, IfErr, OnErr, OnOk};
+ghost use Rattle.std.specs.Prelude.{◌≡◌, false, true, IfErr, OnErr, OnOk};
 ghost use Rattle.str_outer.specs.Pieces.{AppendsPrefix};
 ghost use Rattle.strun.specs.Failing.{TaskFails};
 ghost use Rattle.strun.specs.Inputs.{ReadsNothing, origin_of};
