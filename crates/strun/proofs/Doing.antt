@@ -37,7 +37,7 @@ use Rattle.top_status.specs.declared.failure.Failure.TheVariants.{Memory, Read, 
 -- a verdict is a yes exactly where the answers are a run of the machine
 tells_isolation : (scene : Scene) (answers : List Answer) (v : Verdict) → IsVerdict scene answers v → TellsIsolation (record { scene = scene; answers = answers; verdict = v })
 tells_isolation scene answers Yes h = (λ e. h, λ r. refl)
-tells_isolation scene answers (No answer clause) h = (λ e. absurd (cc e), λ r. absurd (no_run scene answers answer clause h r))
+tells_isolation scene answers (No answer clause) h = (λ e. absurd (cc e), λ r. absurd (no_run scene answers answer clause h.clause r))
 
 -- what a task promises holds of what it works on
 promise_holds : (task : Task) (left left' : Option (List ℕ)) (subject : Subject (origin_of task)) → HasSubject (origin_of task) left left' subject → Promised task subject
