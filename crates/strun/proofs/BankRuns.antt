@@ -7,7 +7,7 @@ use Rattle.bank_book.specs.BankLaw.{AddUp, Bank, total}
 use Rattle.bank_book.specs.BankScenes.{IsBank, opening_place}
 use Rattle.si_laws.specs.Commits.{Member, members}
 use Rattle.si_laws.specs.SnapshotIsolation.{SIRun}
-use Rattle.std.proofs.Common.{FitsSigned, List, [], ap, arith, inl, inr, length, map, pos, refl, subst, sym, take, take_all, ℕ, ℤ, ◌*◌, ◌+ℤ◌, ◌<◌, ◌^◌, ◌∙◌, ◌∷◌, ◌≡◌, ◌≢◌, ◌≤◌, ◌⊎◌}
+use Rattle.std.proofs.Common.{FitsSigned, List, [], ap, arith, inl, inr, length, map, pos, refl, subst, sym, take, take_all, ℕ, ℤ, ◌*◌, ◌+ℤ◌, ◌^◌, ◌∙◌, ◌∷◌, ◌≡◌, ◌≢◌, ◌≤◌, ◌⊎◌}
 use Rattle.std.specs.Int.{w64}
 use Rattle.std.specs.List.{fold}
 use Rattle.str_base.specs.Values.{number_or_zero}

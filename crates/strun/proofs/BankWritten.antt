@@ -1,5 +1,5 @@
 -- What has been written of the run of a bank's scene.
-use Rattle.std.proofs.Common.{Err, IfErr, List, Ok, OnErr, OnOk, Option, Result, ap, ap₂, arith, min, subst, ℕ, ◌+◌, ◌-◌, ◌^◌, ◌∙◌, ◌≡◌, ◌≤◌}
+use Rattle.std.proofs.Common.{Err, List, Ok, OnErr, OnOk, Option, Result, ap, ap₂, subst, ℕ, ◌∙◌, ◌≡◌}
 use Rattle.std.proofs.KnownBytes.{Appends-trans}
 use Rattle.std.specs.Io.KnownBytes.{Appends}
 use Rattle.str_model.specs.Drains.{cluster_run}
@@ -12,9 +12,6 @@ use Rattle.strun.specs.Banks.{balances_after, bank_lines}
 use Rattle.strun.specs.Outputs.{output}
 use Rattle.strun_words.specs.declared.task.Task.TheVariants.{Bank}
 use Rattle.top_status.proofs.Prefixes.{and_then, further}
-use Rattle.top_status.specs.Failures.{HasWriteCause}
-use Rattle.top_status.specs.declared.failure.Failure.{Failure}
-use Rattle.top_status.specs.declared.failure.Failure.TheVariants.{Memory, Read, Refused as Refusal, Usage, Write}
 
 -- the same where a run is told to be that of the scene
 render_is : (scene s : Scene) (w : World) → s ≡ scene → w ≡ cluster_run scene → render s w ≡ render scene (cluster_run scene)
@@ -44,15 +41,3 @@ bank_partly scene s w keys gots a b d (Ok u) q k n g p x = tt
 bank_partly scene s w keys gots a b d (Err e) q k n g p x =
     and_then a b d (render scene (cluster_run scene)) (bank_lines scene.keys (balances_after scene)) (subst (Appends a b) (render_is scene s w q k) p)
     (subst (AppendsPrefix b d) (balances_written_are scene s keys gots q n g) x)
-
--- a count that rose in the second of two calls rose in both
-rose_in_both : (m n k : ℕ) (f : Failure) → m ≤ n → HasWriteCause n k f → HasWriteCause m k f
-rose_in_both m n k Write l h = let r : min (n + 1) (2 ^ 64 - 1) ≤ k = h in omega (arith, l, r)
-rose_in_both m n k Memory l h = tt
-rose_in_both m n k Usage l h = absurd h
-rose_in_both m n k Read l h = absurd h
-rose_in_both m n k (Refusal said) l h = absurd h
-
-pub later_cause : {T : Type 0} (m n k : ℕ) (r : Result T Failure) → m ≤ n → IfErr r (HasWriteCause n k) → IfErr r (HasWriteCause m k)
-later_cause m n k (Ok x) l h = tt
-later_cause m n k (Err f) l h = rose_in_both m n k f l h

@@ -3,7 +3,6 @@ use Rattle.std.proofs.Common.{Err, List, Ok, OnErr, OnOk, Option, Result, [], ad
 use Rattle.std.proofs.KnownBytes.{Appends-trans}
 use Rattle.std.proofs.Math.Seq.{take-suc}
 use Rattle.std.proofs.lemmas.List.Concat.{flat_map-append}
-use Rattle.std.specs.Io.KnownBytes.{Appends}
 use Rattle.str_outer.specs.Pieces.{AppendsPrefix}
 use Rattle.top_status.proofs.Pieces.{last_partly, parts, so_far_written}
 use Rattle.top_status.proofs.Prefixes.{appends_none, further}

@@ -1,5 +1,5 @@
 -- What a call does for its words.
-use Rattle.std.proofs.Common.{Err, IfErr, List, Ok, OnOk, Option, Result, Some, inl, inr, refl, subst, sym, ℕ, ◌∙◌, ◌≡◌, ◌⊎◌}
+use Rattle.std.proofs.Common.{Err, IfErr, List, Ok, OnOk, Option, Result, Some, inl, inr, refl, subst, sym, ℕ, ◌≡◌, ◌⊎◌}
 use Rattle.scene_text.proofs.FirstBad.FirstBadLaws.{one_scene_of}
 use Rattle.str_outer.specs.Causes.{Rose}
 use Rattle.str_scene.specs.Scenes.{Scene}

@@ -8,12 +8,10 @@ use Rattle.history_audit.specs.declared.verdicts.Verdict.TheVariants.{No, Yes}
 use Rattle.history_reading.specs.Histories.{IsHistoryText}
 use Rattle.history_reading.specs.declared.reading.History.{History as PastRead}
 use Rattle.scene_gen.proofs.MadeLimits.{made_holds}
-use Rattle.si_laws.specs.SnapshotIsolation.{SIRun}
 use Rattle.scene_gen.specs.Made.{made}
 use Rattle.std.specs.Io.KnownBytes.{Appends, Consumes, IsAtEnd}
 use Rattle.str_base.specs.declared.names.KeyId.{KeyId}
 use Rattle.str_model.specs.declared.messages.Answer.{Answer}
-use Rattle.str_outer.specs.Causes.{Rose}
 use Rattle.str_outer.specs.Pieces.{AppendsPrefix}
 use Rattle.str_scene.specs.SceneLimits.{IsScene}
 use Rattle.str_scene.specs.Scenes.{Scene}
@@ -22,10 +20,10 @@ use Rattle.strun.proofs.WholeRun.{run_holds}
 use Rattle.strun.proofs.Refusing.{refuses_long}
 use Rattle.strun.specs.Audits.{TellsIsolation}
 use Rattle.strun.specs.Failing.{InputFails, RefusesInput, RefusesScene, TaskFails}
-use Rattle.strun.specs.Inputs.{HasHistory, HasRead, HasSubject, IsSpelled, Origin, Subject, origin_of, too_many}
-use Rattle.strun.specs.Inputs.Origin.{makes, reads, reads_bank, reads_history}
+use Rattle.strun.specs.Inputs.{HasHistory, HasRead, HasSubject, IsSpelled, Subject, origin_of, too_many}
+use Rattle.strun.specs.Inputs.Origin.{reads, reads_bank, reads_history}
 use Rattle.strun.specs.Outputs.{Promised, output}
-use Rattle.strun.specs.Tops.{Done, PartlyDone}
+use Rattle.strun.specs.Tops.{Done}
 use Rattle.strun.specs.declared.inputs.Form.{Form}
 use Rattle.strun.specs.declared.inputs.Form.TheVariants.{History, Text}
 use Rattle.strun_words.specs.declared.task.Task.{Task}

@@ -6,7 +6,7 @@ use Rattle.spsi_laws.proofs.Speculation.HeadlineHolds.{headline_holds}
 use Rattle.spsi_laws.specs.Headline.{Headline}
 use Rattle.str_model.proofs.Principle.Everywhere.{run-append}
 use Rattle.str_model.specs.Drains.{cluster_events, cluster_run, drain_events, drained}
-use Rattle.str_model.specs.Runs.{World, opening, run, run_from}
+use Rattle.str_model.specs.Runs.{World, opening, run_from}
 use Rattle.str_model.specs.Work.{left}
 use Rattle.str_scene.specs.SceneLimits.{IsScene}
 use Rattle.str_scene.specs.Scenes.{Scene}

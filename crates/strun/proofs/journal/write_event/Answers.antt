@@ -1,9 +1,8 @@
-use Rattle.cluster_run.specs.Clusters.{ClusterState, drained_from}
-use Rattle.std.proofs.Common.{List, ap, arith, drop, get_or, length, length-drop, rules, subst, sym, take, take_all, ◌-◌, ◌<◌, ◌∙◌, ◌≡◌, ◌≤◌}
+use Rattle.cluster_run.specs.Clusters.{ClusterState}
+use Rattle.std.proofs.Common.{List, ap, arith, drop, get_or, length, length-drop, rules, subst, take, take_all, ◌-◌, ◌∙◌, ◌≡◌, ◌≤◌}
 use Rattle.str_model.specs.Runs.{World, happens}
 use Rattle.str_model.specs.declared.names.Done.{Done}
-use Rattle.str_scene.specs.declared.names.Event.{Event}
-use Rattle.strun.proofs.Going.{Shown, after_ok, answers_there, at_some, breaks_later, entry_there, event_breaks, event_goes, event_stops, grew, shows, step_begins, step_stops}
+use Rattle.strun.proofs.Going.{Shown, after_ok, answers_there, event_breaks, event_goes, event_stops, grew, shows}
 use Rattle.strun.specs.Journal.{BreaksOff, entry_lines}
 use Rattle.top_status.proofs.Failing.{after_err, on_err}
 use Rattle.strun.proofs.journal.write_event.Goals as goal

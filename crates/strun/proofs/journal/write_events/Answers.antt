@@ -1,5 +1,5 @@
 use Rattle.cluster_run.specs.Clusters.{drained_from}
-use Rattle.std.proofs.Common.{ap, false, refl, sym, true, ◌∙◌, ◌≡◌}
+use Rattle.std.proofs.Common.{ap, refl, sym, ◌∙◌, ◌≡◌}
 use Rattle.str_model.specs.Drains.{cluster_run}
 use Rattle.str_model.specs.Runs.{run_from}
 use Rattle.str_scene.specs.Scenes.{Scene}

@@ -1,4 +1,4 @@
-use Rattle.std.proofs.Common.{ap, sym, ◌∙◌, ◌≡◌}
+use Rattle.std.proofs.Common.{ap, sym, ◌∙◌}
 use Rattle.str_model.specs.Drains.{cluster_run}
 use Rattle.str_model.specs.Runs.{opening}
 use Rattle.strun.proofs.Going.{journal_broke, journal_went}

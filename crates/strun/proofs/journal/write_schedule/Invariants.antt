@@ -1,4 +1,3 @@
-use Rattle.cluster_run.specs.Clusters.{IsRun}
 use Rattle.std.proofs.Common.{take, ◌≡◌, ◌≤◌}
 use Rattle.str_model.specs.Runs.{run_from}
 use Rattle.strun.specs.Journal.{GoesOn}

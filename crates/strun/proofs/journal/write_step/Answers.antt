@@ -1,11 +1,11 @@
-use Rattle.cluster_run.specs.Clusters.{ClusterState, drained_from}
+use Rattle.cluster_run.specs.Clusters.{drained_from}
 use Rattle.std.proofs.Common.{List, ap, arith, drop, get_or, length, length-drop, rules, sym, take, take_all, ◌-◌, ◌<◌, ◌∙◌, ◌≡◌, ◌≤◌}
 use Rattle.str_model.specs.Runs.{happens}
 use Rattle.str_model.specs.declared.names.Done.{Done}
 use Rattle.str_scene.specs.declared.names.Event.{Event}
-use Rattle.strun.proofs.Going.{Shown, after_ok, answers_there, at_some, breaks_later, entry_there, event_breaks, event_goes, event_stops, grew, shows, step_begins, step_stops}
+use Rattle.strun.proofs.Going.{Shown, answers_there, at_some, breaks_later, entry_there, event_breaks, event_goes, grew, shows, step_begins, step_stops}
 use Rattle.strun.specs.Journal.{entry_lines}
-use Rattle.top_status.proofs.Failing.{after_err, on_err}
+use Rattle.top_status.proofs.Failing.{on_err}
 use Rattle.strun.proofs.journal.write_step.Goals as goal
 
 pub returns-in_err-drain_step-clause-partial : goal.returns-in_err-drain_step-clause-partial
