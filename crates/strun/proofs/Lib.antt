@@ -1,6 +1,7 @@
 pub mod WholeRun
 pub mod BankRuns
 pub mod BankWritten
+pub mod AuditWritten
 pub mod Totals
 pub mod BalanceLines
 pub mod Behind

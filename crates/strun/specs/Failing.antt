@@ -30,12 +30,12 @@ RefusesScene scene (Refusal said) = (place : TxPlace) × IsReason scene (Not pla
 RefusesScene scene Memory = ⊤
 RefusesScene scene _ = ⊥
 
--- why no scene came
-abbrev pub SceneFails : Origin → Option (List ℕ) → Option (List ℕ) → ℕ → ℕ → Failure → Type 0
-SceneFails origin left left' read read' (Refusal said) = IsRefused origin left left' said.items
-SceneFails origin left left' read read' Read = ReadFailed origin read read'
-SceneFails origin left left' read read' Memory = ⊤
-SceneFails origin left left' read read' _ = ⊥
+-- why nothing came of what was read
+abbrev pub InputFails : Origin → Option (List ℕ) → Option (List ℕ) → ℕ → ℕ → Failure → Type 0
+InputFails origin left left' read read' (Refusal said) = IsRefused origin left left' said.items
+InputFails origin left left' read read' Read = ReadFailed origin read read'
+InputFails origin left left' read read' Memory = ⊤
+InputFails origin left left' read read' _ = ⊥
 
 -- why a task failed, and what was written until then
 abbrev pub TaskFails : Task → Option (List ℕ) → Option (List ℕ) → ℕ → ℕ → Option (List ℕ) → Option (List ℕ) → ℕ → ℕ → Failure → Type 0

@@ -1,3 +1,4 @@
+pub mod Audits
 pub mod Banks
 pub mod Inputs
 pub mod Outputs

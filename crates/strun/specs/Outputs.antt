@@ -1,4 +1,4 @@
--- What a task writes of its scene, and what is promised of that.
+-- What a task writes of what it works on, and what is promised of that.
 use Rattle.request_frame.specs.Frames.{frames_of}
 use Rattle.request_frame.specs.Spelling.{bytes_of}
 use Rattle.si_laws.specs.GateLaw.{GateLaw}
@@ -15,13 +15,16 @@ use Rattle.str_model.specs.Traces.{trace}
 use Rattle.str_scene.specs.SceneLimits.{IsScene}
 use Rattle.str_scene.specs.Scenes.{Scene}
 use Rattle.str_scene.specs.Spelling.{spelling}
+use Rattle.strun.specs.Audits.{TellsIsolation, at_lines, verdict_line}
 use Rattle.strun.specs.Banks.{BankRunHolds, balances_after, bank_lines}
+use Rattle.strun.specs.Inputs.{Subject, origin_of}
 use Rattle.strun_words.specs.declared.task.Task.{Task}
-use Rattle.strun_words.specs.declared.task.Task.TheVariants.{Bank, Generate, Pack, Run, Show}
+use Rattle.strun_words.specs.declared.task.Task.TheVariants.{At, Audit, Bank, Generate, Pack, Run, Show}
 
 -- what a task writes: of its one run the rendering (the events of the schedule, and then those of the drain where it has one), with or
--- without its journal, with the balances of a bank behind it, or the last line alone; or the scene's frames, or its text
-abbrev pub output : Task → Scene → List ℕ
+-- without its journal, with the balances of a bank behind it, or the last line alone; the scene's frames, or its text; or of a history what
+-- its audit finds, or the values at a timestamp
+abbrev pub output : (task : Task) → Subject (origin_of task) → List ℕ
 output (Run frames false) scene = render scene (cluster_run scene)
 output (Run frames true) scene = render_j scene (cluster_run scene)
 output Pack scene = bytes_of (frames_of scene)
@@ -29,6 +32,8 @@ output Show scene = spelling scene
 output (Generate seed false) scene = spelling scene
 output (Generate seed true) scene = end_line (counts scene (cluster_run scene))
 output Bank scene = render scene (cluster_run scene) ++ bank_lines scene.keys (balances_after scene)
+output Audit a = verdict_line a.answers a.verdict
+output (At time) a = at_lines time a.scene a.answers a.verdict
 
 -- what is promised of the answers of the run of a scene
 pub record RunHolds (scene : Scene) : Type 0 where
@@ -48,10 +53,12 @@ pub record RunHolds (scene : Scene) : Type 0 where
   pub closed : scene.drain ≡ true → NoneOpen scene (cluster_run scene)
 
 -- what is promised of what a task writes; a made scene keeps the limits of a scene
-abbrev pub Promised : Task → Scene → Type 0
+abbrev pub Promised : (task : Task) → Subject (origin_of task) → Type 0
 Promised (Run frames journal) scene = RunHolds scene
 Promised Pack scene = ⊤
 Promised Show scene = ⊤
 Promised (Generate seed false) scene = IsScene scene
 Promised (Generate seed true) scene = RunHolds scene
 Promised Bank scene = RunHolds scene × BankRunHolds scene
+Promised Audit a = TellsIsolation a
+Promised (At time) a = TellsIsolation a

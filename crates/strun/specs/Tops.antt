@@ -4,8 +4,7 @@ use Rattle.std.specs.Io.KnownBytes.{Appends}
 use Rattle.std.specs.Prelude.{List, Option, codes, ℕ, ◌≡◌, ◌⊎◌}
 use Rattle.str_outer.specs.Causes.{Rose}
 use Rattle.str_outer.specs.Pieces.{AppendsPrefix}
-use Rattle.str_scene.specs.Scenes.{Scene}
-use Rattle.strun.specs.Inputs.{HasScene, IsRefused, Offers, OffersNone, Origin, ReadFailed, origin_of}
+use Rattle.strun.specs.Inputs.{HasSubject, IsRefused, Offers, OffersNone, Origin, ReadFailed, Subject, origin_of}
 use Rattle.strun.specs.Outputs.{Promised, output}
 use Rattle.strun_words.specs.Tasks.{AskFor}
 use Rattle.strun_words.specs.declared.task.Task.{Task}
@@ -24,18 +23,18 @@ Asked words Holds = (task : Task) × AskFor words task × Holds task
 
 -- what a task has done where the status is Ok
 pub record Done (task : Task) (left left' held held' : Option (List ℕ)) : Type 0 where
-  -- it had this scene
-  pub scene : Scene
-  pub has : HasScene (origin_of task) left left' scene
+  -- it worked on this scene, or on this history with what its audit finds
+  pub subject : Subject (origin_of task)
+  pub has : HasSubject (origin_of task) left left' subject
   -- what the task writes of it was written, and what is promised of that holds
-  pub written : Appends held held' (output task scene)
-  pub promised : Promised task scene
+  pub written : Appends held held' (output task subject)
+  pub promised : Promised task subject
 
--- the task had a scene, and a prefix of what it writes of it was written
+-- the task had what it works on, and a prefix of what it writes of it was written
 pub record PartlyDone (task : Task) (left left' held held' : Option (List ℕ)) : Type 0 where
-  pub scene : Scene
-  pub has : HasScene (origin_of task) left left' scene
-  pub written : AppendsPrefix held held' (output task scene)
+  pub subject : Subject (origin_of task)
+  pub has : HasSubject (origin_of task) left left' subject
+  pub written : AppendsPrefix held held' (output task subject)
 
 -- nothing was written, or a prefix of what the task writes
 abbrev pub IsPartial : List (List ℕ) → Option (List ℕ) → Option (List ℕ) → Option (List ℕ) → Option (List ℕ) → Type 0
@@ -48,7 +47,7 @@ pub record IsTold {E : Type 0} (words : List (List ℕ)) (left left' : Option (L
   pub refused : status ≡ Refused → Asked words (λ task. IsRefused (origin_of task) left left' said)
   pub tells : Tells (line_of own_name said status) (held err) (held err') (faults err) (faults err') (wants err) (wants err')
 
--- where a scene is told, or none is to be read, and no read and no write failed, the status is Ok or want of memory
+-- where a scene or a history is told, or none is to be read, and no read and no write failed, the status is Ok or want of memory
 abbrev pub CompletesFrom : Origin → Option (List ℕ) → ℕ → ℕ → ℕ → ℕ → Status → Type 0
 CompletesFrom origin left read read' write write' status =
     Offers origin left → ¬ ReadFailed origin read read' → ¬ Rose write write' → (status ≡ StatusOk) ⊎ (status ≡ NoMemory)
@@ -57,7 +56,7 @@ CompletesFrom origin left read read' write write' status =
 abbrev pub Completes : List (List ℕ) → Option (List ℕ) → ℕ → ℕ → ℕ → ℕ → Status → Type 0
 Completes words left read read' write write' status = (task : Task) → AskFor words task → CompletesFrom (origin_of task) left read read' write write' status
 
--- where bytes are told that spell no scene and no read failed, they are refused, or memory was wanting
+-- where bytes are told that spell none and no read failed, they are refused, or memory was wanting
 abbrev pub RefusesFrom : Origin → Option (List ℕ) → ℕ → ℕ → Status → Type 0
 RefusesFrom origin left read read' status = OffersNone origin left → ¬ ReadFailed origin read read' → (status ≡ Refused) ⊎ (status ≡ NoMemory)
 

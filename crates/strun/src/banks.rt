@@ -78,7 +78,7 @@ fn push_balance(got: Got, keys: &KeyTable, lines: &mut Vec<u8>) -> Result<(), Al
 }
 
 /// Appends a key with its value.
-fn push_pair(got: Got, keys: &KeyTable, lines: &mut Vec<u8>) -> Result<(), AllocError>
+pub(crate) fn push_pair(got: Got, keys: &KeyTable, lines: &mut Vec<u8>) -> Result<(), AllocError>
     ensures { OnOk result (lines.new.items ≡ lines.old.items ++ pair_spelled keys.now got) }
 {
     keys.push_key(got.key, lines)?;

@@ -1,7 +1,8 @@
-//! The program `strun`: it runs a scene and writes the released answers, and the balances where it is a bank's; or writes a scene's text
-//! as frames or the other way, or makes a scene.
+//! The program `strun`: it runs a scene and writes the released answers, and the balances where it is a bank's; or says of answers whether
+//! snapshot isolation holds of them, or what stood at a timestamp; or writes a scene's text as frames or the other way, or makes a scene.
 #![tactic(auto)]
 
+mod audits;
 mod banks;
 mod books;
 mod inputs;

@@ -1,7 +1,7 @@
 //! What each task does.
 ghost use Rattle.scene_gen.specs.Made.{made};
 ghost use Rattle.std.specs.Io.KnownBytes.{Appends};
-ghost use Rattle.std.specs.Prelude.{◌≡◌, IfErr, OnErr, OnOk, false, true};
+ghost use Rattle.std.specs.Prelude.{◌≡◌, false, true, IfErr, OnErr, OnOk};
 ghost use Rattle.str_outer.specs.Pieces.{AppendsPrefix};
 ghost use Rattle.strun.specs.Failing.{TaskFails};
 ghost use Rattle.strun.specs.Inputs.{ReadsNothing, origin_of};
@@ -9,18 +9,20 @@ ghost use Rattle.strun.specs.Outputs.{output};
 ghost use Rattle.strun.specs.Tops.{Done};
 ghost use Rattle.top_status.specs.Failures.{HasWriteCause};
 
+use crate::audits::{write_at, write_verdict};
 use crate::banks::write_bank;
 use crate::books::book_of;
-use crate::inputs::{Form, form_of, read_form};
+use crate::inputs::{read_either, read_packed, read_past, read_text};
 use crate::journal::write_journal;
 use crate::writing::{write_end, write_packed, write_run, write_text};
+use history_audit::audit;
 use scene_gen::make;
 use std::alloc::Global;
 use str_outer::{Sink, Source};
 use strun_words::Task;
 use top_status::Failure;
 
-/// Does a task: takes its scene, and writes what the task writes of it.
+/// Does a task: takes what it works on, and writes what the task writes of it.
 pub(crate) fn do_task<S: Source, K: Sink>(
     alloc: Global,
     task: Task,
@@ -46,6 +48,8 @@ pub(crate) fn do_task<S: Source, K: Sink>(
         Task::Generate { seed, run: false } => write_made(alloc, seed, out),
         Task::Generate { seed, run: true } => write_made_end(alloc, seed, out),
         Task::Bank => do_bank(alloc, src, out),
+        Task::Audit => do_audit(alloc, src, out),
+        Task::At { time } => do_at(alloc, time, src, out),
     }
 }
 
@@ -60,7 +64,7 @@ fn do_run<S: Source, K: Sink>(
     ensures failed { IfErr result (TaskFails (Task.Run frames false) (S.left src.old) (S.left src.new) (S.faults src.old) (S.faults src.new)
         (K.held out.old) (K.held out.new) (K.faults out.old) (K.faults out.new)) }
 {
-    let scene = read_form(alloc, form_of(frames), src)?;
+    let scene = read_either(alloc, frames, src)?;
     write_run(alloc, scene, out)
 }
 
@@ -75,7 +79,7 @@ fn do_journal<S: Source, K: Sink>(
     ensures failed { IfErr result (TaskFails (Task.Run frames true) (S.left src.old) (S.left src.new) (S.faults src.old) (S.faults src.new)
         (K.held out.old) (K.held out.new) (K.faults out.old) (K.faults out.new)) }
 {
-    let scene = read_form(alloc, form_of(frames), src)?;
+    let scene = read_either(alloc, frames, src)?;
     write_journal(alloc, scene, out)
 }
 
@@ -85,7 +89,7 @@ fn do_pack<S: Source, K: Sink>(alloc: Global, src: &mut S, out: &mut K) -> Resul
     ensures failed { IfErr result (TaskFails Task.Pack (S.left src.old) (S.left src.new) (S.faults src.old) (S.faults src.new)
         (K.held out.old) (K.held out.new) (K.faults out.old) (K.faults out.new)) }
 {
-    let scene = read_form(alloc, Form::Text, src)?;
+    let scene = read_text(alloc, src)?;
     write_packed(alloc, &scene, out)
 }
 
@@ -95,7 +99,7 @@ fn do_show<S: Source, K: Sink>(alloc: Global, src: &mut S, out: &mut K) -> Resul
     ensures failed { IfErr result (TaskFails Task.Show (S.left src.old) (S.left src.new) (S.faults src.old) (S.faults src.new)
         (K.held out.old) (K.held out.new) (K.faults out.old) (K.faults out.new)) }
 {
-    let scene = read_form(alloc, Form::Frames, src)?;
+    let scene = read_packed(alloc, src)?;
     write_text(alloc, &scene, out)
 }
 
@@ -105,9 +109,36 @@ fn do_bank<S: Source, K: Sink>(alloc: Global, src: &mut S, out: &mut K) -> Resul
     ensures failed { IfErr result (TaskFails Task.Bank (S.left src.old) (S.left src.new) (S.faults src.old) (S.faults src.new)
         (K.held out.old) (K.held out.new) (K.faults out.old) (K.faults out.new)) }
 {
-    let scene = read_form(alloc, Form::Text, src)?;
+    let scene = read_text(alloc, src)?;
     let book = book_of(alloc, &scene)?;
     write_bank(alloc, scene, &book, out)
+}
+
+/// `audit`: reads a history, and writes what its audit finds.
+fn do_audit<S: Source, K: Sink>(alloc: Global, src: &mut S, out: &mut K) -> Result<(), Failure>
+    ensures done { OnOk result (Done Task.Audit (S.left src.old) (S.left src.new) (K.held out.old) (K.held out.new)) }
+    ensures failed { IfErr result (TaskFails Task.Audit (S.left src.old) (S.left src.new) (S.faults src.old) (S.faults src.new)
+        (K.held out.old) (K.held out.new) (K.faults out.old) (K.faults out.new)) }
+{
+    let history = read_past(alloc, src)?;
+    let verdict = audit(alloc, &history.scene, &history.answers)?;
+    write_verdict(alloc, history.answers.as_slice(), verdict, out)
+}
+
+/// `at T`: reads a history, and writes the values that stood at a timestamp, or what its audit finds where that is a no.
+fn do_at<S: Source, K: Sink>(
+    alloc: Global,
+    time: u64,
+    src: &mut S,
+    out: &mut K,
+) -> Result<(), Failure>
+    ensures done { OnOk result (Done (Task.At time) (S.left src.old) (S.left src.new) (K.held out.old) (K.held out.new)) }
+    ensures failed { IfErr result (TaskFails (Task.At time) (S.left src.old) (S.left src.new) (S.faults src.old) (S.faults src.new)
+        (K.held out.old) (K.held out.new) (K.faults out.old) (K.faults out.new)) }
+{
+    let history = read_past(alloc, src)?;
+    let verdict = audit(alloc, &history.scene, &history.answers)?;
+    write_at(alloc, time, &history, verdict, out)
 }
 
 /// `gen N`: makes a scene of the seed, and writes its text.

@@ -54,6 +54,16 @@ const BANK_LINES: &[u8] =
 const NO_BANK: &[u8] =
     b"str 1\nnodes 1\npart 1 1\nsession 1\ntx\nput a@1 100\nput b@1 0\nsession 1\ntx\nget a@1\nget b@1\ntx\nput a@1 1\nschedule\nend\n";
 
+/// Two sums on one key, of which one commits and the other aborts.
+const PAST: &[u8] =
+    b"str 1\nnodes 1\npart 1 1\nsession 1\ntx\nadd a@1 1\nsession 1\ntx\nadd a@1 1\nschedule\nc 1 10\nc 2 10\ndrain\nend\n\
+    1.1 s1/1 commit rs=10 fc=11\n1.2 s2/1 abort rs=10 conflict 1.1 a@1 at=1\nend commits=1 aborts=1 held=0 unbegun=0 messages=0\n";
+
+/// The same with answers of which both commit, and so overlap.
+const NO_PAST: &[u8] =
+    b"str 1\nnodes 1\npart 1 1\nsession 1\ntx\nadd a@1 1\nsession 1\ntx\nadd a@1 1\nschedule\nc 1 10\nc 2 10\ndrain\nend\n\
+    1.1 s1/1 commit rs=10 fc=11\n1.2 s2/1 commit rs=10 fc=12\nend commits=2 aborts=0 held=0 unbegun=0 messages=0\n";
+
 /// The last line of the run of the scene that is made of 7.
 const SEVEN_END: &[u8] = b"end commits=287 aborts=13 held=0 unbegun=0 messages=1451\n";
 
@@ -444,6 +454,81 @@ fn banks(rt: HostRuntime) -> Result<(), Fail> {
             out: b"",
             err: b"strun: line 3: cut\n",
             ..bank
+        },
+    )
+}
+
+#[test]
+fn audits(rt: HostRuntime) -> Result<(), Fail> {
+    let audit = Call {
+        words: &["audit"],
+        text: PAST,
+        failing_read: 0,
+        failing_write: 0,
+        status: Status::Ok,
+        out: b"si yes answers=2\n",
+        err: b"",
+    };
+    let at = Call {
+        words: &["at", "11"],
+        out: b"a@1=1\nat 11 keys=1\n",
+        ..audit
+    };
+    let no = b"si no answer=2 clause=I3\n";
+    check(&rt, &audit)?;
+    check(&rt, &at)?;
+    check(
+        &rt,
+        &Call {
+            words: &["at", "10"],
+            out: b"at 10 keys=0\n",
+            ..at
+        },
+    )?;
+    check(
+        &rt,
+        &Call {
+            text: NO_PAST,
+            out: no,
+            ..audit
+        },
+    )?;
+    check(
+        &rt,
+        &Call {
+            text: NO_PAST,
+            out: no,
+            ..at
+        },
+    )?;
+    check(
+        &rt,
+        &Call {
+            failing_write: 2,
+            status: Status::WriteFault,
+            out: b"si yes answers=2",
+            err: b"strun: write fault\n",
+            ..audit
+        },
+    )?;
+    check(
+        &rt,
+        &Call {
+            text: &PAST[..146],
+            status: Status::Refused,
+            out: b"",
+            err: b"strun: line 16: cut\n",
+            ..at
+        },
+    )?;
+    check(
+        &rt,
+        &Call {
+            words: &["at", "011"],
+            status: Status::Usage,
+            out: b"",
+            err: b"strun: usage\n",
+            ..audit
         },
     )
 }

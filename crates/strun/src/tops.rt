@@ -20,10 +20,12 @@ use top_status::{Failure, Status, answer};
 /// the last line; with `--journal` each event has a line before its answers. `pack` writes the frames of a text's scene, and `show`
 /// the text of the frames' scene. `gen N` reads nothing and writes the text of the scene that is made of N; with `--run` it runs that
 /// scene and writes the last line alone. `bank` reads the text of a bank's scene, runs it, and writes the answers, the last line, the
-/// balance of each account and their sum.
+/// balance of each account and their sum. `audit` reads a history, that is the text of a scene with answers and their last line behind it,
+/// and writes whether snapshot isolation holds of the answers, or the first answer and the first clause where it doesn't. `at T` writes the
+/// values that stood at timestamp T, or what `audit` writes where it doesn't.
 ///
 /// Where it reads `src`, it does so to its end or to 1,048,577 bytes. Where the status isn't `Ok`, one line is written on `err`; a
-/// refusal of `err` changes no status. Refused are more than 1,048,576 bytes, a text with a bad line, frames with a bad frame, and for
+/// refusal of `err` changes no status. Refused are more than 1,048,576 bytes, a text or a history with a bad line, frames with a bad frame, and for
 /// `bank` a scene that is no bank's; the line says which. After a write fault or want of memory `out` has taken a prefix of what would have been written.
 ///
 /// What is written, and what is promised of it, is the clause `done`: `Done` of `specs/Tops.antt`.

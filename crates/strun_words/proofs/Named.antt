@@ -1,6 +1,6 @@
 -- The name of the subcommand tells which task was found.
 use Rattle.clap.proofs.WalkLemmas.{first_value-rows, one_text-rows}
-use Rattle.clap.specs.Words.{Row, Text, first_of, first_value, one_of, one_text, rows_of, subcommand_name_of, subcommand_rows, subcommand_rows_of}
+use Rattle.clap.specs.Words.{Row, Text, first_value, one_text, rows_of, subcommand_name_of, subcommand_rows, subcommand_rows_of}
 use Rattle.clap.specs.declared.parser.matches.ArgMatches.{ArgMatches}
 use Rattle.clap.specs.declared.parser.matches.ArgMatches.TheViews.{out-ArgMatches, out-SubCommand}
 use Rattle.clap.specs.declared.parser.matches.SubCommand.{SubCommand}
@@ -8,11 +8,11 @@ use Rattle.clap.specs.declared.parser.matches.Found.{Found}
 use Rattle.std.proofs.Common.{Bool, List, None, Option, Some, ap, ap₂, arith, refl, subst, sym, ◌∙◌, ◌≡◌}
 use Rattle.std.specs.Box.{box_value}
 use Rattle.std.proofs.lemmas.Fmt.{decimal_injective}
-use Rattle.std.specs.Prelude.{Box, codes, decimal, false, option_map, slice_index, true, ℕ, ◌<◌, ◌^◌}
+use Rattle.std.specs.Prelude.{Box, codes, decimal, false, if◌then◌else◌, option_map, slice_index, true, ℕ, ◌<◌, ◌==◌, ◌^◌}
 use Rattle.strun_words.proofs.Apart.{not_less}
-use Rattle.strun_words.specs.Parsing.{Finds, HasArguments, HasFlag, flag_text, name_of}
+use Rattle.strun_words.specs.Parsing.{Finds, HasArguments, HasFlag, HasNumber, name_of}
 use Rattle.strun_words.specs.declared.task.Task.{Task}
-use Rattle.strun_words.specs.declared.task.Task.TheVariants.{Bank, Generate, Pack, Run, Show}
+use Rattle.strun_words.specs.declared.task.Task.TheVariants.{At, Audit, Bank, Generate, Pack, Run, Show}
 
 -- the name of a subcommand that was found
 abbrev name_found : Option (Text × List Row) → Option Text
@@ -42,33 +42,45 @@ pub flag_read : (f : Found) (name : Text) (flag got : Bool) → HasFlag name fla
 flag_read f name true got h t e = t (one_text-rows f name ∙ h)
 flag_read f name false got h t e = e (one_text-rows f name ∙ h)
 
--- the first byte of a name
+-- the byte of a name at a place
+byte_at : (i : ℕ) (a b : Text) → a ≡ b → slice_index a i ≡ slice_index b i
+byte_at i a b e = ap (λ (t : Text). slice_index t i) e
+
 first_byte : (a b : Text) → a ≡ b → slice_index a 0 ≡ slice_index b 0
-first_byte a b e = ap (λ (t : Text). slice_index t 0) e
+first_byte a b e = byte_at 0 a b e
 
--- the task with the name `pack`
+-- the task of a name that has no arguments
+abbrev plain_told : Text → Option Task
+plain_told name =
+    if slice_index name 0 == 112 then Some Pack
+    else (if slice_index name 0 == 115 then Some Show
+    else (if slice_index name 0 == 98 then Some Bank
+    else (if slice_index name 2 == 100 then Some Audit else None)))
+
+-- it is the task of that name
+plain_named : (name : Text) (t task : Task) → plain_told name ≡ Some t → name_of task ≡ name → t ≡ task
+plain_named name t task p e = by_task task (ap plain_told e ∙ p)
+  where
+    by_task : (u : Task) → plain_told (name_of u) ≡ Some t → t ≡ u
+    by_task (Run frames journal) q = absurd (cc q)
+    by_task Pack q = cc q
+    by_task Show q = cc q
+    by_task (Generate seed run) q = absurd (cc q)
+    by_task Bank q = cc q
+    by_task Audit q = cc q
+    by_task (At time) q = absurd (cc q)
+
 pub pack_named : (task : Task) → name_of task ≡ codes "pack" → Pack ≡ task
-pack_named Pack e = refl
-pack_named (Run frames journal) e = not_less 112 114 (sym (first_byte _ _ e)) (omega arith)
-pack_named Show e = not_less 112 115 (sym (first_byte _ _ e)) (omega arith)
-pack_named (Generate seed run) e = not_less 103 112 (first_byte _ _ e) (omega arith)
-pack_named Bank e = not_less 98 112 (first_byte _ _ e) (omega arith)
+pack_named task e = plain_named (codes "pack") Pack task refl e
 
--- the task with the name `show`
 pub show_named : (task : Task) → name_of task ≡ codes "show" → Show ≡ task
-show_named Show e = refl
-show_named (Run frames journal) e = not_less 114 115 (first_byte _ _ e) (omega arith)
-show_named Pack e = not_less 112 115 (first_byte _ _ e) (omega arith)
-show_named (Generate seed run) e = not_less 103 115 (first_byte _ _ e) (omega arith)
-show_named Bank e = not_less 98 115 (first_byte _ _ e) (omega arith)
+show_named task e = plain_named (codes "show") Show task refl e
 
--- the task with the name `bank`
 pub bank_named : (task : Task) → name_of task ≡ codes "bank" → Bank ≡ task
-bank_named Bank e = refl
-bank_named (Run frames journal) e = not_less 98 114 (sym (first_byte _ _ e)) (omega arith)
-bank_named Pack e = not_less 98 112 (sym (first_byte _ _ e)) (omega arith)
-bank_named Show e = not_less 98 115 (sym (first_byte _ _ e)) (omega arith)
-bank_named (Generate seed run) e = not_less 98 103 (sym (first_byte _ _ e)) (omega arith)
+bank_named task e = plain_named (codes "bank") Bank task refl e
+
+pub audit_named : (task : Task) → name_of task ≡ codes "audit" → Audit ≡ task
+audit_named task e = plain_named (codes "audit") Audit task refl e
 
 -- a task with the name `run` has the flags that are read
 pub run_named : (f : Found) (frames journal : Bool) (task : Task) → name_of task ≡ codes "run" → HasArguments task (rows_of f) → ((flag : Bool) → HasFlag (codes "frames") flag (rows_of f) → frames ≡ flag)
@@ -78,30 +90,44 @@ run_named f frames journal Pack e h x y = not_less 112 114 (first_byte _ _ e) (o
 run_named f frames journal Show e h x y = not_less 114 115 (sym (first_byte _ _ e)) (omega arith)
 run_named f frames journal (Generate seed run) e h x y = not_less 103 114 (first_byte _ _ e) (omega arith)
 run_named f frames journal Bank e h x y = not_less 98 114 (first_byte _ _ e) (omega arith)
+run_named f frames journal Audit e h x y = not_less 97 114 (first_byte _ _ e) (omega arith)
+run_named f frames journal (At time) e h x y = not_less 97 114 (first_byte _ _ e) (omega arith)
 
 -- a task with the name `gen` has a seed and a flag
-generate_named : {X : Type 0} (rows : List Row) (task : Task) → name_of task ≡ codes "gen" → HasArguments task rows
-    → ((seed : ℕ) (run : Bool) → task ≡ Generate seed run → HasArguments (Generate seed run) rows → X) → X
-generate_named rows (Generate seed run) e h then = then seed run refl h
-generate_named rows (Run frames journal) e h then = not_less 103 114 (sym (first_byte _ _ e)) (omega arith)
-generate_named rows Pack e h then = not_less 103 112 (sym (first_byte _ _ e)) (omega arith)
-generate_named rows Show e h then = not_less 103 115 (sym (first_byte _ _ e)) (omega arith)
-generate_named rows Bank e h then = not_less 98 103 (first_byte _ _ e) (omega arith)
+pub generate_named : {X : Type 0} (f : Found) (task : Task) → name_of task ≡ codes "gen" → HasArguments task (rows_of f)
+    → ((n : ℕ) (run : Bool) → Generate n run ≡ task → HasArguments (Generate n run) (rows_of f) → X) → X
+generate_named f (Generate seed run) e h go = go seed run refl h
+generate_named f (Run frames journal) e h go = not_less 103 114 (sym (first_byte _ _ e)) (omega arith)
+generate_named f Pack e h go = not_less 103 112 (sym (first_byte _ _ e)) (omega arith)
+generate_named f Show e h go = not_less 103 115 (sym (first_byte _ _ e)) (omega arith)
+generate_named f Bank e h go = not_less 98 103 (first_byte _ _ e) (omega arith)
+generate_named f Audit e h go = not_less 97 103 (first_byte _ _ e) (omega arith)
+generate_named f (At time) e h go = not_less 97 103 (first_byte _ _ e) (omega arith)
+
+-- a task with the name `at` has a timestamp
+pub at_named : {X : Type 0} (f : Found) (task : Task) → name_of task ≡ codes "at" → HasArguments task (rows_of f)
+    → ((n : ℕ) → At n ≡ task → HasArguments (At n) (rows_of f) → X) → X
+at_named f (At time) e h go = go time refl h
+at_named f (Run frames journal) e h go = not_less 97 114 (sym (first_byte _ _ e)) (omega arith)
+at_named f Pack e h go = not_less 97 112 (sym (first_byte _ _ e)) (omega arith)
+at_named f Show e h go = not_less 97 115 (sym (first_byte _ _ e)) (omega arith)
+at_named f (Generate seed run) e h go = not_less 97 103 (sym (first_byte _ _ e)) (omega arith)
+at_named f Bank e h go = not_less 97 98 (sym (first_byte _ _ e)) (omega arith)
+at_named f Audit e h go = not_less 116 117 (sym (byte_at 1 _ _ e)) (omega arith)
+
+-- ---- the number of an argument
 
 -- it has a word
-pub word_given : (f : Found) (task : Task) → first_value f (codes "seed") ≡ None → name_of task ≡ codes "gen" → HasArguments task (rows_of f) → None ≡ Some task
-word_given f task n e h = generate_named (rows_of f) task e h (λ seed run q g. absurd (cc (first_value-rows f (codes "seed"), n, g.1)))
+pub word_given : (f : Found) (name : Text) (number : ℕ) → first_value f name ≡ None → HasNumber name number (rows_of f) → None ≡ Some number
+word_given f name number n h = absurd (cc (first_value-rows f name, n, h.1))
 
--- and that is a number's decimal
-pub number_given : (f : Found) (word : Text) (task : Task) → first_value f (codes "seed") ≡ Some word → ((n : ℕ) → n < 2 ^ 64 → ¬ (decimal n ≡ word)) → name_of task ≡ codes "gen"
-    → HasArguments task (rows_of f) → None ≡ Some task
-number_given f word task w n e h =
-    generate_named (rows_of f) task e h (λ seed run q g. let same : decimal seed ≡ word = cc (first_value-rows f (codes "seed"), w, g.1) in absurd (n seed g.0 same))
+-- that is a number's decimal
+pub number_given : (f : Found) (name word : Text) (number : ℕ) → first_value f name ≡ Some word → ((n : ℕ) → n < 2 ^ 64 → ¬ (decimal n ≡ word)) → HasNumber name number (rows_of f)
+    → None ≡ Some number
+number_given f name word number w n h = let same : decimal number ≡ word = cc (first_value-rows f name, w, h.1) in absurd (n number h.0 same)
 
--- the seed is that number, and the flag is as it is read
-pub generate_read : (f : Found) (word : Text) (got : ℕ) (flag : Bool) (task : Task) → first_value f (codes "seed") ≡ Some word → decimal got ≡ word → got < 2 ^ 64
-    → ((run : Bool) → HasFlag (codes "run") run (rows_of f) → flag ≡ run) → name_of task ≡ codes "gen" → HasArguments task (rows_of f) → Generate got flag ≡ task
-generate_read f word got flag task w d l r e h =
-    generate_named (rows_of f) task e h (λ seed run q g.
-    let same : decimal got ≡ decimal seed = cc (first_value-rows f (codes "seed"), w, g.1, d) in
-    ap₂ Generate (decimal_injective got seed l g.0 same) (r run g.2) ∙ sym q)
+-- and of no other's
+pub number_read : (f : Found) (name word : Text) (got number : ℕ) → first_value f name ≡ Some word → decimal got ≡ word → got < 2 ^ 64 → HasNumber name number (rows_of f)
+    → Some got ≡ Some number
+number_read f name word got number w d l h =
+    let same : decimal got ≡ decimal number = cc (first_value-rows f name, w, h.1, d) in ap Some (decimal_injective got number l h.0 same)

@@ -1,7 +1,7 @@
 -- The lists of words that are taken, and what each asks for.
 use Rattle.std.specs.Prelude.{List, [], codes, decimal, false, true, ℕ, ⊤, ◌<◌, ◌^◌, ◌∷◌, ◌≡◌}
 use Rattle.strun_words.specs.declared.task.Task.{Task}
-use Rattle.strun_words.specs.declared.task.Task.TheVariants.{Bank, Generate, Pack, Run, Show}
+use Rattle.strun_words.specs.declared.task.Task.TheVariants.{At, Audit, Bank, Generate, Pack, Run, Show}
 use Rattle.top_status.specs.declared.failure.Failure.{Failure}
 use Rattle.top_status.specs.declared.failure.Failure.TheVariants.{Memory, Usage}
 
@@ -16,10 +16,13 @@ words_of Show = codes "show" ∷ []
 words_of (Generate seed false) = codes "gen" ∷ decimal seed ∷ []
 words_of (Generate seed true) = codes "gen" ∷ decimal seed ∷ codes "--run" ∷ []
 words_of Bank = codes "bank" ∷ []
+words_of Audit = codes "audit" ∷ []
+words_of (At time) = codes "at" ∷ decimal time ∷ []
 
--- a seed has 64 bits
+-- a seed has 64 bits, and so has a timestamp
 abbrev pub IsTask : Task → Type 0
 IsTask (Generate seed run) = seed < 2 ^ 64
+IsTask (At time) = time < 2 ^ 64
 IsTask _ = ⊤
 
 -- the words ask for the task

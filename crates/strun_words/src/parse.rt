@@ -6,7 +6,7 @@ ghost use Rattle.clap.specs.Words.{app_of, found_of, kind_of, rows_of, rule_of, 
 ghost use Rattle.clap.specs.declared.builder.command.Command.TheViews.{out-Command as fields_of};
 ghost use Rattle.std.specs.Prelude.{◌≡◌, false, true, codes, map, Some, IfErr, IfOk};
 ghost use Rattle.std.specs.String.{string_bytes};
-ghost use Rattle.strun_words.specs.Parsing.{Finds, HasArguments, IsFailureOf, flag, generate_command, name_of, program, run_command};
+ghost use Rattle.strun_words.specs.Parsing.{Finds, HasArguments, HasNumber, IsFailureOf, at_command, flag, generate_command, name_of, program, run_command};
 ghost use Rattle.strun_words.specs.Tasks.{AskFor, IsUnasked};
 
 use crate::task::Task;
@@ -16,8 +16,8 @@ use std::alloc::{AllocError, Global};
 use str_base::read_u64;
 use top_status::Failure;
 
-/// What the words ask for: `run` with its flags, `pack`, `show`, `gen` with a number and its flag, or `bank`, in this order, and nothing
-/// else.
+/// What the words ask for: `run` with its flags, `pack`, `show`, `gen` with a number and its flag, `bank`, `audit`, or `at` with a number,
+/// in this order, and nothing else.
 ///
 /// # Errors
 ///
@@ -97,6 +97,15 @@ fn generate_command<'a>(alloc: Global) -> Result<Command<'a>, AllocError>
         .arg(flag(alloc, "run"))
 }
 
+/// The subcommand `at`.
+fn at_command<'a>(alloc: Global) -> Result<Command<'a>, AllocError>
+    ensures app { IfOk result (λ command. app_of command ≡ at_command) }
+    ensures local { IfOk result (λ command. (fields_of command).has_globals ≡ false) }
+{
+    let time = Arg::new(alloc, "time").action(ArgAction::Set);
+    Command::new(alloc, "at").arg(time)
+}
+
 /// The subcommands. The words have no program's name in front.
 fn program<'a>(alloc: Global) -> Result<Command<'a>, AllocError>
     ensures { IfOk result (λ command. app_of command ≡ program) }
@@ -107,7 +116,9 @@ fn program<'a>(alloc: Global) -> Result<Command<'a>, AllocError>
         .subcommand(Command::new(alloc, "pack"))?
         .subcommand(Command::new(alloc, "show"))?
         .subcommand(generate_command(alloc)?)?
-        .subcommand(Command::new(alloc, "bank"))
+        .subcommand(Command::new(alloc, "bank"))?
+        .subcommand(Command::new(alloc, "audit"))?
+        .subcommand(at_command(alloc)?)
 }
 
 /// What `clap` makes of the words. It fails on the words of no task, but for want of memory.
@@ -139,6 +150,12 @@ fn task_of(matches: &ArgMatches<'_>) -> Option<Task>
     if name == "bank" {
         return Some(Task::Bank);
     }
+    if name == "audit" {
+        return Some(Task::Audit);
+    }
+    if name == "at" {
+        return at_of(given);
+    }
     None
 }
 
@@ -156,10 +173,26 @@ fn run_of(given: &ArgMatches<'_>) -> Task
 fn generate_of(given: &ArgMatches<'_>) -> Option<Task>
     ensures { (task : _) → name_of task ≡ codes "gen" → HasArguments task (rows_of (found_of given.now)) → result ≡ Some task }
 {
-    let word = given.get_str("seed")?;
-    let seed = read_u64(word.as_bytes())?;
+    let seed = number_of(given, "seed")?;
     Some(Task::Generate {
         seed,
         run: given.get_flag("run"),
     })
+}
+
+/// The task of the arguments of `at`. None where no number is among them.
+fn at_of(given: &ArgMatches<'_>) -> Option<Task>
+    ensures { (task : _) → name_of task ≡ codes "at" → HasArguments task (rows_of (found_of given.now)) → result ≡ Some task }
+{
+    let time = number_of(given, "time")?;
+    Some(Task::At { time })
+}
+
+/// The number that an argument is. None where it is no canonical decimal of 64 bits.
+fn number_of(given: &ArgMatches<'_>, name: &str) -> Option<u64>
+    ensures { (number : _) → HasNumber name.now number (rows_of (found_of given.now)) → result ≡ Some number }
+{
+    let word = given.get_str(name)?;
+    let number = read_u64(word.as_bytes())?;
+    Some(number)
 }

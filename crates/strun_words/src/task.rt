@@ -19,6 +19,10 @@ pub enum Task {
     Generate { seed: u64, run: bool },
     /// Run the scene of a bank, which comes as its text, and write the answers, the last line, the balance of each account and their sum.
     Bank,
+    /// Say whether snapshot isolation holds of a history, which comes as the text of its scene with its answers and its last line behind it.
+    Audit,
+    /// Write the values that stood at a timestamp in such a history.
+    At { time: u64 },
 }
 
 impl Task {
@@ -32,6 +36,8 @@ impl Task {
             Task::Show => are_same(words, &["show"]),
             Task::Generate { seed, run } => is_generate(seed, run, words),
             Task::Bank => are_same(words, &["bank"]),
+            Task::Audit => are_same(words, &["audit"]),
+            Task::At { time } => is_at(time, words),
         }
     }
 }
@@ -59,6 +65,15 @@ fn is_generate(seed: u64, run: bool, words: &[&str]) -> bool
     } else {
         are_same(words, &["gen", number])
     }
+}
+
+/// Whether the words are `at` with this timestamp.
+fn is_at(time: u64, words: &[&str]) -> bool
+    ensures { Decides result (map (λ w. w.now) words.now ≡ words_of (Task.At time)) }
+{
+    let mut digits = Buffer::new();
+    let number = digits.format(time);
+    are_same(words, &["at", number])
 }
 
 /// Whether two lists of words are the same.

@@ -42,6 +42,13 @@ fn lists_that_are_taken(rt: HostRuntime) -> Result<(), Fail> {
     check(&rt, &["pack"], Ok(Task::Pack))?;
     check(&rt, &["show"], Ok(Task::Show))?;
     check(&rt, &["bank"], Ok(Task::Bank))?;
+    check(&rt, &["audit"], Ok(Task::Audit))?;
+    check(&rt, &["at", "0"], Ok(Task::At { time: 0 }))?;
+    check(
+        &rt,
+        &["at", "18446744073709551615"],
+        Ok(Task::At { time: u64::MAX }),
+    )?;
     check(&rt, &["gen", "0"], made_of(0, false))?;
     check(&rt, &["gen", "7", "--run"], made_of(7, true))?;
     check(
@@ -53,7 +60,7 @@ fn lists_that_are_taken(rt: HostRuntime) -> Result<(), Fail> {
 
 #[test]
 fn other_lists(rt: HostRuntime) -> Result<(), Fail> {
-    let lists: [&[&str]; 37] = [
+    let lists: [&[&str]; 45] = [
         &[],
         &[""],
         &["--"],
@@ -91,6 +98,14 @@ fn other_lists(rt: HostRuntime) -> Result<(), Fail> {
         &["gen", "7", "8"],
         &["gen", "18446744073709551616"],
         &["7", "gen"],
+        &["audit", "7"],
+        &["audit", "--journal"],
+        &["at"],
+        &["at", "07"],
+        &["at", "-1"],
+        &["at", "18446744073709551616"],
+        &["at", "7", "8"],
+        &["7", "at"],
     ];
     for words in lists {
         check(&rt, words, Err(Status::Usage))?;

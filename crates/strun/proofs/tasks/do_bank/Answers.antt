@@ -1,7 +1,5 @@
-use Rattle.std.proofs.Common.{refl}
 use Rattle.std.proofs.lemmas.Result.{err_from_is_err_and}
 use Rattle.strun.proofs.Doing.{bank_unread, has_bank, no_bank, task_done, writing_failed}
-use Rattle.strun.specs.Inputs.Origin.{reads_bank}
 use Rattle.strun_words.specs.declared.task.Task.TheVariants.{Bank}
 use Rattle.strun.proofs.tasks.do_bank.Goals as goal
 
@@ -17,12 +15,12 @@ returns-in_err-book-clause-failed g c =
 
 pub returns-clause-done : goal.returns-clause-done
 returns-clause-done g c =
-    task_done Bank reads_bank _ _ _ _ c.in_ok-scene.scene c.write_bank.result refl
+    task_done Bank _ _ _ _ c.in_ok-scene.scene c.write_bank.result
     (has_bank _ _ c.in_ok-scene.scene c.in_ok-book.book.accounts.items c.in_ok-book.book.amounts.items c.in_ok-scene.ensures.taken c.in_ok-book.ensures.bank)
     c.write_bank.ensures.written
 
 pub returns-clause-failed : goal.returns-clause-failed
 returns-clause-failed g c =
-    writing_failed Bank reads_bank _ _ _ _ _ _ _ _ c.in_ok-scene.scene c.write_bank.result refl
+    writing_failed Bank _ _ _ _ _ _ _ _ c.in_ok-scene.scene c.write_bank.result
     (has_bank _ _ c.in_ok-scene.scene c.in_ok-book.book.accounts.items c.in_ok-book.book.amounts.items c.in_ok-scene.ensures.taken c.in_ok-book.ensures.bank)
     c.write_bank.ensures.partial c.write_bank.ensures.failed

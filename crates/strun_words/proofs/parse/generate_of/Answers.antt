@@ -1,22 +1,15 @@
-use Rattle.clap.specs.Words.{first_value, found_of}
-use Rattle.std.proofs.Common.{List, Option, Some, ap, arith, codes, refl, sym, ℕ, ◌<◌, ◌^◌, ◌∙◌, ◌≡◌}
-use Rattle.strun_words.proofs.Named.{flag_read, generate_read, number_given, word_given}
+use Rattle.clap.specs.Words.{found_of}
+use Rattle.std.proofs.Common.{Some, ap, ap₂, codes, ◌∙◌, ◌≡◌}
+use Rattle.strun_words.proofs.Named.{flag_read, generate_named}
 use Rattle.strun_words.proofs.parse.generate_of.Goals as goal
-
-pub returns-in_err-word : goal.returns-in_err-word
-returns-in_err-word c = λ task e h. c.from_residual.ensures ∙ word_given (found_of c.args.given.now) task (sym c.in_err-word.ensures) e h
+use Rattle.strun_words.specs.declared.task.Task.TheVariants.{Generate}
 
 pub returns-in_err-seed : goal.returns-in_err-seed
 returns-in_err-seed c = λ task e h.
-    let word : first_value (found_of c.args.given.now) (codes "seed") ≡ Some c.as_bytes.result.now =
-    sym c.in_ok-word.ensures ∙ ap (λ (t : List ℕ). Some t) (sym c.as_bytes.ensures.value) in
-    c.from_residual-in_err-seed.ensures
-    ∙ number_given (found_of c.args.given.now) c.as_bytes.result.now task word (c.in_err-seed.ensures.none refl) e h
+    c.from_residual.ensures ∙ generate_named (found_of c.args.given.now) task e h (λ n run q g. absurd (cc (c.in_err-seed.ensures n g.0)))
 
 pub returns : goal.returns
 returns c = λ task e h.
-    let word : first_value (found_of c.args.given.now) (codes "seed") ≡ Some c.as_bytes.result.now =
-    sym c.in_ok-word.ensures ∙ ap (λ (t : List ℕ). Some t) (sym c.as_bytes.ensures.value) in
-    let fits : c.in_ok-seed.seed < 2 ^ 64 = omega arith in
-    ap Some (generate_read (found_of c.args.given.now) c.as_bytes.result.now c.in_ok-seed.seed c.get_flag.result task word c.in_ok-seed.ensures.value fits
-    (λ run x. flag_read (found_of c.args.given.now) (codes "run") run c.get_flag.result x c.get_flag.ensures.value c.get_flag.ensures.other) e h)
+    generate_named (found_of c.args.given.now) task e h (λ n run q g.
+    let same : c.in_ok-seed.seed ≡ n = cc (c.in_ok-seed.ensures n g.0) in
+    ap Some (ap₂ Generate same (flag_read (found_of c.args.given.now) (codes "run") run c.get_flag.result g.1 c.get_flag.ensures.value c.get_flag.ensures.other) ∙ q))

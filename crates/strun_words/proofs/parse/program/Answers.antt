@@ -3,7 +3,7 @@ use Rattle.clap.specs.Words.{App, app_of, with_subcommand}
 use Rattle.std.proofs.Common.{ap, ap₂, true, ◌∙◌, ◌≡◌}
 use Rattle.std.proofs.lemmas.Result.{IfOk-weaker}
 use Rattle.strun_words.proofs.parse.program.Goals as goal
-use Rattle.strun_words.specs.Parsing.{bank_command, generate_command, pack_command, plain_command, run_command, show_command}
+use Rattle.strun_words.specs.Parsing.{audit_command, bank_command, generate_command, pack_command, plain_command, run_command, show_command}
 
 pub returns : goal.returns
 returns c =
@@ -20,6 +20,12 @@ returns c =
     ≡ with_subcommand (with_subcommand (with_subcommand (with_subcommand plain_command run_command.top) pack_command.top) show_command.top) generate_command.top =
     c.in_ok-subcommand-4.ensures.shape c.in_ok-generate_command.ensures.local
     ∙ ap₂ with_subcommand with_show (ap (λ (b : App). b.top) c.in_ok-generate_command.ensures.app) in
-    IfOk-weaker c.subcommand-5.result _ _
-    (λ command a. a.shape c.new-4.ensures.local ∙ ap₂ with_subcommand with_generate (ap (λ (b : App). b.top) c.new-4.ensures.app))
-    c.subcommand-5.ensures
+    let with_bank : app_of c.in_ok-subcommand-5.field-0
+    ≡ with_subcommand (with_subcommand (with_subcommand (with_subcommand (with_subcommand plain_command run_command.top) pack_command.top) show_command.top) generate_command.top) bank_command.top =
+    c.in_ok-subcommand-5.ensures.shape c.new-4.ensures.local ∙ ap₂ with_subcommand with_generate (ap (λ (b : App). b.top) c.new-4.ensures.app) in
+    let with_audit : app_of c.in_ok-subcommand-6.field-0
+    ≡ with_subcommand (with_subcommand (with_subcommand (with_subcommand (with_subcommand (with_subcommand plain_command run_command.top) pack_command.top) show_command.top) generate_command.top) bank_command.top) audit_command.top =
+    c.in_ok-subcommand-6.ensures.shape c.new-5.ensures.local ∙ ap₂ with_subcommand with_bank (ap (λ (b : App). b.top) c.new-5.ensures.app) in
+    IfOk-weaker c.subcommand-7.result _ _
+    (λ command a. a.shape c.in_ok-at_command.ensures.local ∙ ap₂ with_subcommand with_audit (ap (λ (b : App). b.top) c.in_ok-at_command.ensures.app))
+    c.subcommand-7.ensures
