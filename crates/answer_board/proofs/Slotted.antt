@@ -1,4 +1,5 @@
 -- The slots of places tell where answers stand.
+use Rattle.std.proofs.Math.Bool.{and-false}
 use Rattle.answer_board.specs.Entries.{answer_at, answer_in, same_place}
 use Rattle.answer_board.specs.Places.{Listed, MayAllFollow, extended, has_index, has_place, is_free, places_of}
 use Rattle.answer_board.specs.Slots.{IsListing, Tells, empty_rows, filled, set_nth, slot_at}
@@ -246,15 +247,11 @@ and_false_left : (a b : Bool) → a ≡ false → (a && b) ≡ false
 and_false_left true b e = absurd (cc e)
 and_false_left false b e = refl
 
-and_false_right : (a b : Bool) → b ≡ false → (a && b) ≡ false
-and_false_right true b e = e
-and_false_right false b e = refl
-
 pub slot_free : (rows : List (List (Option ℕ))) (items : List Entry) (p : TxPlace) → IsListing rows items → slot_at rows p ≡ Some None → is_free (listed rows items) p ≡ true
 slot_free rows items p h e = and_from (has_place (map length rows) p) (is_none (answer_at p items)) (slot_place rows p None e) (ap (λ (o : Option Answer). is_none o) (h.tells p None e))
 
 pub slot_taken : (rows : List (List (Option ℕ))) (items : List Entry) (p : TxPlace) (k : ℕ) → IsListing rows items → slot_at rows p ≡ Some (Some k) → is_free (listed rows items) p ≡ false
-slot_taken rows items p k h e = let t = h.tells p (Some k) e in and_false_right (has_place (map length rows) p) (is_none (answer_at p items)) (ap (λ (o : Option Answer). is_none o) t.2)
+slot_taken rows items p k h e = let t = h.tells p (Some k) e in ap (λ b. has_place (map length rows) p && b) (ap (λ (o : Option Answer). is_none o) t.2) ∙ and-false (has_place (map length rows) p)
 
 pub slot_nowhere : (rows : List (List (Option ℕ))) (items : List Entry) (p : TxPlace) → slot_at rows p ≡ None → is_free (listed rows items) p ≡ false
 slot_nowhere rows items p e = and_false_left (has_place (map length rows) p) (is_none (answer_at p items)) (slot_missing rows p e)

@@ -82,7 +82,7 @@ values_of : (look : KeyId → Value) (past : List Member) (accounts : List KeyId
 values_of look past [] h = refl
 values_of look past (k ∷ ks) h = λ j. h k j ∷ values_of look past ks h j
 
-nothing_or_more : (ms : List Member) → (ms ≡ []) ⊎ (ms ≢ [])
+pub nothing_or_more : (ms : List Member) → (ms ≡ []) ⊎ (ms ≢ [])
 nothing_or_more [] = inl refl
 nothing_or_more (m ∷ ms) = inr (λ e. absurd (cc e))
 

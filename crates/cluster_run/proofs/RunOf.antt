@@ -5,14 +5,14 @@ use Rattle.cluster_run.specs.Clusters.{IsRun, events_of}
 use Rattle.si_laws.proofs.Sessions.SessionAnswers.{session_holds}
 use Rattle.si_laws.proofs.Sessions.SessionHolds.{good_everywhere}
 use Rattle.si_laws.proofs.Sessions.SessionOrder.{told_in}
-use Rattle.si_laws.proofs.Times.BegunFew.{few_begin, place_key, places_length, places_of}
+use Rattle.si_laws.proofs.Times.BegunFew.{few_begin, place_key, places_length, places_of, place_in}
 use Rattle.si_laws.proofs.Times.NoRepeats.{Once, fits, map_length}
 use Rattle.si_laws.proofs.Stages.ParticipantSeats.{of_nth}
 use Rattle.si_laws.specs.SnapshotIsolation.{AnswersPlaced, IsAnswer, IsPlaced}
 use Rattle.spsi_laws.proofs.Work.LeftWorld.{even_run}
 use Rattle.spsi_laws.proofs.Work.WorkHolds.{run_more}
 use Rattle.str_base.proofs.Lists.{slice_get_there}
-use Rattle.str_base.proofs.Members.{at_in, filter_in, in_at, in_left, in_map, in_right, map_in}
+use Rattle.str_base.proofs.Members.{at_in, filter_in, in_at, in_map}
 use Rattle.str_base.specs.Members.{In}
 use Rattle.str_base.specs.declared.names.NodeId.{NodeId}
 use Rattle.str_model.specs.declared.messages.Answer.{Answer}
@@ -94,13 +94,6 @@ answers_once (x ∷ xs) h = (not_later, answers_once xs (λ i j a b p q e. let r
         let z = h 0 (suc at.0) x r.0 refl at.1 same in
         absurd (omega (arith, z))
 
-places_there : (vs : List View) (n : ℕ) (v : View) (x : Own) → slice_get vs n ≡ Some v → In x v.own → In (place_key x) (places_of vs)
-places_there [] n v x e h = absurd (cc e)
-places_there (u ∷ us) zero v x e h =
-    let same : v ≡ u = (let q : u ≡ v = cc e in sym q) in
-    in_left (map place_key u.own) (places_of us) (place_key x) (map_in place_key u.own x (subst (λ (z : View). In x z.own) same h))
-places_there (u ∷ us) (suc n) v x e h = in_right (map place_key u.own) (places_of us) (place_key x) (places_there us n v x e h)
-
 -- a run has released 1024 answers at most
 pub few_answers : (scene : Scene) → IsScene scene → (es : List Event) → length (run scene es).answers ≤ 1024
 few_answers scene ok es =
@@ -143,7 +136,7 @@ few_answers scene ok es =
             let x : Own = made.x in
             let place : a.place ≡ x.place = λ j. (made.same j).place in
             let key : place_key x ≡ answer_key a = key_same a x place in
-            subst (λ (y : ℕ × ℕ). In y (places_of (run scene es).nodes)) key (places_there (run scene es).nodes n v.0 x v.1 (in_at v.0.own made.i x made.owns))
+            subst (λ (y : ℕ × ℕ). In y (places_of (run scene es).nodes)) key (place_in (run scene es).nodes n v.0 x v.1 (in_at v.0.own made.i x made.owns))
 
 -- so has the world of a cluster, now and after an event
 pub answers_few : (scene : Scene) (w : World) → IsScene scene → IsRun scene w → length w.answers ≤ 1024

@@ -1,9 +1,10 @@
 -- The evaluation of a script, operation by operation, and what its writes are.
-use Rattle.std.proofs.Common.{Bool, List, None, Option, Some, [], false, if◌then◌else◌, inl, inr, length, refl, slice_get, subst, suc, true, zero, ℕ, ◌<◌, ◌∷◌, ◌≡◌, ◌⊎◌}
+use Rattle.str_model.proofs.ViewFacts.MarksRise.{script_op}
+use Rattle.str_model.proofs.ViewFacts.VersionsKept.{writes_key}
+use Rattle.std.proofs.Common.{Bool, List, [], false, if◌then◌else◌, inl, inr, length, refl, true, ◌<◌, ◌∷◌, ◌≡◌, ◌⊎◌}
 use Rattle.history_audit.specs.Steps.{after_step, step_of}
 use Rattle.history_audit.specs.declared.evaluations.Ending.TheVariants.{Unmet as EndsUnmet}
 use Rattle.history_audit.specs.declared.evaluations.Step.TheVariants.{Passed, Stopped}
-use Rattle.partition_map.specs.Maps.{nth, or_none}
 use Rattle.str_base.proofs.Members.{any_in}
 use Rattle.str_base.proofs.SameNames.{is-same_key}
 use Rattle.str_base.specs.Members.{In}
@@ -15,11 +16,11 @@ use Rattle.str_base.specs.declared.names.Value.TheVariants.{Absent, Num, Text}
 use Rattle.str_base.specs.declared.names.Write.{Write}
 use Rattle.str_model.proofs.OwnFacts.ScriptsCovered.{eval_keys, set_once}
 use Rattle.str_model.specs.Evaluation.{Unmet, eval, eval_from, value_at, with_write}
-use Rattle.str_model.specs.NodeFacts.{AreDistinct, WritesKey, WrittenIn}
+use Rattle.str_model.specs.NodeFacts.{AreDistinct, WrittenIn}
 use Rattle.str_model.specs.Owned.{wrote_key}
 use Rattle.str_model.specs.declared.names.Got.{Got}
-use Rattle.str_scene.specs.SceneLimits.{IsKeyOf, IsOp, IsScene}
-use Rattle.str_scene.specs.Scenes.{Scene, Session, ops_at, script_at}
+use Rattle.str_scene.specs.SceneLimits.{IsScene}
+use Rattle.str_scene.specs.Scenes.{Scene, script_at}
 use Rattle.str_scene.specs.declared.names.Op.{Op}
 use Rattle.str_scene.specs.declared.names.Op.TheVariants.{Abort, Add, Del, Get, Need, Put, Puts}
 use Rattle.str_scene.specs.declared.names.TxPlace.{TxPlace}
@@ -60,36 +61,6 @@ eval_once_from look (Abort ∷ ops) ws gs d = d
 pub eval_once : (look : KeyId → Value) (ops : List Op) → AreDistinct (eval ops look).writes
 eval_once look ops = eval_once_from look ops [] [] refl
 
-op_key : (scene : Scene) (op : Op) (k : KeyId) → IsOp scene.version scene.keys op → WritesKey op k → k.0 < length scene.keys.names
-op_key scene (Get l) k o w = absurd w
-op_key scene (Put l n) k o w = subst (IsKeyOf scene.keys) w o.0
-op_key scene (Puts l t) k o w = subst (IsKeyOf scene.keys) w o.0
-op_key scene (Add l n) k o w = subst (IsKeyOf scene.keys) w o.0
-op_key scene (Del l) k o w = subst (IsKeyOf scene.keys) w o
-op_key scene (Need l n) k o w = absurd w
-op_key scene Abort k o w = absurd w
-
--- the operations of a script are those of the scene
-pub script_ops : (scene : Scene) → IsScene scene → (place : TxPlace) (j : ℕ) (op : Op) → slice_get (script_at scene place) j ≡ Some op → IsOp scene.version scene.keys op
-script_ops scene is place j op e = by_session place.session.0 (nth scene.sessions place.session.0) refl e
-  where
-    no_op : slice_get {X = Op} [] j ≡ Some op → IsOp scene.version scene.keys op
-    no_op f = absurd cc
-
-    by_script : (s : ℕ) (text : Session) → slice_get scene.sessions s ≡ Some text → (i : ℕ) (o : Option (List Op)) → slice_get text.txs i ≡ o → slice_get (or_none o) j ≡ Some op
-        → IsOp scene.version scene.keys op
-    by_script s text t i None q f = no_op f
-    by_script s text t i (Some ops) q f = ((is.sessions s text t).scripts i ops q).ops j op f
-
-    by_index : (s : ℕ) (text : Session) → slice_get scene.sessions s ≡ Some text → (i : ℕ) → slice_get (or_none (nth text.txs i)) j ≡ Some op → IsOp scene.version scene.keys op
-    by_index s text t zero f = no_op f
-    by_index s text t (suc i) f = by_script s text t i (slice_get text.txs i) refl f
-
-    by_session : (n : ℕ) (o : Option Session) → nth scene.sessions n ≡ o → slice_get (ops_at o place.index) j ≡ Some op → IsOp scene.version scene.keys op
-    by_session n None q f = no_op f
-    by_session zero (Some text) q f = absurd cc
-    by_session (suc n) (Some text) q f = by_index n text q place.index f
-
 -- the keys that a script of the scene writes are those of its table
 pub eval_within : (scene : Scene) → IsScene scene → (place : TxPlace) (look : KeyId → Value) (w : Write) → In w (eval (script_at scene place) look).writes → w.key.0 < length scene.keys.names
 eval_within scene is place look w h =
@@ -97,4 +68,4 @@ eval_within scene is place look w h =
   where
     told : (wrote_key w.key [] ≡ true) ⊎ WrittenIn (script_at scene place) w.key → w.key.0 < length scene.keys.names
     told (inl f) = absurd (cc f)
-    told (inr r) = op_key scene r.1 w.key (script_ops scene is place r.0 r.1 r.2) r.3
+    told (inr r) = writes_key scene r.1 w.key (script_op scene is place r.0 r.1 r.2) r.3

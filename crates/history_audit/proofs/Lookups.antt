@@ -1,4 +1,5 @@
 -- What is looked up in a ledger is what the members give.
+use Rattle.std.proofs.Math.Bool.{and-true}
 use Rattle.std.proofs.Common.{Bool, List, None, Option, Some, [], ap, cond, false, filter, find, inl, inr, is_some, map, nat_le, refl, subst, sym, true, ℕ, ◌&&◌, ◌++◌, ◌∙◌, ◌∷◌, ◌≡◌, ◌||◌}
 use Rattle.std.proofs.lemmas.Bool.{and_right}
 use Rattle.std.specs.List.{last_or, list_any}
@@ -34,10 +35,6 @@ abbrev LooksAlike : KeyId → ℕ → List Member → Type 0
 LooksAlike k r ms = (o : Option Stamped) (q : Option Member) → value_of o ≡ written_value q k
     → value_of (last_or o (filter (in_time r) (chain_of k ms))) ≡ written_value (last_or q (filter (in_snapshot r k) ms)) k
 
-and_true : (t b : Bool) → b ≡ true → (t && b) ≡ t
-and_true true b f = f
-and_true false b f = refl
-
 chain_look : (k : KeyId) (r : ℕ) (ms : List Member) → LooksAlike k r ms
 chain_look k r [] o q e = e
 chain_look k r (m ∷ ms) o q e = by_find (chain_look k r ms) (find (λ (w : Write). same_key w.key k) m.writes) refl
@@ -61,7 +58,7 @@ chain_look k r (m ∷ ms) o q e = by_find (chain_look k r ms) (find (λ (w : Wri
         passed rec (nat_le m.fc r && wrote_key k m.writes) (and_right (nat_le m.fc r) (wrote_key k m.writes) (any_found (λ (w : Write). same_key w.key k) m.writes ∙ ap is_some p))
     by_find rec (Some w) p =
         taken rec w p (nat_le m.fc r) (nat_le m.fc r && wrote_key k m.writes)
-        (and_true (nat_le m.fc r) (wrote_key k m.writes) (any_found (λ (w : Write). same_key w.key k) m.writes ∙ ap is_some p))
+        (ap (λ b. nat_le m.fc r && b) (any_found (λ (w : Write). same_key w.key k) m.writes ∙ ap is_some p) ∙ and-true (nat_le m.fc r))
 
 -- look-ups in the ledger of members are those in the members
 pub look_same : (chains : List (List Stamped)) (ms : List Member) (r : ℕ) → IsLedger chains ms → look_in chains r ≡ look_up ms r

@@ -1,5 +1,6 @@
 -- Each clause of snapshot isolation of a list with one more answer, told by a test of that answer against those before it.
-use Rattle.std.proofs.Common.{Bool, List, None, Option, Some, [], ap, arith, eq-eqb, eqb-true, false, filter, inl, inr, le-leb, leb-true, length, nat_le, not, refl, slice_get, subst, suc, sym, take, true, zero, ℕ, ◌&&◌, ◌++◌, ◌+◌, ◌<◌, ◌==◌, ◌∙◌, ◌∷◌, ◌≡◌, ◌≢◌, ◌≤◌, ◌⊎◌, ◌||◌}
+use Rattle.si_laws.proofs.CommitLists.NextHolds.{take_before, take_whole}
+use Rattle.std.proofs.Common.{Bool, List, None, Option, Some, [], ap, arith, eq-eqb, eqb-true, false, filter, inl, inr, le-leb, leb-true, length, nat_le, not, refl, slice_get, subst, suc, sym, take, true, ℕ, ◌&&◌, ◌++◌, ◌+◌, ◌<◌, ◌==◌, ◌∙◌, ◌∷◌, ◌≡◌, ◌≢◌, ◌≤◌, ◌⊎◌, ◌||◌}
 use Rattle.std.proofs.lemmas.Bool.{and_from, and_parts, cases_Bool, leb-false, not-true, or_cases, or_left, or_right}
 use Rattle.std.proofs.lemmas.Option.{slice_get_within}
 use Rattle.std.specs.List.{count_by, list_all}
@@ -26,16 +27,6 @@ use Rattle.str_scene.specs.declared.names.TxPlace.{TxPlace}
 all_pass : {A : Type 0} (test : A → Bool) (xs : List A) → ((i : ℕ) (x : A) → slice_get xs i ≡ Some x → test x ≡ true) → list_all test xs ≡ true
 all_pass test [] h = refl
 all_pass test (x ∷ xs) h = and_from (test x) (list_all test xs) (h 0 x refl) (all_pass test xs (λ i y e. h (suc i) y e))
-
-take_before : {A : Type 0} (xs : List A) (i : ℕ) (y z : A) → slice_get xs i ≡ Some z → take i (xs ++ y ∷ []) ≡ take i xs
-take_before [] i y z e = absurd cc
-take_before (x ∷ xs) zero y z e = refl
-take_before (x ∷ xs) (suc i) y z e = ap (λ ys. x ∷ ys) (take_before xs i y z e)
-
-take_whole : {A : Type 0} (xs ys : List A) → take (length xs) (xs ++ ys) ≡ xs
-take_whole [] [] = refl
-take_whole [] (y ∷ ys) = refl
-take_whole (x ∷ xs) ys = ap (λ zs. x ∷ zs) (take_whole xs ys)
 
 -- one of the longer list is the new one or an earlier one
 abbrev Which : List Answer → Answer → ℕ → Answer → Type 0

@@ -1,5 +1,6 @@
 -- What an answer's script gives on the ledger of all members is what it gives on its snapshot.
-use Rattle.std.proofs.Common.{Bool, List, None, Some, [], ap, arith, cond, false, filter, leb-true, nat_le, refl, subst, sym, take, true, ℕ, ◌&&◌, ◌<◌, ◌∙◌, ◌∷◌, ◌≡◌, ◌≤◌, suc, zero}
+use Rattle.si_laws.proofs.CommitLists.SnapshotValues.{counts_above}
+use Rattle.std.proofs.Common.{Bool, List, None, [], ap, arith, cond, false, filter, leb-true, nat_le, refl, subst, sym, take, true, ℕ, ◌&&◌, ◌<◌, ◌∙◌, ◌∷◌, ◌≡◌, suc, zero}
 use Rattle.std.proofs.lemmas.Bool.{and_parts}
 use Rattle.std.specs.List.{last_or}
 use Rattle.history_audit.proofs.Lookups.{look_same}
@@ -7,7 +8,6 @@ use Rattle.history_audit.specs.Ledgers.{IsLedger}
 use Rattle.history_audit.specs.Tests.{IsSnapshotOn, IsWishOn, evaluated_on}
 use Rattle.history_audit.specs.Verdicts.{Clause, LeastFailing}
 use Rattle.history_audit.specs.declared.ledgers.Stamped.{Stamped}
-use Rattle.si_laws.proofs.CommitLists.AnswerAdded.{lower_before}
 use Rattle.si_laws.proofs.CommitLists.NextAnswer.{rs_below}
 use Rattle.si_laws.specs.Commits.{Member, counts_for, evaluated, look_up, members, seen, written_value}
 use Rattle.si_laws.specs.SnapshotIsolation.{AnswersPlaced, CommittedSnapshots, IsCommittedAt, IsCommittedSnapshot, IsWish, NoOverlap, SI, SIRun, SessionOrder, Wishes}
@@ -31,11 +31,6 @@ filter_within test counts h (m ∷ ms) = by_tests (counts m) refl (test m) refl 
     by_tests false p true q rec = let r : counts m ≡ true = h m q in absurd (cc (p, r))
     by_tests false p false q rec = rec
 
-counts_at : (a : Answer) (o : Outcome) (m : Member) → a.outcome ≡ o → ((f : ℕ) → IsCommittedAt a f → a.rs.0 < f) → m.fc ≤ a.rs.0 → counts_for a o m ≡ true
-counts_at a (Committed (Some f) gets) m e h l = let r : a.rs.0 < f.0 = h f.0 (gets, e) in lower_before m.fc f.0 m.tx a.tx (omega arith)
-counts_at a (Committed None gets) m e h l = refl
-counts_at a (Aborted cause) m e h l = refl
-
 -- an answer that is final above its snapshot sees all members
 seen_all : (scene : Scene) (all : List Answer) (a : Answer) → ((f : ℕ) → IsCommittedAt a f → a.rs.0 < f) → seen scene all a ≡ evaluated scene (members scene all) a
 seen_all scene all a h = ap (eval (script_at scene a.place)) (λ i k. same k i)
@@ -43,7 +38,7 @@ seen_all scene all a h = ap (eval (script_at scene a.place)) (λ i k. same k i)
     same : (k : KeyId) → look_up (filter (counts_for a a.outcome) (members scene all)) a.rs.0 k ≡ look_up (members scene all) a.rs.0 k
     same k = ap (λ ms. written_value (last_or None ms) k)
         (filter_within (λ m. nat_le m.fc a.rs.0 && wrote_key k m.writes) (counts_for a a.outcome)
-        (λ m e. counts_at a a.outcome m refl h (leb-true m.fc a.rs.0 (and_parts (nat_le m.fc a.rs.0) (wrote_key k m.writes) e).0)) (members scene all))
+        (λ m e. counts_above a a.outcome m refl h (leb-true m.fc a.rs.0 (and_parts (nat_le m.fc a.rs.0) (wrote_key k m.writes) e).0)) (members scene all))
 
 seen_on : (scene : Scene) (all : List Answer) (chains : List (List Stamped)) (a : Answer) → IsLedger chains (members scene all) → ((f : ℕ) → IsCommittedAt a f → a.rs.0 < f)
     → seen scene all a ≡ evaluated_on scene chains a

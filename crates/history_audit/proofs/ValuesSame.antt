@@ -1,5 +1,6 @@
 -- What is listed from the ledger of a run is what stood at the timestamp.
-use Rattle.std.proofs.Common.{List, [], ap, arith, length, subst, suc, sym, zero, ℕ, ◌++◌, ◌+◌, ◌∙◌, ◌∷◌, ◌≡◌}
+use Rattle.str_model.proofs.ListFacts.{range_more}
+use Rattle.std.proofs.Common.{List, [], ap, arith, length, subst, sym, ℕ, ◌++◌, ◌+◌, ◌∙◌, ◌∷◌, ◌≡◌}
 use Rattle.std.proofs.lemmas.Grind.{flat_map-append}
 use Rattle.std.proofs.lemmas.List.{append-nil, take_all}
 use Rattle.std.specs.List.{flat_map, range_with_len}
@@ -28,13 +29,6 @@ pub values_same : (scene : Scene) (all : List Answer) (order : List FinalCommit)
 values_same scene all order chains t keys v o l k e =
     e ∙ (ap (values_by (look_in chains t)) k
     ∙ ap (λ (look : KeyId → Value). values_by look (length scene.keys.names)) (look_same chains (members scene all) t (all_ledger scene all order chains o l)))
-
-range_more : (a n : ℕ) → range_with_len a (n + 1) ≡ range_with_len a n ++ (a + n) ∷ []
-range_more a zero = let e : a ≡ a + 0 = omega arith in ap (λ m. m ∷ []) e
-range_more a (suc n) =
-    let e : suc n + 1 ≡ suc (n + 1) = omega arith in
-    let q : (a + 1) + n ≡ a + suc n = omega arith in
-    ap (range_with_len a) e ∙ ap (λ l. a ∷ l) (range_more (a + 1) n ∙ ap (λ m. range_with_len (a + 1) n ++ m ∷ []) q)
 
 -- one more key
 pub values_next : (look : KeyId → Value) (n : ℕ) (v : Value) (values new : List Got) → v ≡ look (record { 0 = n }) → values ≡ values_by look n → new ≡ values ++ listed (record { 0 = n }) v

@@ -3,7 +3,8 @@ use Rattle.std.proofs.Common.{List, None, Option, Some, [], ap, arith, eq-eqb, e
 use Rattle.std.proofs.lemmas.Bool.Decides.{nat_tests}
 use Rattle.std.proofs.lemmas.List.{length-replicate}
 use Rattle.std.proofs.lemmas.Option.{slice_get_within}
-use Rattle.history_reading.proofs.ValuesInRange.{script_few, script_ops, seen_values}
+use Rattle.str_model.proofs.Room.SmallNumbers.{script_few}
+use Rattle.history_reading.proofs.ValuesInRange.{script_ops, seen_values}
 use Rattle.history_reading.specs.HistoryRanges.{IsCause, IsFinal, IsGot, IsNamed, IsOfScene, IsOutcome, IsPlaced, IsTime}
 use Rattle.history_reading.specs.Histories.{HasFewGets, gets_of}
 use Rattle.si_laws.proofs.Isolation.IsolationHolds.{isolated_run}

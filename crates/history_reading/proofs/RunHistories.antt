@@ -1,5 +1,5 @@
 -- What a run writes is a history of its scene and its answers, and of no others.
-use Rattle.std.proofs.Common.{List, Some, [], ap, arith, length, map, not, refl, slice_get, subst, suc, sym, take_all, zero, ℕ, ◌+◌, ◌<◌, ◌^◌, ◌∙◌, ◌∷◌, ◌≡◌, ◌≤◌}
+use Rattle.std.proofs.Common.{List, [], ap, arith, length, map, not, refl, subst, sym, take_all, ℕ, ◌+◌, ◌<◌, ◌^◌, ◌∙◌, ◌∷◌, ◌≡◌, ◌≤◌}
 use Rattle.std.proofs.lemmas.List.{length-map}
 use Rattle.std.proofs.lemmas.List.Sums.{count_by-le-length, sum_by-cons}
 use Rattle.std.specs.List.{count_by, sum_by}
@@ -12,10 +12,10 @@ use Rattle.history_reading.specs.HistoryRanges.{IsOfScene}
 use Rattle.si_laws.proofs.Isolation.IsolationHolds.{isolated_run}
 use Rattle.si_laws.proofs.Sessions.SessionAnswers.{Entry, entry}
 use Rattle.si_laws.proofs.Sessions.SessionHolds.{good_everywhere}
-use Rattle.si_laws.proofs.Times.BegunFew.{few_begin, own_total, place_key, places_length, places_of}
+use Rattle.si_laws.proofs.Times.BegunFew.{few_begin, own_total, place_key, places_length, places_of, place_in}
 use Rattle.si_laws.proofs.Times.NoRepeats.{fits, once_places}
 use Rattle.si_laws.specs.SnapshotIsolation.{SI}
-use Rattle.str_base.proofs.Members.{at_in, in_at, in_left, in_map, in_right, map_in}
+use Rattle.str_base.proofs.Members.{at_in, in_at, in_map}
 use Rattle.str_base.specs.Members.{In}
 use Rattle.str_model.specs.Lines.{counts, render}
 use Rattle.str_model.specs.Runs.{World, run}
@@ -32,14 +32,6 @@ use Rattle.str_scene.specs.declared.names.Event.{Event}
 abbrev answer_key : Answer → ℕ × ℕ
 answer_key a = (a.place.session.0, a.place.index)
 
--- the place of a transaction is among those of its node
-in_places : (vs : List View) (k : ℕ) (v : View) (x : Own) → slice_get vs k ≡ Some v → In x v.own → In (place_key x) (places_of vs)
-in_places [] k v x e h = absurd (cc e)
-in_places (u ∷ vs) zero v x e h =
-    let same : u ≡ v = cc e in
-    in_left (map place_key u.own) (places_of vs) (place_key x) (map_in place_key u.own x (subst (λ z. In x z.own) (sym same) h))
-in_places (u ∷ vs) (suc k) v x e h = in_right (map place_key u.own) (places_of vs) (place_key x) (in_places vs k v x e h)
-
 -- answers of one key are of one place
 places_same : (a b : Answer) → answer_key a ≡ answer_key b → a.place ≡ b.place
 places_same a b e = λ k. record { session = record { 0 = (e k).0 }; index = (e k).1 }
@@ -55,7 +47,7 @@ few_answers scene ok es s =
     let m = in_map answer_key w.answers z h in
     let at = at_in w.answers m.0 m.1 in
     let e : Entry scene w at.0 m.0 = entry scene ok w (good_everywhere scene es) at.0 m.0 at.1 in
-    let there : In (place_key e.made.x) (places_of w.nodes) = in_places w.nodes e.m e.v e.made.x e.is_view (in_at e.v.own e.made.i e.made.x e.made.owns) in
+    let there : In (place_key e.made.x) (places_of w.nodes) = place_in w.nodes e.m e.v e.made.x e.is_view (in_at e.v.own e.made.i e.made.x e.made.owns) in
     subst (λ y. In y (places_of w.nodes)) (ap answer_key (sym e.made.same) ∙ m.2) there) in
     omega (arith, fit, length-map w.answers answer_key, places_length w.nodes, few_begin scene ok es)
 

@@ -1,5 +1,5 @@
 -- The values of gets and writes that scripts come to on values in range are in range.
-use Rattle.std.proofs.Common.{Bool, List, None, Option, Some, [], arith, length, ◌≤◌, false, filter, find, if◌then◌else◌, refl, slice_get, subst, suc, sym, true, zero, ℕ, ℤ, ◌++◌, ◌∷◌, ◌≡◌, pos}
+use Rattle.std.proofs.Common.{Bool, List, None, Option, Some, [], arith, false, filter, find, if◌then◌else◌, refl, slice_get, subst, suc, sym, true, zero, ℕ, ℤ, ◌++◌, ◌∷◌, ◌≡◌, pos}
 use Rattle.std.proofs.lemmas.Int.{SFits-int_wrap, wrapping_add_is}
 use Rattle.std.specs.Int.{int_wrapping_add, w64}
 use Rattle.std.specs.Prelude.{FitsSigned, ◌+ℤ◌}
@@ -93,17 +93,6 @@ script_ops scene ok place = by (nth scene.sessions place.session.0) (λ s e. fro
 
     by : (o : Option Session) → ((s : Session) → o ≡ Some s → IsSession scene s) → Each (IsOp scene.version scene.keys) (ops_at o place.index)
     by None h = tt
-    by (Some s) h = by_script (nth s.txs place.index) (λ ops e. from_nth (IsScript scene.version scene.keys) s.txs place.index ops (h s refl).scripts e)
-
-pub script_few : (scene : Scene) → IsScene scene → (place : TxPlace) → length (script_at scene place) ≤ 16
-script_few scene ok place = by (nth scene.sessions place.session.0) (λ s e. from_nth (IsSession scene) scene.sessions place.session.0 s ok.sessions e)
-  where
-    by_script : (o : Option (List Op)) → ((ops : List Op) → o ≡ Some ops → IsScript scene.version scene.keys ops) → length (or_none o) ≤ 16
-    by_script None h = omega arith
-    by_script (Some ops) h = omega (arith, (h ops refl).few)
-
-    by : (o : Option Session) → ((s : Session) → o ≡ Some s → IsSession scene s) → length (ops_at o place.index) ≤ 16
-    by None h = omega arith
     by (Some s) h = by_script (nth s.txs place.index) (λ ops e. from_nth (IsScript scene.version scene.keys) s.txs place.index ops (h s refl).scripts e)
 
 -- ---- the members of a commit list

@@ -1,4 +1,5 @@
 -- Words, names, places, values and gets are told apart by the bytes between them.
+use Rattle.str_base.proofs.SameNames.{tx_by_numbers}
 use Rattle.std.proofs.Common.{List, [], ap, append-nil, arith, flat_map, get_or, negsuc, not, pos, refl, subst, sym, true, ℕ, ℤ, ◌++◌, ◌<◌, ◌==◌, ◌∙◌, ◌∷◌, ◌≡◌, ◌≤◌}
 use Rattle.std.proofs.lemmas.List.{append_cancel_left}
 use Rattle.std.proofs.lemmas.Bool.{and_from}
@@ -36,13 +37,10 @@ word_unique w u (b ∷ a) (c ∷ v) f g p q e =
 pub name_parts : (text a b : List ℕ) (t : TxId) → text ≡ a ++ 46 ∷ b → is_without 46 a ≡ true → text ≡ name_text t → (a ≡ numeral t.node.0) × (b ≡ numeral t.seq)
 name_parts text a b t e h f = split_unique 46 a b (numeral t.node.0) (numeral t.seq) h (numeral-without 46 t.node.0 refl) (sym e ∙ f)
 
-pub name_same : (s t : TxId) → s.node.0 ≡ t.node.0 → s.seq ≡ t.seq → s ≡ t
-name_same s t p q = λ i. record { node = record { 0 = p i }; seq = q i }
-
 pub name_text-injective : (s t : TxId) → name_text s ≡ name_text t → s ≡ t
 name_text-injective s t e =
     let h = name_parts (name_text s) (numeral s.node.0) (numeral s.seq) t refl (numeral-without 46 s.node.0 refl) e in
-    name_same s t (numeral-injective s.node.0 t.node.0 h.0) (numeral-injective s.seq t.seq h.1)
+    tx_by_numbers s t (numeral-injective s.node.0 t.node.0 h.0) (numeral-injective s.seq t.seq h.1)
 
 pub name_text-space : (t : TxId) → is_without 32 (name_text t) ≡ true
 name_text-space t = is_without-append 32 (numeral t.node.0) (46 ∷ numeral t.seq) (numeral-without 32 t.node.0 refl) (numeral-without 32 t.seq refl)

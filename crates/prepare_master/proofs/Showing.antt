@@ -56,7 +56,7 @@ pass_alone (w ∷ ws) cache vs marks e =
 -- ---- tests that none passes
 
 -- one more that fails a test
-any_insert : (test : Version → Bool) (v : Version) (vs : List Version) → test v ≡ false → list_any test (insert_version v vs) ≡ list_any test vs
+pub any_insert : (test : Version → Bool) (v : Version) (vs : List Version) → test v ≡ false → list_any test (insert_version v vs) ≡ list_any test vs
 any_insert test v [] e = rw e refl
 any_insert test v (w ∷ ws) e = by_before (is_before v w) (any_insert test v ws e)
   where

@@ -1,4 +1,5 @@
 -- A drain takes the same events in both runs, and what is left to be done and what is written is the same.
+use Rattle.str_model.proofs.ListFacts.{some_map}
 use Rattle.prune_laws.proofs.EventsAlike.{same_input}
 use Rattle.prune_laws.proofs.PairedLists.{alike_length}
 use Rattle.prune_laws.proofs.PruneHolds.{alongside, pruned_one_more}
@@ -30,10 +31,6 @@ use Rattle.str_model.proofs.Pruning.TwinRules.{BothTo}
 use Rattle.str_model.proofs.Pruning.Twins.{Alike, AllAlike, a_refuse, a_reply, a_same}
 
 -- ---- the next event
-
-some_map : {A B : Type 0} (f : A → B) (o : Option A) → is_some (option_map f o) ≡ is_some o
-some_map f None = refl
-some_map f (Some x) = refl
 
 -- a client step is one that is not idle
 moves_by_step : (here : Here) (s : SessionId) (v : View) → is_some (step here (Client s 0) v) ≡ is_some (client_rule here s 0 (starts v))

@@ -1,6 +1,7 @@
 -- What the sessions of a node do in a turn, one after another.
+use Rattle.std.proofs.lemmas.Bool.{not-false, true≢false}
 use Rattle.std.proofs.Common.{◌≡◌, ◌≢◌, ◌≤◌, ◌<◌, ◌+◌, ◌++◌, ◌∷◌, ◌∙◌, ◌^◌, ℕ, Bool, true, false, List, [], None, Option, Some, ap, append-nil, append_assoc, arith, drop, inl, inr, is_some, length, length-append, map, not, refl, subst, sym}
-use Rattle.lamport_log.proofs.Renumbering.NodeNumbers.{range_more}
+use Rattle.str_model.proofs.ListFacts.{range_more}
 use Rattle.lamport_log.specs.Logs.{Item, Log}
 use Rattle.lamport_log.specs.Rounds.{SessionsMove}
 use Rattle.lamport_log.specs.declared.logs.LogEntry.{LogEntry}
@@ -10,7 +11,7 @@ use Rattle.race_round.proofs.LinkMoves.{ends_stay, no_moves, taken_in_on, then_m
 use Rattle.race_round.proofs.Sequences.{drop_front}
 use Rattle.race_round.proofs.StepsMade.{came_moves, moves_step}
 use Rattle.race_round.proofs.Stretching.{one_step, stopped_on, stretch_on, unmade_still}
-use Rattle.race_round.proofs.Takings.{none_yet, true_not_false}
+use Rattle.race_round.proofs.Takings.{none_yet}
 use Rattle.race_round.specs.Nodes.{BrokenOff, Moved}
 use Rattle.race_round.specs.Seats.{IsSeat, Seat, here_at}
 use Rattle.race_round.specs.Stretches.{Made, Stretch, Tried, entries_in}
@@ -65,11 +66,7 @@ gave_on (Some j) (Some k) (Some l) xs ys h g = g ∙ (ap (λ z. z ++ ys) h ∙ a
 
 pub not_true : (b : Bool) → true ≡ not b → b ≡ false
 not_true false e = refl
-not_true true e = absurd (true_not_false e)
-
-not_false : (b : Bool) → false ≡ not b → b ≡ true
-not_false true e = refl
-not_false false e = absurd (true_not_false (sym e))
+not_true true e = absurd (true≢false e)
 
 -- a session whose client step is idle
 pub stays_idle : (n : Seat) (s : SessionId) → IsSeat n → ((t : ℕ) → true ≡ not (is_some (step (here_at n) (Client s t) n.view))) → Moved (s ∷ []) n n
@@ -101,7 +98,7 @@ weakened a b ms h =
       took = λ k o. ([], sym (h.took k o));
       sent = h.sent;
       parcels = h.parcels;
-      away = λ w. absurd (true_not_false (sym w));
+      away = λ w. absurd (true≢false (sym w));
     }
 
 -- what a tried client step leads to
@@ -111,7 +108,7 @@ ClientTried false s t n m = BrokenOff 1 n m
 
 module _ (n : Seat) (s : SessionId) (t : ℕ) (seat : IsSeat n) (can : (r : ℕ) → false ≡ not (is_some (step (here_at n) (Client s r) n.view))) where
   moves_at : (r : ℕ) → is_some (step (here_at n) (Client s r) n.view) ≡ true
-  moves_at r = not_false (is_some (step (here_at n) (Client s r) n.view)) (can r)
+  moves_at r = not-false (is_some (step (here_at n) (Client s r) n.view)) (sym (can r))
 
   client_step : (w : Bool) (m : Seat) (it : Item) → (made : Made n m (Client s t) (ClientInput s t) (n.stamp + 1) it) → (w ≡ true → (x : Message) → In x it.sent → x.receiver ≢ n.id)
       → Stretch w n m (it ∷ []) (then_moves no_moves made.out.moves)
@@ -143,7 +140,7 @@ module _ (n : Seat) (s : SessionId) (t : ℕ) (seat : IsSeat n) (can : (r : ℕ)
       record {
         its = it ∷ [];
         moves = then_moves no_moves made.out.moves;
-        stretch = client_step false m it made (λ w. absurd (true_not_false (sym w)));
+        stretch = client_step false m it made (λ w. absurd (true≢false (sym w)));
         few = omega arith;
         stopped = inl wants;
       }
@@ -160,11 +157,11 @@ module _ (n : Seat) (s : SessionId) (t : ℕ) (seat : IsSeat n) (can : (r : ℕ)
 pub client_true : (n : Seat) (s : SessionId) (t : ℕ) → IsSeat n → ((r : ℕ) → false ≡ not (is_some (step (here_at n) (Client s r) n.view))) → (b : Bool) (m : Seat) → Tried n m (Client s t) (ClientInput s t) (n.stamp + 1) b → b ≡ true
     → Moved (s ∷ []) n m × (readings_since n.log m.log ≡ t ∷ [])
 client_true n s t seat can true m h e = client_tried n s t seat can true m h
-client_true n s t seat can false m h e = absurd (true_not_false (sym e))
+client_true n s t seat can false m h e = absurd (true≢false (sym e))
 
 pub client_false : (n : Seat) (s : SessionId) (t : ℕ) → IsSeat n → ((r : ℕ) → false ≡ not (is_some (step (here_at n) (Client s r) n.view))) → (b : Bool) (m : Seat) → Tried n m (Client s t) (ClientInput s t) (n.stamp + 1) b → b ≡ false
     → BrokenOff 1 n m
-client_false n s t seat can true m h e = absurd (true_not_false e)
+client_false n s t seat can true m h e = absurd (true≢false e)
 client_false n s t seat can false m h e = client_tried n s t seat can false m h
 
 -- the stamp was the last one

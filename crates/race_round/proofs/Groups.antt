@@ -1,6 +1,6 @@
 -- What a node took in a turn, in groups: by each other node upwards.
 use Rattle.std.proofs.Common.{◌≡◌, ◌≢◌, ◌≤◌, ◌<◌, ◌+◌, ◌++◌, ◌∙◌, ◌∷◌, ℕ, Bool, true, false, List, [], add-one, ap, append-nil, arith, flat_map, if◌then◌else◌, inl, inr, leb-false, leb-true, length, map, nat_le, refl, subst, suc, sym, zero}
-use Rattle.lamport_log.proofs.Renumbering.NodeNumbers.{range_more}
+use Rattle.str_model.proofs.ListFacts.{range_more, in_range}
 use Rattle.lamport_log.specs.Logs.{Item}
 use Rattle.lamport_log.specs.Rounds.{from_node, is_from}
 use Rattle.lamport_log.specs.declared.logs.LogInput.{LogInput}
@@ -21,11 +21,6 @@ use Rattle.str_base.specs.declared.names.NodeId.{NodeId}
 -- the node with a number
 abbrev pub node_of : ℕ → NodeId
 node_of k = record { 0 = k }
-
-in_range : (a n y : ℕ) → In y (range_with_len a n) → (a ≤ y) × (y < a + n)
-in_range a zero y h = absurd h
-in_range a (suc n) y (inl e) = (omega (arith, e), omega (arith, e))
-in_range a (suc n) y (inr h) = let r = in_range (a + 1) n y h in (omega (arith, r.0), omega (arith, r.1))
 
 flat_map_same : {A B : Type 0} (f g : A → List B) (xs : List A) → ((x : A) → In x xs → f x ≡ g x) → flat_map f xs ≡ flat_map g xs
 flat_map_same f g [] h = refl

@@ -1,10 +1,10 @@
 -- After a round of turns the logs replay to the nodes and are closed.
-use Rattle.std.proofs.Common.{◌≡◌, ◌≢◌, ◌≤◌, ◌<◌, ◌++◌, ◌∙◌, ◌∷◌, ℕ, Bool, true, false, List, [], Some, None, Option, ap, append-nil, append_assoc, arith, drop, if◌then◌else◌, inl, inr, length, refl, slice_get, subst, suc, sym, take, zero}
+use Rattle.std.proofs.Common.{◌≡◌, ◌≢◌, ◌<◌, ◌++◌, ◌∙◌, ◌∷◌, ℕ, Bool, true, false, List, [], Some, None, Option, ap, append-nil, append_assoc, arith, if◌then◌else◌, inl, inr, refl, slice_get, subst, suc, sym}
 use Rattle.lamport_log.proofs.NodeLogs.EntryPlaces.{nth_get, nth_left, nth_within}
-use Rattle.lamport_log.proofs.NodeLogs.LogsGrow.{Exact, Keeps, KeepsStamps, stamped_stays, steps_stay, under_more}
+use Rattle.lamport_log.proofs.NodeLogs.LogsGrow.{Keeps, KeepsStamps, stamped_stays, steps_stay, under_more, exact_from}
 use Rattle.lamport_log.specs.Closed.{Begins, Closed, IsOfOther, Stamped, sent_to, sent_under, stamp_in, taken_from, taken_of}
 use Rattle.lamport_log.specs.Logs.{Item, Log, answers_in, cut, items, message_in, message_of, messages_in}
-use Rattle.lamport_log.specs.Replays.{AllReplay, Replays, StepsLead, came}
+use Rattle.lamport_log.specs.Replays.{AllReplay, Replays, StepsLead}
 use Rattle.lamport_log.specs.declared.logs.LogEntry.{LogEntry}
 use Rattle.lamport_log.specs.declared.logs.LogInput.{LogInput}
 use Rattle.lamport_log.specs.declared.logs.LogInput.TheVariants.{Client, Taken}
@@ -25,39 +25,18 @@ use Rattle.std.proofs.lemmas.Grind.{flat_map-append}
 use Rattle.std.proofs.lemmas.List.{length-map}
 use Rattle.std.proofs.lemmas.Option.{slice_get_within}
 use Rattle.std.specs.List.{cons_option}
-use Rattle.str_base.proofs.Lists.{length-from_take, slice_get_there}
+use Rattle.str_base.proofs.Lists.{slice_get_there}
 use Rattle.str_base.proofs.Members.{at_in, in_append, in_at, in_map}
 use Rattle.str_base.proofs.SameNames.{same_node-is}
 use Rattle.str_base.specs.Members.{In}
 use Rattle.str_base.specs.Versions.{same_node}
 use Rattle.str_base.specs.declared.names.NodeId.{NodeId}
 use Rattle.str_model.specs.Runs.{opening_view}
-use Rattle.str_model.specs.Steps.{step}
 use Rattle.str_model.specs.Views.{View}
-use Rattle.str_model.specs.declared.messages.Answer.{Answer}
 use Rattle.str_model.specs.declared.messages.Message.{Message}
 use Rattle.str_scene.specs.Scenes.{Here, Scene, nth}
 
 -- ---- one log
-
-drop_after : {A : Type 0} (n : ℕ) (xs ys : List A) → n ≤ length xs → take n xs ++ ys ≡ xs → ys ≡ drop n xs
-drop_after zero xs ys h e = e
-drop_after (suc n) [] ys h e = absurd (omega arith)
-drop_after (suc n) (x ∷ xs) ys h e = drop_after n xs ys (omega arith) cc
-
--- the counts of a log that replays are exact
-exact_from : (here : Here) (logs : List Log) (v u : View) (n : NodeId) (es : List LogEntry) (ms : List Message) (rs : List Answer) → StepsLead here logs v (cut n es ms rs) u
-    → messages_in (cut n es ms rs) ≡ ms → answers_in (cut n es ms rs) ≡ rs → Exact es ms rs
-exact_from here logs v u n [] ms rs h p q = (sym p, sym q)
-exact_from here logs v u n (e ∷ es) ms rs h p q =
-    let sent : e.sent ≤ length ms = length-from_take e.sent ms (h.2.count ∙ ap (λ l. length l) (sym h.2.sent)) in
-    let answers : e.answers ≤ length rs = length-from_take e.answers rs (h.2.answers ∙ ap (λ l. length l) (sym h.2.released)) in (
-      sent,
-      answers,
-      exact_from here logs (came v (step here h.0 v)).view u n es (drop e.sent ms) (drop e.answers rs) h.3
-          (drop_after e.sent ms (messages_in (cut n es (drop e.sent ms) (drop e.answers rs))) sent p)
-          (drop_after e.answers rs (answers_in (cut n es (drop e.sent ms) (drop e.answers rs))) answers q),
-    )
 
 -- the items of a log that grew in a turn
 pub turn_items : (scene : Scene) (logs : List Log) (w : Bool) (n m : Seat) (its : List Item) (moves : ℕ → List Move) → Replays scene logs n.log n.view → n.log.node ≡ n.id → m.log.node ≡ n.id

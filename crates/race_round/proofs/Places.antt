@@ -1,4 +1,5 @@
 -- Where the nodes of a race, their logs and their links stand.
+use Rattle.commit_gate.proofs.Gating.{at_map}
 use Rattle.std.proofs.Common.{◌≡◌, ◌≢◌, ◌≤◌, ◌<◌, ◌+◌, ◌-◌, ◌∙◌, ◌∷◌, ℕ, Bool, true, false, List, [], Some, ap, arith, cond, length, map, nat_lt, ltb-true, ltb-false, refl, slice_get, suc, sym, zero}
 use Rattle.lamport_log.proofs.NodeLogs.EntryPlaces.{nth_get}
 use Rattle.lamport_log.specs.Logs.{Log}
@@ -11,11 +12,6 @@ use Rattle.str_base.specs.declared.names.NodeId.{NodeId}
 use Rattle.str_scene.specs.Scenes.{Scene, nth}
 
 -- ---- lists
-
-pub got_map : {A B : Type 0} (f : A → B) (xs : List A) (i : ℕ) (y : B) → slice_get (map f xs) i ≡ Some y → (x : A) × (slice_get xs i ≡ Some x) × (f x ≡ y)
-got_map f [] i y e = absurd cc
-got_map f (x ∷ xs) zero y e = (x, refl, cc)
-got_map f (x ∷ xs) (suc i) y e = got_map f xs i y e
 
 pub get_map : {A B : Type 0} (f : A → B) (xs : List A) (i : ℕ) (x : A) → slice_get xs i ≡ Some x → slice_get (map f xs) i ≡ Some (f x)
 get_map f [] i x e = absurd cc
@@ -38,7 +34,7 @@ pub record LogAt (ns : List Seat) (k : NodeId) (log : Log) : Type 0 where
 pub log_at : (ns : List Seat) (k : NodeId) (log : Log) → nth (logs_of ns) k.0 ≡ Some log → LogAt ns k log
 log_at ns k log e =
     let p = nth_get (logs_of ns) k.0 log e in
-    let q = got_map (λ (n : Seat). n.log) ns p.0 log p.1 in
+    let q = at_map (λ (n : Seat). n.log) ns p.0 log p.1 in
     record { place = p.0; seat = q.0; there = q.1; log_ = q.2; number = p.2 }
 
 pub at_log : (ns : List Seat) (i : ℕ) (n : Seat) → slice_get ns i ≡ Some n → nth (logs_of ns) (suc i) ≡ Some n.log

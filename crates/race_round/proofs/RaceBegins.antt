@@ -6,7 +6,8 @@ use Rattle.lamport_log.specs.Logs.{Item, Log, answers_in, cut, items, messages_i
 use Rattle.lamport_log.specs.Replays.{AllReplay, Replays, StepsLead}
 use Rattle.lamport_log.specs.Rounds.{Piece, Rounds, entries_of}
 use Rattle.lamport_log.specs.declared.logs.LogEntry.{LogEntry}
-use Rattle.race_round.proofs.Places.{get_map, got_map, id_at, log_at, other_place}
+use Rattle.commit_gate.proofs.Gating.{at_map}
+use Rattle.race_round.proofs.Places.{get_map, id_at, log_at, other_place}
 use Rattle.race_round.specs.Races.{AreFresh, IsPair, IsPlaced, IsRace, StillReplay, logs_of, views_of}
 use Rattle.race_round.specs.Seats.{Seat, last_stamp}
 use Rattle.ring_links.proofs.Flowing.{flow_holds}
@@ -146,7 +147,7 @@ module _ (scene : Scene) (ns : List Seat) (fresh : AreFresh scene ns) where
     length-map ns (λ (n : Seat). []) ∙ sym (length-map ns (λ (n : Seat). n.log)),
     λ here log ps el ep.
         let q = nth_get no_pieces here.0 ps ep in
-        let none : ps ≡ [] = sym (got_map (λ (n : Seat). []) ns q.0 ps q.1).2 in
+        let none : ps ≡ [] = sym (at_map (λ (n : Seat). []) ns q.0 ps q.1).2 in
         let at = log_at ns here log el in
         record {
           count = ap (λ (l : List Piece). length l) none;

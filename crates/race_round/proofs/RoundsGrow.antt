@@ -1,7 +1,7 @@
 -- After a round of whole turns the logs are a round more.
 use Rattle.std.proofs.Common.{◌≡◌, ◌≢◌, ◌≤◌, ◌<◌, ◌+◌, ◌-◌, ◌++◌, ◌∙◌, ◌∷◌, ℕ, Bool, true, false, List, [], Some, None, ap, append-nil, arith, filter, if◌then◌else◌, inl, inr, length, length-append, map, min, refl, slice_get, subst, suc, sym, take, zero}
 use Rattle.lamport_log.proofs.NodeLogs.EntryPlaces.{nth_get}
-use Rattle.lamport_log.proofs.NodeLogs.LogsGrow.{steps_stay}
+use Rattle.lamport_log.proofs.NodeLogs.LogsGrow.{steps_stay, take_more}
 use Rattle.lamport_log.proofs.Stamps.StampOrder.{entries_cut}
 use Rattle.lamport_log.specs.Closed.{sent_to, taken_from, taken_of}
 use Rattle.lamport_log.specs.Logs.{Item, Log, items}
@@ -13,7 +13,7 @@ use Rattle.lamport_log.specs.declared.logs.LogInput.TheVariants.{Client, Taken}
 use Rattle.race_round.proofs.Groups.{few_of_each, group_at, groups_are, node_of}
 use Rattle.race_round.proofs.LogsReplay.{all_known, before, items_now, keeps, old, steps_before}
 use Rattle.race_round.proofs.Places.{at_log, id_at, log_at, other_place}
-use Rattle.race_round.proofs.Sequences.{steps_on, take_front, take_more}
+use Rattle.race_round.proofs.Sequences.{steps_on, take_front}
 use Rattle.race_round.specs.Races.{IsPair, IsRace, Turns, logs_of}
 use Rattle.race_round.specs.Seats.{Seat}
 use Rattle.race_round.specs.Turns.{Grouped, IsPiece, first_sessions}

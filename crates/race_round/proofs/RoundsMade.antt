@@ -3,7 +3,8 @@ use Rattle.std.proofs.Common.{◌≡◌, ◌<◌, ◌+◌, ◌++◌, ◌∙◌, 
 use Rattle.lamport_log.specs.declared.logs.LogEntry.{LogEntry}
 use Rattle.race_round.proofs.ClientSteps.{gave_none, gave_on, readings_append, since_grown}
 use Rattle.race_round.proofs.LogsReplay.{before, turn_is}
-use Rattle.race_round.proofs.Places.{beside, got_map}
+use Rattle.commit_gate.proofs.Gating.{at_map}
+use Rattle.race_round.proofs.Places.{beside}
 use Rattle.race_round.proofs.RaceBegins.{race_stands}
 use Rattle.race_round.proofs.RaceGoesOn.{order, race_now, still_holds, whole}
 use Rattle.race_round.proofs.SeatsSettled.{all_settled, node_there, seat_there, turned_meet, turns_are, turns_told}
@@ -47,7 +48,7 @@ module _ {C G : Type 0} (given : C → Option (List ℕ)) (ns ms os : List (Race
     module _ (good : ok ≡ true) (calm : list_any (λ (n : RaceNode C G). n.wanting) os ≡ false) where
       calm_at : (i : ℕ) (m : Seat) → slice_get (seats_of ms) i ≡ Some m → m.wanting ≡ false
       calm_at i m em =
-          let p = got_map (λ (n : RaceNode C G). seat_of n) ms i m em in
+          let p = at_map (λ (n : RaceNode C G). seat_of n) ms i m em in
           let d = p.0 in
           let w = slice_get_within ms i p.0 p.1 in
           let is : slice_index_or ms i d ≡ p.0 = get_or_from_slice_get ms i p.0 d p.1 in

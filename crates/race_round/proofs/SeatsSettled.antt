@@ -1,7 +1,8 @@
 -- What a race knows of nodes that made a turn, and of nodes that were settled.
 use Rattle.std.proofs.Common.{◌≡◌, ◌≢◌, ◌<◌, ◌+◌, ◌∙◌, ◌++◌, ℕ, Bool, true, List, Option, Some, All, ap, arith, inl, inr, length, refl, slice_get, slice_index_or, subst, suc, sym}
 use Rattle.race_round.proofs.LinkMoves.{moves_same}
-use Rattle.race_round.proofs.Places.{beside, get_map, got_map, other_place}
+use Rattle.commit_gate.proofs.Gating.{at_map}
+use Rattle.race_round.proofs.Places.{beside, get_map, other_place}
 use Rattle.race_round.specs.Nodes.{ReadingsGiven, Went, seat_of, seats_of}
 use Rattle.race_round.specs.Races.{AllSettled, IsRace, SameSeat, SettledPair, Turns}
 use Rattle.race_round.specs.Seats.{IsSeat, Seat}
@@ -86,7 +87,7 @@ module _ {C G : Type 0} where
 
   node_at : (ns : List (RaceNode C G)) (i : ℕ) (a : Seat) → slice_get (seats_of ns) i ≡ Some a → NodeAt ns i a
   node_at ns i a e =
-      let p = got_map (λ (n : RaceNode C G). seat_of n) ns i a e in
+      let p = at_map (λ (n : RaceNode C G). seat_of n) ns i a e in
       record {
         some = p.0;
         within = slice_get_within ns i p.0 p.1;

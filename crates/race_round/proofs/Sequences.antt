@@ -1,7 +1,8 @@
 -- Steps, stamps and numbers of entries, one list after another.
-use Rattle.std.proofs.Common.{◌≡◌, ◌≤◌, ◌<◌, ◌+◌, ◌-◌, ◌++◌, ◌∷◌, ◌∙◌, ℕ, Bool, true, false, List, [], Some, None, if◌then◌else◌, add-one, append-nil, append_assoc, arith, ap, drop, length, nat_le, refl, subst, suc, sym, take, zero, leb-true, leb-false, inl, inr}
+use Rattle.std.proofs.lemmas.Bool.{le-leb}
+use Rattle.std.proofs.Common.{◌≡◌, ◌≤◌, ◌<◌, ◌+◌, ◌-◌, ◌++◌, ◌∷◌, ◌∙◌, ℕ, Bool, true, false, List, [], Some, None, if◌then◌else◌, add-one, append-nil, append_assoc, arith, ap, drop, length, nat_le, refl, subst, suc, sym, take, zero, leb-true, inl, inr}
 use Rattle.lamport_log.proofs.NodeLogs.EntryPlaces.{nth_left, nth_right, nth_within}
-use Rattle.lamport_log.proofs.NodeLogs.LogsGrow.{Exact, under_more}
+use Rattle.lamport_log.proofs.NodeLogs.LogsGrow.{Exact, under_more, take_more, drop_more}
 use Rattle.lamport_log.specs.Closed.{Stamped, sent_under, taken_from, taken_of}
 use Rattle.lamport_log.specs.Logs.{Item, Log, answers_in, cut, messages_in}
 use Rattle.lamport_log.specs.Replays.{StepsLead, came}
@@ -57,13 +58,6 @@ sent_stays l l' p es ms ee me h =
       stamp_ = ap (λ (x : List LogEntry). sent_under x p.number) ee ∙ under_more l.entries es p.number p.stamp h.stamp_;
     }
 
-leb_is : (a b : ℕ) → a ≤ b → nat_le a b ≡ true
-leb_is a b h = by_test (nat_le a b) refl
-  where
-    by_test : (t : Bool) → nat_le a b ≡ t → nat_le a b ≡ true
-    by_test true q = q
-    by_test false q = let k = leb-false a b q in absurd (omega (arith, h, k))
-
 leb_not : (a b : ℕ) → b < a → nat_le a b ≡ false
 leb_not a b h = by_test (nat_le a b) refl
   where
@@ -74,7 +68,7 @@ leb_not a b h = by_test (nat_le a b) refl
 -- the messages of the last entry were sent under its stamp
 pub under_last : (es : List LogEntry) (e : LogEntry) (k : ℕ) → 1 ≤ k → k ≤ e.sent → sent_under (es ++ e ∷ []) (sum_by (λ (x : LogEntry). x.sent) es + k) ≡ Some e.stamp
 under_last [] e k low high =
-    ap (λ (b : Bool). if b then Some e.stamp else None) (leb_is (0 + k) e.sent (omega (arith, high)))
+    ap (λ (b : Bool). if b then Some e.stamp else None) (le-leb (0 + k) e.sent (omega (arith, high)))
 under_last (x ∷ es) e k low high =
     let rest : ℕ = sum_by (λ (y : LogEntry). y.sent) es in
     let past : nat_le ((x.sent + rest) + k) x.sent ≡ false = leb_not ((x.sent + rest) + k) x.sent (omega (arith, low)) in
@@ -102,16 +96,6 @@ letter_sent l l' e ms p ee me counted count h =
     }
 
 -- ---- the items of a log that has grown
-
-pub take_more : {A : Type 0} (n : ℕ) (xs ys : List A) → n ≤ length xs → take n (xs ++ ys) ≡ take n xs
-take_more zero xs ys h = refl
-take_more (suc n) [] ys h = absurd (omega arith)
-take_more (suc n) (x ∷ xs) ys h = ap (λ l. x ∷ l) (take_more n xs ys (omega arith))
-
-drop_more : {A : Type 0} (n : ℕ) (xs ys : List A) → n ≤ length xs → drop n (xs ++ ys) ≡ drop n xs ++ ys
-drop_more zero xs ys h = refl
-drop_more (suc n) [] ys h = absurd (omega arith)
-drop_more (suc n) (x ∷ xs) ys h = drop_more n xs ys (omega arith)
 
 pub take_front : {A : Type 0} (n : ℕ) (xs ys : List A) → n ≡ length xs → take n (xs ++ ys) ≡ xs
 take_front zero [] ys e = refl
@@ -147,3 +131,7 @@ pub items_grown : (n : NodeId) (es : List LogEntry) (ms : List Message) (rs : Li
     → cut n (es ++ entries_in its) (ms ++ messages_in its) (rs ++ answers_in its) ≡ cut n es ms rs ++ its
 items_grown n es ms rs its h made =
     cut_on n es (entries_in its) ms (messages_in its) rs (answers_in its) h ∙ ap (λ (l : List Item). cut n es ms rs ++ l) (cut_made n its made)
+
+-- a place below a length that is another's
+pub within : {i m n k : ℕ} → i < m → m ≡ n → n ≡ k → i < k
+within h e f = omega (arith, h, e, f)

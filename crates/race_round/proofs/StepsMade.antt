@@ -1,5 +1,6 @@
 -- What a step of a node came to, as its log and its links say.
-use Rattle.std.proofs.Common.{◌≡◌, ◌≢◌, ◌≤◌, ◌++◌, ◌∷◌, ◌∙◌, ℕ, Bool, true, false, List, [], None, Option, Some, ap, arith, is_some, length, not, option_map, refl, subst, sym}
+use Rattle.str_model.proofs.ListFacts.{some_map}
+use Rattle.std.proofs.Common.{◌≡◌, ◌≢◌, ◌≤◌, ◌++◌, ◌∷◌, ◌∙◌, ℕ, Bool, true, false, List, [], None, Option, Some, ap, arith, is_some, length, not, refl, subst, sym}
 use Rattle.lamport_log.specs.Logs.{Item}
 use Rattle.lamport_log.specs.Replays.{Came, came}
 use Rattle.lamport_log.specs.declared.logs.LogEntry.{LogEntry}
@@ -112,14 +113,10 @@ tried_made n m e input logged stamp moves messages answers false made seat same 
 
 -- ---- client steps
 
-some_mapped : {A B : Type 0} (f : A → B) (o : Option A) → is_some (option_map f o) ≡ is_some o
-some_mapped f None = refl
-some_mapped f (Some x) = refl
-
 -- a session can move at a view where its client step at any reading isn't idle
 pub moves_step : (here : Here) (s : SessionId) (v : View) → is_some (step here (Client s 0) v) ≡ view_moves here s (Some v)
 unfolding step rule
-moves_step here s v = some_mapped (after_rule here) (client_rule here s 0 (starts v))
+moves_step here s v = some_map (after_rule here) (client_rule here s 0 (starts v))
 
 pub came_moves : (v : View) (o : Option Doing) → is_some o ≡ true → (came v o).idle ≡ false
 came_moves v None e = absurd (let q : false ≡ true = e in cc)

@@ -23,7 +23,7 @@ use Rattle.ring_links.specs.Flows.Move.{Took}
 use Rattle.ring_links.specs.Links.{Takes, arrived}
 use Rattle.ring_links.specs.declared.link.Link.{Link}
 use Rattle.ring_links.specs.declared.parcel.Parcel.{Parcel}
-use Rattle.std.proofs.lemmas.Bool.{cases_lt}
+use Rattle.std.proofs.lemmas.Bool.{cases_lt, true≢false}
 use Rattle.std.proofs.lemmas.List.{length-map}
 use Rattle.str_base.proofs.Members.{in_append}
 use Rattle.str_base.proofs.SameNames.{is-same_node, same_node-is}
@@ -31,9 +31,6 @@ use Rattle.str_base.specs.Members.{In}
 use Rattle.str_base.specs.declared.names.NodeId.{NodeId}
 use Rattle.str_model.specs.declared.messages.Input.TheVariants.{Deliver}
 use Rattle.str_model.specs.declared.messages.Message.{Message}
-
-pub true_not_false : true ≡ false → ⊥
-true_not_false e = cc
 
 -- the moves of a try to take
 abbrev pub took_moves : NodeId → Option Parcel → ℕ → List Move
@@ -108,7 +105,7 @@ module _ (n : Seat) (e : Ends) (s : NodeId) (p : Parcel) (seat : IsSeat n) (o : 
           let is : s ≡ k = sym (same_node-is k s q) in
           sym (ap (λ (b : Bool). option_to_list (if b then Some p.number else None)) (is-same_node s k is))
       by_test false q =
-          let apart : s ≢ k = (λ z. true_not_false (sym (is-same_node k s (sym z)) ∙ q)) in
+          let apart : s ≢ k = (λ z. true≢false (sym (is-same_node k s (sym z)) ∙ q)) in
           sym (ap (λ (b : Bool). option_to_list (if b then Some p.number else None)) (not_same s k apart))
 
   other_node : s ≢ n.id
@@ -142,7 +139,7 @@ module _ (n : Seat) (e : Ends) (s : NodeId) (p : Parcel) (seat : IsSeat n) (o : 
     it ∷ [],
     then_moves (took_moves s (Some p)) made.out.moves,
     one_step false n m e (took_moves s (Some p)) (Deliver p.message) (TakenInput s p.number) (max n.stamp p.stamp + 1) it seat (taking_moved n e s (Some p) seat o same takes) (taking_quiet n e s (Some p) seat o same takes)
-        made told tt other_node took (λ w. absurd (true_not_false (sym w))),
+        made told tt other_node took (λ w. absurd (true≢false (sym w))),
     omega arith,
     inl wants,
   )
@@ -164,10 +161,10 @@ took_step n e s p seat o same takes st is b m h =
 
 pub took_true : (b : Bool) (s : NodeId) (n m : Seat) → b ≡ true → TookTried b s n m → TookOne Taken s n m
 took_true true s n m e h = h
-took_true false s n m e h = absurd (true_not_false (sym e))
+took_true false s n m e h = absurd (true≢false (sym e))
 
 pub took_false : (b : Bool) (s : NodeId) (n m : Seat) → b ≡ false → TookTried b s n m → TookOne Stopped s n m
-took_false true s n m e h = absurd (true_not_false e)
+took_false true s n m e h = absurd (true≢false e)
 took_false false s n m e h = h
 
 -- ---- several of one node

@@ -1,4 +1,5 @@
 -- The turn of a node, from what it took and how its sessions moved.
+use Rattle.std.proofs.lemmas.Bool.{true≢false}
 use Rattle.std.proofs.Common.{◌≡◌, ◌*◌, ◌++◌, ◌∷◌, ◌∙◌, ℕ, Bool, true, false, List, [], Option, ap, append-nil, arith, length, refl, subst, suc, sym, zero, inl, inr}
 use Rattle.lamport_log.specs.Logs.{Item}
 use Rattle.lamport_log.specs.Rounds.{SessionsMove, is_from}
@@ -8,7 +9,6 @@ use Rattle.lamport_log.specs.declared.logs.LogInput.TheVariants.{Client, Taken}
 use Rattle.race_round.proofs.ClientSteps.{readings_in, readings_on, session_of, since_grown}
 use Rattle.race_round.proofs.LinkMoves.{then_moves}
 use Rattle.race_round.proofs.Stretching.{known_first, stopped_on, stretch_on}
-use Rattle.race_round.proofs.Takings.{true_not_false}
 use Rattle.race_round.specs.Nodes.{BrokenOff, Moved, TookUpTo, Went, seat_of}
 use Rattle.race_round.specs.Seats.{IsSeat, Seat, here_at}
 use Rattle.race_round.specs.Stretches.{Stretch, entries_in}
@@ -26,7 +26,7 @@ use Rattle.str_scene.specs.Scenes.{Here, Scene}
 -- ---- what is taken is read of no clock
 
 not_read : (s : NodeId) (x : LogInput) (rest : List ℕ) → is_from s x ≡ true → cons_option (reading_of x) rest ≡ rest
-not_read s (Client k t) rest e = absurd (true_not_false (sym e))
+not_read s (Client k t) rest e = absurd (true≢false (sym e))
 not_read s (Taken m k) rest e = refl
 
 part_unread : (s : NodeId) (part : List Item) → AllFrom s part → readings_in (entries_in part) ≡ []
@@ -82,7 +82,7 @@ broken_taking b n m h = (
     stretch = subst (λ (l : List Item). Stretch false n m l h.moves) (sym (append-nil h.its)) (rewanted false b n m h.its h.moves h.stretch);
     few = (let f = h.few in omega (arith, f));
     stopped = λ w. h.stopped;
-    piece = λ w. absurd (true_not_false (sym w));
+    piece = λ w. absurd (true≢false (sym w));
   },
   refl,
 )
@@ -99,7 +99,7 @@ broken_moving b n o m a broken =
         stretch = rewanted false b n m (a.its ++ h.its) (then_moves a.moves h.moves) (stretch_on false (record n { wanting = b }) o m a.its h.its a.moves h.moves a.stretch h.stretch);
         few = (let f = a.few in let g = h.few in omega (arith, f, g));
         stopped = λ w. stopped_on m n.ends o.ends a.moves h.moves a.stretch.moved h.stopped;
-        piece = λ w. absurd (true_not_false (sym w));
+        piece = λ w. absurd (true≢false (sym w));
       },
       refl,
     )
@@ -118,7 +118,7 @@ whole_turn b n o m a moved =
         moves = then_moves a.moves h.moves;
         stretch = rewanted true b n m (a.its ++ h.its) (then_moves a.moves h.moves) (stretch_on true (record n { wanting = b }) o m a.its h.its a.moves h.moves a.stretch h.stretch);
         few = (let f = a.few in let g = h.few in omega (arith, f, g, long, count));
-        stopped = λ w. absurd (true_not_false w);
+        stopped = λ w. absurd (true≢false w);
         piece = λ w. record {
           groups = regrouped b n n.scene.nodes a.its a.groups;
           view = o.view;
@@ -146,7 +146,7 @@ seat_rewanted b n h = record { log_ = h.log_; ends_ = h.ends_; width = h.width; 
 
 module _ {C G : Type 0} (given : C → Option (List ℕ)) where
   pub went_taking : (b : Bool) (n m : RaceNode C G) → BrokenOff (8 * n.node.scene.nodes) (record (seat_of n) { wanting = b }) (seat_of m) → Went given n m
-  went_taking b n m h = let t = broken_taking b (seat_of n) (seat_of m) h in record { turn = t.0; readings = λ w. absurd (true_not_false (sym w ∙ t.1)) }
+  went_taking b n m h = let t = broken_taking b (seat_of n) (seat_of m) h in record { turn = t.0; readings = λ w. absurd (true≢false (sym w ∙ t.1)) }
 
   pub went_moving : (b r : Bool) (n o m : RaceNode C G) → TookUpTo n.node.scene.nodes (record (seat_of n) { wanting = b }) (seat_of o) → o.clock ≡ n.clock
       → (r ≡ true → Moved (first_sessions (length o.node.scene.sessions)) (seat_of o) (seat_of m)) → (r ≡ false → BrokenOff (length o.node.scene.sessions) (seat_of o) (seat_of m))
@@ -159,4 +159,4 @@ module _ {C G : Type 0} (given : C → Option (List ℕ)) where
         readings = λ w. readings_whole (given n.clock) (given m.clock) (seat_of n) (seat_of o) (seat_of m) b a (first_sessions (length o.node.scene.sessions)) (moved refl) g;
       }
   went_moving b false n o m a same moved broken gave =
-      let t = broken_moving b (seat_of n) (seat_of o) (seat_of m) a (broken refl) in record { turn = t.0; readings = λ w. absurd (true_not_false (sym w ∙ t.1)) }
+      let t = broken_moving b (seat_of n) (seat_of o) (seat_of m) a (broken refl) in record { turn = t.0; readings = λ w. absurd (true≢false (sym w ∙ t.1)) }

@@ -5,7 +5,8 @@ use Rattle.lamport_log.specs.Logs.{Log, Item}
 use Rattle.lamport_log.specs.Merge.{merge_of}
 use Rattle.lamport_log.specs.declared.logs.LogEntry.{LogEntry}
 use Rattle.race_round.proofs.LogsReplay.{before, still_now, taken_at}
-use Rattle.race_round.proofs.Places.{get_map, got_map, place_other}
+use Rattle.commit_gate.proofs.Gating.{at_map}
+use Rattle.race_round.proofs.Places.{get_map, place_other}
 use Rattle.race_round.proofs.Sequences.{last_on}
 use Rattle.race_round.proofs.StampsFew.{last_few, merged_long, stamp_few}
 use Rattle.race_round.specs.Races.{IsRace, Turns, logs_of, most_entries}
@@ -42,7 +43,7 @@ module _ (scene : Scene) (done : ℕ) (ns ms : List Seat) (race : IsRace scene d
     all_few : length (merge_of (logs_of ms)) < 2 ^ 62
     all_few =
         let logs = logs_of ms in
-        let each = merged_long ((done + 1) * most_entries scene) logs (λ i l e. let m = got_map (λ (n : Seat). n.log) ms i l e in subst (λ (x : Log). length x.entries ≤ (done + 1) * most_entries scene) m.2 (few_now i m.0 m.1)) in
+        let each = merged_long ((done + 1) * most_entries scene) logs (λ i l e. let m = at_map (λ (n : Seat). n.log) ms i l e in subst (λ (x : Log). length x.entries ≤ (done + 1) * most_entries scene) m.2 (few_now i m.0 m.1)) in
         let count : length logs ≤ 8 = (let c = race.count in let t = turns.count in let n = race.limits.nodes in let l = length-map ms (λ (n : Seat). n.log) in omega (arith, c, t, n.1, l)) in
         let most : most_entries scene ≤ 128 = (let n = race.limits.nodes in let s = race.limits.few_sessions in omega (arith, n.1, s)) in
         let a : (done + 1) * most_entries scene ≤ 256 * 128 = mul-le (done + 1) (most_entries scene) 256 128 (omega (arith, bound)) most in

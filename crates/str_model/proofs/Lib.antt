@@ -1,5 +1,6 @@
 pub mod Worked
 pub mod KindTests
+pub mod ListFacts
 pub mod ListCounts
 pub mod Changes
 pub mod Principle

@@ -1,6 +1,6 @@
 -- The accounts of a bank's scene after its run, and their total.
 use Rattle.bank_book.proofs.Amounts.{deposits, deposits_few, deposits_total}
-use Rattle.bank_book.proofs.Law.{bank_law}
+use Rattle.bank_book.proofs.Law.{bank_law, nothing_or_more}
 use Rattle.bank_book.proofs.Walk.{opening_parts}
 use Rattle.bank_book.specs.Balances.{balances_of, holdings, value_after}
 use Rattle.bank_book.specs.BankLaw.{AddUp, Bank, total}
@@ -79,10 +79,6 @@ bank_run_holds scene ok bank =
 
 -- ---- the total has 64 bits
 
-some_or_none : (ms : List Member) → (ms ≡ []) ⊎ (ms ≢ [])
-some_or_none [] = inl refl
-some_or_none (m ∷ ms) = inr (λ e. absurd (cc e))
-
 few_fit : (n : ℕ) → n ≤ 16 * 2 ^ 31 → FitsSigned w64 (pos n)
 few_fit n h = record { sfits = omega arith }
 
@@ -93,7 +89,7 @@ amounts_fit scene ok bank =
     (few_fit (deposits (script_at scene opening_place)) (deposits_few (script_at scene opening_place) 16 open_ops (script_few scene ok opening_place)))
 
 pub total_fits : (scene : Scene) → IsScene scene → IsBankScene scene → FitsSigned w64 (total_of (balances_after scene))
-total_fits scene ok bank = by_members (some_or_none (members scene (run_answers scene)))
+total_fits scene ok bank = by_members (nothing_or_more (members scene (run_answers scene)))
   where
     holds : BankRunHolds scene
     holds = bank_run_holds scene ok bank

@@ -1,7 +1,7 @@
 -- What is read of names, places and timestamps.
-use Rattle.std.proofs.Common.{List, None, Option, Some, [], ap, arith, length, refl, slice_get, subst, sym, true, ℕ, suc, zero, ◌++◌, ◌<◌, ◌^◌, ◌∙◌, ◌∷◌, ◌≡◌, ◌≤◌}
+use Rattle.str_model.proofs.ListFacts.{nth_sum}
+use Rattle.std.proofs.Common.{List, None, Option, Some, [], ap, arith, length, refl, subst, sym, true, ℕ, suc, zero, ◌++◌, ◌<◌, ◌^◌, ◌∙◌, ◌∷◌, ◌≡◌, ◌≤◌}
 use Rattle.std.proofs.lemmas.List.{append_cancel_left}
-use Rattle.std.proofs.lemmas.List.Sums.{sum_by-cons}
 use Rattle.std.proofs.lemmas.Option.{none-some, same_Some, slice_get_within}
 use Rattle.std.specs.List.{sum_by}
 use Rattle.std.specs.Option.{SomeIff, option_zip}
@@ -143,15 +143,6 @@ node_lost nodes text o e small s =
 nth_within : {X : Type 0} (xs : List X) (k : ℕ) (x : X) → nth xs k ≡ Some x → k ≤ length xs
 nth_within xs zero x e = omega arith
 nth_within xs (suc i) x e = let there : i < length xs = slice_get_within xs i x e in omega arith
-
-pub nth_sum : {X : Type 0} (f : X → ℕ) (xs : List X) (k : ℕ) (x : X) → nth xs k ≡ Some x → f x ≤ sum_by f xs
-nth_sum f xs zero x e = absurd (none-some _ e)
-nth_sum f xs (suc i) x e = within f xs i x e
-  where
-    within : {X : Type 0} (g : X → ℕ) (ys : List X) (j : ℕ) (y : X) → slice_get ys j ≡ Some y → g y ≤ sum_by g ys
-    within g [] j y h = absurd (cc)
-    within g (z ∷ ys) zero y h = let same : z ≡ y = cc in omega (arith, ap g same, sum_by-cons g z ys)
-    within g (z ∷ ys) (suc j) y h = let rest : g y ≤ sum_by g ys = within g ys j y h in omega (arith, sum_by-cons g z ys)
 
 -- a place of a scene is small
 pub placed_within : (sessions : List Session) (p : TxPlace) → IsPlaced sessions p → (p.session.0 ≤ length sessions) × (p.index ≤ sum_by (λ s. length s.txs) sessions)

@@ -81,12 +81,12 @@ abbrev pub Exact : List LogEntry → List Message → List Answer → Type 0
 Exact [] ms rs = (ms ≡ []) × (rs ≡ [])
 Exact (e ∷ es) ms rs = (e.sent ≤ length ms) × (e.answers ≤ length rs) × (Exact es (drop e.sent ms) (drop e.answers rs))
 
-take_more : {A : Type 0} (n : ℕ) (xs ys : List A) → n ≤ length xs → take n (xs ++ ys) ≡ take n xs
+pub take_more : {A : Type 0} (n : ℕ) (xs ys : List A) → n ≤ length xs → take n (xs ++ ys) ≡ take n xs
 take_more zero xs ys h = refl
 take_more (suc n) [] ys h = absurd (omega arith)
 take_more (suc n) (x ∷ xs) ys h = ap (λ l. x ∷ l) (take_more n xs ys (omega arith))
 
-drop_more : {A : Type 0} (n : ℕ) (xs ys : List A) → n ≤ length xs → drop n (xs ++ ys) ≡ drop n xs ++ ys
+pub drop_more : {A : Type 0} (n : ℕ) (xs ys : List A) → n ≤ length xs → drop n (xs ++ ys) ≡ drop n xs ++ ys
 drop_more zero xs ys h = refl
 drop_more (suc n) [] ys h = absurd (omega arith)
 drop_more (suc n) (x ∷ xs) ys h = drop_more n xs ys (omega arith)
@@ -112,13 +112,13 @@ steps_more here logs v [] u it input h e says =
     subst (λ z. StepsLead here logs z (it ∷ []) (came u (step here input u)).view) (sym h) (input, e, says, refl)
 steps_more here logs v (x ∷ its) u it input h e says = (h.0, h.1, h.2, steps_more here logs (came v (step here h.0 v)).view its u it input h.3 e says)
 
-drop_after : {A : Type 0} (n : ℕ) (xs ys : List A) → n ≤ length xs → take n xs ++ ys ≡ xs → ys ≡ drop n xs
+pub drop_after : {A : Type 0} (n : ℕ) (xs ys : List A) → n ≤ length xs → take n xs ++ ys ≡ xs → ys ≡ drop n xs
 drop_after zero xs ys h e = e
 drop_after (suc n) [] ys h e = absurd (omega arith)
 drop_after (suc n) (x ∷ xs) ys h e = drop_after n xs ys (omega arith) cc
 
 -- the counts of a log that replays are exact
-exact_from : (here : Here) (logs : List Log) (v u : View) (n : NodeId) (es : List LogEntry) (ms : List Message) (rs : List Answer) → StepsLead here logs v (cut n es ms rs) u
+pub exact_from : (here : Here) (logs : List Log) (v u : View) (n : NodeId) (es : List LogEntry) (ms : List Message) (rs : List Answer) → StepsLead here logs v (cut n es ms rs) u
     → messages_in (cut n es ms rs) ≡ ms → answers_in (cut n es ms rs) ≡ rs → Exact es ms rs
 exact_from here logs v u n [] ms rs h p q = (sym p, sym q)
 exact_from here logs v u n (e ∷ es) ms rs h p q =

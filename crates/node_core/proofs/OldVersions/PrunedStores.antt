@@ -1,5 +1,7 @@
 -- Pruning the store comes to pruning the list of both stores, since no cached version is Final.
-use Rattle.std.proofs.Common.{Bool, List, [], ap, false, if◌then◌else◌, inl, inr, length, ltb-true, arith, nat_le, not, refl, subst, sym, true, ℕ, ◌&&◌, ◌||◌, ◌∙◌, ◌∷◌, ◌≡◌, ◌⊎◌}
+use Rattle.str_model.proofs.Pruning.PruneMaster.{local_open}
+use Rattle.prepare_master.proofs.Showing.{any_insert}
+use Rattle.std.proofs.Common.{Bool, List, [], ap, false, if◌then◌else◌, inl, inr, length, ltb-true, arith, nat_le, not, refl, sym, true, ℕ, ◌&&◌, ◌∙◌, ◌∷◌, ◌≡◌}
 use Rattle.std.specs.List.{list_any}
 use Rattle.cache_partition.specs.CacheLists.{CacheList, IsCached}
 use Rattle.chain_prune.specs.Hidden.{IsKeyBelow}
@@ -8,14 +10,11 @@ use Rattle.replica_store.specs.StoreLists.{StoreList}
 use Rattle.str_model.specs.Views.{View}
 use Rattle.str_scene.specs.Scenes.{Here}
 use Rattle.str_base.proofs.Order.{before_mix, before_not, insert_after, insert_first}
-use Rattle.str_base.specs.declared.names.KeyId.{KeyId}
-use Rattle.str_base.specs.declared.names.Kind.{Kind}
-use Rattle.str_base.specs.declared.names.Kind.TheVariants.{Final, Local, Pre}
 use Rattle.str_base.specs.declared.names.NodeId.{NodeId}
 use Rattle.str_base.specs.declared.names.PartId.{PartId}
 use Rattle.str_base.specs.declared.names.Version.{Version}
 use Rattle.str_base.specs.Members.{In}
-use Rattle.str_base.specs.Versions.{insert_version, is_before, is_local, is_undecided, same_key}
+use Rattle.str_base.specs.Versions.{insert_version, is_before, is_undecided, same_key}
 use Rattle.str_model.proofs.Pruning.PruneOrder.{InOrder, in_pruned, order_insert}
 use Rattle.str_model.specs.Pruning.{covers, hides, pruned_versions}
 use Rattle.version_chain.proofs.Each.{each_so}
@@ -26,14 +25,6 @@ use Rattle.version_chain.specs.ChainLists.{Each, IsOrdered, Precedes, merged}
 pub in_order : (vs : List Version) → IsOrdered vs → InOrder vs
 in_order [] o = tt
 in_order (v ∷ vs) o = (λ w h. before_not v w (each_in (Precedes v) vs w o.0 h).0, in_order vs o.1)
-
-any_insert_other : (test : Version → Bool) (v : Version) (vs : List Version) → test v ≡ false → list_any test (insert_version v vs) ≡ list_any test vs
-any_insert_other test v [] e = ap (λ b. b || false) e
-any_insert_other test v (w ∷ ws) e = by_before (is_before v w) (any_insert_other test v ws e)
-  where
-    by_before : (b : Bool) → list_any test (insert_version v ws) ≡ list_any test ws → list_any test (if b then v ∷ w ∷ ws else w ∷ insert_version v ws) ≡ (test w || list_any test ws)
-    by_before true r = ap (λ b. b || (test w || list_any test ws)) e
-    by_before false r = ap (λ b. test w || b) r
 
 keeps : (g : ℕ) (v : Version) (vs : List Version) → hides g v vs ≡ false → pruned_versions g (v ∷ vs) ≡ v ∷ pruned_versions g vs
 keeps g v vs e = ap (λ (b : Bool). if b then pruned_versions g vs else v ∷ pruned_versions g vs) e
@@ -54,7 +45,7 @@ pruned_open g v (w ∷ ws) u o = by_before (is_before v w) refl (hides g w ws) r
     after b x (inr k) = before_mix v w x b (o.0 x k)
 
     same_hides : hides g w (insert_version v ws) ≡ hides g w ws
-    same_hides = ap (λ b. not (is_undecided w.kind) && b) (any_insert_other (covers g w.key) v ws (ap (λ b. not b && (same_key v.key w.key && nat_le v.ts.0 g)) u))
+    same_hides = ap (λ b. not (is_undecided w.kind) && b) (any_insert (covers g w.key) v ws (ap (λ b. not b && (same_key v.key w.key && nat_le v.ts.0 g)) u))
 
     by_before : (b : Bool) → is_before v w ≡ b → (c : Bool) → hides g w ws ≡ c → pruned_versions g (insert_version v ws) ≡ insert_version v (pruned_versions g ws)
         → pruned_versions g (if b then v ∷ w ∷ ws else w ∷ insert_version v ws) ≡ insert_version v (pruned_versions g (w ∷ ws))
@@ -67,14 +58,9 @@ merged_open : (g : ℕ) (cache store : List Version) → Each (λ v. is_undecide
 merged_open g [] store u o = refl
 merged_open g (v ∷ cache) store u o = merged_open g cache (insert_version v store) u.1 (order_insert v store o) ∙ ap (λ xs. merged cache xs) (pruned_open g v store u.0 o)
 
-open_local : (kind : Kind) → is_local kind ≡ true → is_undecided kind ≡ true
-open_local Local e = refl
-open_local Pre e = refl
-open_local Final e = absurd (cc e)
-
 pub merged_pruned : (g : ℕ) (node : NodeId) (hosted : List PartId) (cache store : List Version) → Each (IsCached node hosted) cache → IsOrdered store
     → pruned_versions g (merged cache store) ≡ merged cache (pruned_versions g store)
-merged_pruned g node hosted cache store c o = merged_open g cache store (each_so (IsCached node hosted) (λ v. is_undecided v.kind ≡ true) cache (λ v h. open_local v.kind h.0) c) (in_order store o)
+merged_pruned g node hosted cache store c o = merged_open g cache store (each_so (IsCached node hosted) (λ v. is_undecided v.kind ≡ true) cache (λ v h. local_open v.kind h.0) c) (in_order store o)
 
 -- each stored version is of a key of the scene
 pub key_within : (here : Here) (v : View) (store : StoreList) (cache : CacheList) → Stored here v store cache → (n : ℕ) → n ≡ length here.scene.keys.names → Each (IsKeyBelow n) store.versions

@@ -1,5 +1,6 @@
 -- The partitions of the writes of a transaction, one for each write, are those that the gate asks of its write buffer.
-use Rattle.std.proofs.Common.{Bool, List, Some, [], ap, append_assoc, arith, drop, eq-eqb, eqb-true, false, inl, inr, length, ltb-true, map, refl, slice_get, subst, suc, sym, take, true, zero, ℕ, ◌++◌, ◌+◌, ◌-◌, ◌<◌, ◌==◌, ◌∙◌, ◌∷◌, ◌≡◌, ◌≤◌}
+use Rattle.str_model.proofs.ListFacts.{range_in}
+use Rattle.std.proofs.Common.{List, Some, [], ap, append_assoc, arith, drop, eq-eqb, false, length, ltb-true, map, refl, slice_get, subst, suc, sym, take, true, zero, ℕ, ◌++◌, ◌+◌, ◌-◌, ◌<◌, ◌∙◌, ◌∷◌, ◌≡◌, ◌≤◌}
 use Rattle.std.specs.Cmp.{both_ways}
 use Rattle.std.specs.List.{list_any, range_with_len}
 use Rattle.commit_gate.specs.Answers.{IsSame, Tells}
@@ -29,17 +30,9 @@ use Rattle.str_model.specs.Views.{Own, View, is_decided}
 use Rattle.str_scene.specs.SceneLimits.{Exists, IsScene}
 use Rattle.str_scene.specs.Scenes.{Here, map_of, named_part, part_of, written_parts}
 
-in_range : (a n k : ℕ) → a ≤ k → k < a + n → In k (range_with_len a n)
-in_range a zero k l m = absurd (omega (arith, l, m))
-in_range a (suc n) k l m = by_test (a == k) refl (λ h. in_range (a + 1) n k h (omega (arith, m)))
-  where
-    by_test : (b : Bool) → (a == k) ≡ b → (a + 1 ≤ k → In k (range_with_len (a + 1) n)) → In k (range_with_len a (suc n))
-    by_test true e rec = inl (eqb-true a k e)
-    by_test false e rec = inr (rec (grind (arith, l, e, eq-eqb)))
-
 -- a partition of the scene is one of those upwards
 pub in_numbered : (rows : List (List NodeId)) (p : PartId) → Exists p.0 (length rows) → In p (numbered rows)
-in_numbered rows p e = map_in (λ (n : ℕ). let q : PartId = record { 0 = n } in q) (range_with_len 1 (length rows)) p.0 (in_range 1 (length rows) p.0 e.0 (let h = e.1 in omega (arith, h)))
+in_numbered rows p e = map_in (λ (n : ℕ). let q : PartId = record { 0 = n } in q) (range_with_len 1 (length rows)) p.0 (range_in 1 (length rows) p.0 e.0 (let h = e.1 in omega (arith, h)))
 
 -- the partition of a key exists
 pub part_exists : (here : Here) → IsScene here.scene → (w : Write) → has_key here w.key ≡ true → Exists (part_of here.scene w.key).0 (length here.scene.parts)

@@ -1,6 +1,7 @@
 -- The pass over the undecided own transactions alone is the pass over all of them.
+use Rattle.std.proofs.lemmas.Option.{get_or_from_slice_get, slice_get_within}
 use Rattle.std.proofs.Common.{Bool, List, Some, [], ap, arith, false, if◌then◌else◌, inl, inr, length, refl, slice_get, slice_index_or, subst, suc, sym, take, true, zero, ℕ, ◌++◌, ◌+◌, ◌<◌, ◌∙◌, ◌∷◌, ◌≡◌, ◌≤◌, ◌⊎◌}
-use Rattle.std.proofs.Math.Seq.{take-length}
+use Rattle.std.proofs.Math.Seq.{take-length, take-suc}
 use Rattle.std.proofs.lemmas.List.{append-nil, length-take-le}
 use Rattle.node_parts.specs.Owning.{open_from}
 use Rattle.node_core.proofs.Whole.Growing.{Grows, grows_along, grows_self, grows_then}
@@ -45,11 +46,6 @@ open_more m (y ∷ xs) x = by_test (is_decided y.phase) (open_more (m + 1) xs x)
     by_test true rec = shifted rec
     by_test false rec = ap (λ ys. m ∷ ys) (shifted rec)
 
-take_more : {A : Type 0} (xs : List A) (n : ℕ) (x : A) → slice_get xs n ≡ Some x → take (suc n) xs ≡ take n xs ++ x ∷ []
-take_more [] n x e = absurd (cc e)
-take_more (y ∷ xs) zero x e = let q : y ≡ x = cc e in ap (λ z. z ∷ []) q
-take_more (y ∷ xs) (suc n) x e = ap (λ ys. y ∷ ys) (take_more xs n x e)
-
 module _ (here : Here) where
   -- those at n and above are as they were
   pub pass_rests : (n j : ℕ) (d : Doing) → n ≤ j → slice_get (pass_to here n d).view.own j ≡ slice_get d.view.own j
@@ -65,7 +61,7 @@ module _ (here : Here) where
   turns_to zero d le = refl
   turns_to (suc n) d le =
       let s = slice_get_there d.view.own n (omega (arith, le)) in
-      ap (λ ys. turns here (open_from 0 ys) d) (take_more d.view.own n s.0 s.1)
+      ap (λ ys. turns here (open_from 0 ys) d) (take-suc d.view.own n s.0 (slice_get_within d.view.own n s.0 s.1) ∙ ap (λ z. take n d.view.own ++ z ∷ []) (get_or_from_slice_get d.view.own n s.0 s.0 s.1))
       ∙ (ap (λ ys. turns here ys d) (open_more 0 (take n d.view.own) s.0)
       ∙ by_test s.0 s.1 (is_decided s.0.phase) refl (length-take-le n d.view.own (omega (arith, le))) (turns_to n d (omega (arith, le))))
     where

@@ -1,7 +1,6 @@
 -- A client step of a work: which session, which transaction, and what may begin.
-use Rattle.std.proofs.Common.{Bool, List, None, Some, [], ap, arith, false, get_or, is_some, length, not, refl, sym, true, ℕ, ◌+◌, ◌<◌, ◌^◌, ◌∙◌, ◌≡◌, ◌≤◌, slice_get, sum_by, suc, zero}
-use Rattle.std.proofs.lemmas.List.Sums.{get_or-le-sum_by}
-use Rattle.std.proofs.lemmas.Option.{slice_get-get_or, slice_get_within}
+use Rattle.str_model.proofs.ListFacts.{nth_sum}
+use Rattle.std.proofs.Common.{Bool, None, Some, ap, arith, false, is_some, length, not, refl, sym, true, ℕ, ◌+◌, ◌<◌, ◌^◌, ◌∙◌, ◌≡◌, slice_get}
 use Rattle.node_parts.proofs.Owning.LastPlaces.{last_within}
 use Rattle.node_parts.specs.Sites.{has_script, is_at}
 use Rattle.node_core.proofs.Rules.ClientSteps.{AtSession, at_session, begin_moves, no_session, rule_active, rule_decided, rule_first, rule_waits}
@@ -34,18 +33,10 @@ module _ (w : WorkState) (s : SessionId) (a : AtSession w.here s) (i : ℕ) (l :
 
 -- ---- the index in a session is small
 
-nth_of_sum : {A : Type 0} (f : A → ℕ) (xs : List A) (n : ℕ) (x : A) → nth xs n ≡ Some x → f x ≤ sum_by f xs
-nth_of_sum f xs zero x e = absurd (cc e)
-nth_of_sum f xs (suc i) x e =
-    let l = slice_get_within xs i x e in
-    let g : Some (get_or xs i x) ≡ Some x = sym (slice_get-get_or xs i x l) ∙ e in
-    let q : f (get_or xs i x) ≡ f x = (let same : get_or xs i x ≡ x = cc g in ap f same) in
-    let s = get_or-le-sum_by f xs i x l in omega (arith, q, s)
-
 pub index_few : (w : WorkState) → HasFacts w → (i : ℕ) (x : Own) → slice_get w.doing.view.own i ≡ Some x → x.place.index + 1 < 2 ^ 32
 index_few w f i x own =
     let p = f.moment.order.placed i x own in
-    let t = nth_of_sum (λ (s : Session). length s.txs) w.here.scene.sessions x.place.session.0 p.text p.session in
+    let t = nth_sum (λ (s : Session). length s.txs) w.here.scene.sessions x.place.session.0 p.text p.session in
     let few = f.limits.few_transactions in
     let e = p.index.1 in
     omega (arith, t, few, e)

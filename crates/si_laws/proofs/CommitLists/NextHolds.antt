@@ -18,12 +18,12 @@ use Rattle.str_base.proofs.Lists.{got_push}
 
 -- ---- lists
 
-take_before : {A : Type 0} (xs : List A) (i : ℕ) (y z : A) → slice_get xs i ≡ Some z → take i (xs ++ y ∷ []) ≡ take i xs
+pub take_before : {A : Type 0} (xs : List A) (i : ℕ) (y z : A) → slice_get xs i ≡ Some z → take i (xs ++ y ∷ []) ≡ take i xs
 take_before [] i y z e = absurd cc
 take_before (x ∷ xs) zero y z e = refl
 take_before (x ∷ xs) (suc i) y z e = ap (λ ys. x ∷ ys) (take_before xs i y z e)
 
-take_whole : {A : Type 0} (xs ys : List A) → take (length xs) (xs ++ ys) ≡ xs
+pub take_whole : {A : Type 0} (xs ys : List A) → take (length xs) (xs ++ ys) ≡ xs
 take_whole [] ys = refl
 take_whole (x ∷ xs) ys = ap (λ zs. x ∷ zs) (take_whole xs ys)
 

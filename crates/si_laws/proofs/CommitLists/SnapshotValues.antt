@@ -137,7 +137,7 @@ look_absent scene all a k n none =
         refuted : nat_le x.fc a.rs.0 ≡ true → wrote_key k x.writes ≡ true → IsOf scene all x → ⊥
         refuted p q r = none r.answer x.fc r.within r.committed (leb-true x.fc a.rs.0 p) (subst (λ ws. wrote_key k ws ≡ true) (sym r.writes) q)
 
-counts_above : (a : Answer) (o : Outcome) (m : Member) → a.outcome ≡ o → ((f : ℕ) → IsCommittedAt a f → a.rs.0 < f) → m.fc ≤ a.rs.0 → counts_for a o m ≡ true
+pub counts_above : (a : Answer) (o : Outcome) (m : Member) → a.outcome ≡ o → ((f : ℕ) → IsCommittedAt a f → a.rs.0 < f) → m.fc ≤ a.rs.0 → counts_for a o m ≡ true
 counts_above a (Committed (Some f) gets) m e h l = let r : a.rs.0 < f.0 = h f.0 (gets, e) in lower_before m.fc f.0 m.tx a.tx (omega arith)
 counts_above a (Committed None gets) m e h l = refl
 counts_above a (Aborted cause) m e h l = refl

@@ -1,8 +1,9 @@
 -- Who takes part in a transaction: the replicas, but its origin, of each partition that it wrote in.
+use Rattle.str_model.proofs.ListFacts.{range_in}
 use Rattle.partition_map.specs.declared.rows.Asked.{Asked}
 use Rattle.str_model.proofs.OwnFacts.AtHome.{OwnGood, seats}
 use Rattle.str_model.proofs.Changes.PairWords.{any_has}
-use Rattle.std.proofs.Common.{List, None, Option, Some, [], add-one, ap, arith, eq-eqb, eqb-true, flat_map, inl, inr, length, map, not, refl, slice_get, subst, subst₂, suc, sym, true, zero, ℕ, ◌+◌, ◌<◌, ◌∙◌, ◌∷◌, ◌≡◌, ◌≢◌, ◌≤◌, ◌⊎◌}
+use Rattle.std.proofs.Common.{List, None, Option, Some, [], add-one, ap, arith, eq-eqb, eqb-true, flat_map, inl, inr, length, map, not, refl, slice_get, subst, subst₂, suc, sym, true, zero, ℕ, ◌+◌, ◌<◌, ◌∙◌, ◌∷◌, ◌≡◌, ◌≢◌, ◌≤◌}
 use Rattle.std.proofs.lemmas.Option.{slice_get_within}
 use Rattle.std.specs.List.{list_any, range_with_len}
 use Rattle.str_base.specs.Versions.{same_node}
@@ -12,7 +13,7 @@ use Rattle.str_base.specs.declared.names.Version.{Version}
 use Rattle.str_base.specs.declared.names.Write.{Write}
 use Rattle.str_model.specs.Views.{Own, lc_of}
 use Rattle.str_scene.specs.Scenes.{Here, Scene, all_parts, hosts, in_part, nth, or_none, others, part_of, participants, replicas, unasked, written_parts}
-use Rattle.std.proofs.lemmas.Bool.{cases_eq, false_from_ne_true}
+use Rattle.std.proofs.lemmas.Bool.{false_from_ne_true}
 use Rattle.str_base.proofs.Members.{any_in, filter_in, in_filter, in_flat_map, in_left, in_map, in_right, map_in}
 use Rattle.str_base.specs.Members.{In}
 
@@ -27,22 +28,6 @@ pub flat_map_in : {A B : Type 0} (f : A → List B) (xs : List A) (x : A) (y : B
 flat_map_in f [] x y h k = absurd h
 flat_map_in {B = B} f (z ∷ xs) x y (inl e) k = in_left (f z) (flat_map f xs) y (subst (λ u. In y (f u)) (sym e) k)
 flat_map_in f (z ∷ xs) x y (inr h) k = in_right (f z) (flat_map f xs) y (flat_map_in f xs x y h k)
-
-above : (b c : ℕ) → b ≤ c → b ≢ c → b + 1 ≤ c
-above b c l f = grind (arith, l, f)
-
-pub range_in : (a n k : ℕ) → a ≤ k → k < a + n → In k (range_with_len a n)
-range_in a zero k le less = absurd (omega (arith, le, less))
-range_in a (suc n) k le less = by_first (cases_eq a k) (λ l. range_in (a + 1) n k l (omega (arith, less)))
-  where
-    by_first : (a ≡ k) ⊎ (a ≢ k) → (a + 1 ≤ k → In k (range_with_len (a + 1) n)) → (a ≡ k) ⊎ In k (range_with_len (a + 1) n)
-    by_first (inl e) rec = inl e
-    by_first (inr f) rec = inr (rec (above a k le f))
-
-pub in_range : (a n k : ℕ) → In k (range_with_len a n) → (a ≤ k) × (k < a + n)
-in_range a zero k h = absurd h
-in_range a (suc n) k (inl e) = (omega (arith, e), omega (arith, e))
-in_range a (suc n) k (inr h) = let r = in_range (a + 1) n k h in (omega (arith, r.0), omega (arith, r.1))
 
 -- a hosted partition exists
 pub part_exists : (scene : Scene) (r : NodeId) (p : PartId) → hosts scene r p ≡ true → (1 ≤ p.0) × (p.0 < 1 + length scene.parts)

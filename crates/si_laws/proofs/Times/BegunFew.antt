@@ -1,6 +1,7 @@
 -- At most 1024 transactions begin: their places differ, and are places of the scene.
 use Rattle.si_laws.proofs.Times.NoRepeats.{Once, fits, map_length, once_append}
-use Rattle.si_laws.proofs.Stages.ParticipantSeats.{of_nth, range_in}
+use Rattle.str_model.proofs.ListFacts.{range_in}
+use Rattle.si_laws.proofs.Stages.ParticipantSeats.{of_nth}
 use Rattle.si_laws.proofs.Sessions.SessionHolds.{good_everywhere}
 use Rattle.str_model.proofs.OwnFacts.PlacesInOrder.{InOrder, PlacedIn}
 use Rattle.std.proofs.Common.{List, Some, [], ap, arith, inl, inr, length, length-append, map, refl, slice_get, subst, suc, sym, zero, ℕ, ◌++◌, ◌+◌, ◌∙◌, ◌∷◌, ◌≡◌, ◌≤◌}
@@ -77,6 +78,14 @@ in_places (v ∷ vs) z h = elim (in_append (map place_key v.own) (places_of vs) 
   | inl k ↦ (let r = in_map place_key v.own z k in (0, v, r.0, refl, r.1, r.2))
   | inr k ↦ (let r = in_places vs z k in (suc r.0, r.1, r.2, r.3, r.4, r.5))
 ]
+
+-- an own transaction's place is one of them
+pub place_in : (vs : List View) (n : ℕ) (v : View) (x : Own) → slice_get vs n ≡ Some v → In x v.own → In (place_key x) (places_of vs)
+place_in [] n v x e h = absurd (cc e)
+place_in (u ∷ us) zero v x e h =
+    let same : v ≡ u = (let q : u ≡ v = cc e in sym q) in
+    in_left (map place_key u.own) (places_of us) (place_key x) (map_in place_key u.own x (subst (λ (z : View). In x z.own) same h))
+place_in (u ∷ us) (suc n) v x e h = in_right (map place_key u.own) (places_of us) (place_key x) (place_in us n v x e h)
 
 module _ (scene : Scene) where
   -- one session is of one node

@@ -1,7 +1,7 @@
 -- Lists without repeats, and how long they are.
 use Rattle.std.proofs.Common.{Bool, List, Some, [], ap, arith, filter, inl, inr, length, map, refl, slice_get, subst, suc, sym, zero, ℕ, ◌++◌, ◌+◌, ◌∙◌, ◌∷◌, ◌≡◌, ◌≤◌, ◌⊎◌}
 use Rattle.std.specs.List.{range_with_len}
-use Rattle.si_laws.proofs.Stages.ParticipantSeats.{in_range}
+use Rattle.str_model.proofs.ListFacts.{in_range}
 use Rattle.str_model.proofs.Changes.SnapshotsGain.{if_elim}
 use Rattle.str_base.proofs.Members.{at_in, in_append, in_filter, in_map}
 use Rattle.str_base.specs.Members.{In}

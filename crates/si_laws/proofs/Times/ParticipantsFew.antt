@@ -3,7 +3,8 @@ use Rattle.partition_map.specs.declared.rows.Asked.{Asked}
 use Rattle.si_laws.proofs.Times.NoRepeats.{Once, fits, map_length, once_filter, once_map, once_places, once_range}
 use Rattle.str_model.proofs.OwnFacts.AtHome.{OwnGood, seats}
 use Rattle.str_model.proofs.OwnFacts.ScriptsCovered.{ScriptGood, WritesKey}
-use Rattle.si_laws.proofs.Stages.ParticipantSeats.{flat_map_in, range_in}
+use Rattle.str_model.proofs.ListFacts.{range_in}
+use Rattle.si_laws.proofs.Stages.ParticipantSeats.{flat_map_in}
 use Rattle.str_model.proofs.Changes.PairWords.{any_has}
 use Rattle.str_model.specs.Owned.{wrote_key}
 use Rattle.std.proofs.Common.{List, None, Option, Some, [], ap, arith, eq-eqb, eqb-true, flat_map, inl, inr, length, length-append, map, not, refl, subst, suc, sym, true, zero, ℕ, ◌*◌, ◌∷◌, ◌≡◌, ◌≤◌}

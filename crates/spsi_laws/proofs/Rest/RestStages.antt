@@ -1,13 +1,14 @@
 -- What the law Rest needs of each state of a cluster: of whom Pre versions are, that no dependency wrote in a partition that was asked, and that
 -- decisions were sent.
-use Rattle.std.proofs.Common.{Bool, List, None, Option, Some, [], ap, append-nil, arith, eq-eqb, eqb-true, false, filter, find, inl, inr, length, map, not, refl, replicate, slice_get, slice_set, subst, subst₂, sym, true, ℕ, ◌++◌, ◌+◌, ◌-◌, ◌<◌, ◌==◌, ◌||◌, ◌∙◌, ◌∷◌, ◌≡◌, ◌≢◌, ◌≤◌, ◌⊎◌}
+use Rattle.std.proofs.Common.{Bool, List, None, Option, Some, [], ap, arith, eq-eqb, false, find, inl, inr, length, map, not, refl, replicate, slice_get, slice_set, subst, subst₂, sym, true, ℕ, ◌++◌, ◌+◌, ◌-◌, ◌||◌, ◌∙◌, ◌∷◌, ◌≡◌, ◌≢◌, ◌⊎◌}
 use Rattle.std.specs.List.{list_any, range_with_len}
 use Rattle.partition_map.specs.declared.rows.Asked.{Asked}
 use Rattle.dependency_set.specs.declared.names.Dep.{Dep}
 use Rattle.si_laws.proofs.Stages.LinkedStates.{IsCertified, Told, certified-lasts, certified_stays, one_of, one_place}
-use Rattle.si_laws.proofs.Stages.LinksKept.{node_e, placed_foreign, placed_writes, there_d}
+use Rattle.si_laws.proofs.Stages.LinksKept.{node_e, placed_foreign, placed_writes}
 use Rattle.si_laws.proofs.Order.OrderAtMaster.{Governed, governed-keeps, governed_opening}
-use Rattle.si_laws.proofs.Stages.ParticipantSeats.{own_seat, part_exists, range_in}
+use Rattle.str_model.proofs.ListFacts.{range_in}
+use Rattle.si_laws.proofs.Stages.ParticipantSeats.{own_seat, part_exists}
 use Rattle.si_laws.specs.Laws.Presence.{Decides}
 use Rattle.spsi_laws.proofs.Rest.RestActs.{Decided, NewMessage, d_abort, d_close, d_commit, d_old, kept_deps, n_ask, n_old, n_other, new_message, newly_decided, pre_new}
 use Rattle.str_base.specs.declared.names.Cause.{Cause}
@@ -20,11 +21,11 @@ use Rattle.str_base.specs.declared.names.Write.{Write}
 use Rattle.str_base.specs.Versions.{same_node, same_part}
 use Rattle.str_model.proofs.Principle.SingleChanges.{Act, IsHere, Where, it_comes, it_waits}
 use Rattle.str_model.proofs.Principle.Everywhere.{IsSeen, Stage, at_place, during, everywhere, stage_of}
-use Rattle.str_model.specs.Acts.{asked_ones, fresh, in_phase, marks_in, with_asked}
+use Rattle.str_model.specs.Acts.{asked_ones, fresh, marks_in, with_asked}
 use Rattle.str_model.specs.Acts
 use Rattle.str_model.specs.Gates.{Ask, DepParts, dep_parts, gate_of, gate_turn}
 use Rattle.str_model.specs.Gates
-use Rattle.str_model.specs.Owned.{Owns}
+use Rattle.str_model.specs.Owned.{Owns, Asks}
 use Rattle.str_model.specs.Runs.{opening, opening_view, run}
 use Rattle.str_model.specs.Views.{Aborted, Committed, Doing, Global, Own, View, is_decided, lc_of, letter, name_of}
 use Rattle.str_model.specs.declared.messages.Arrived.{Arrived}
@@ -38,7 +39,6 @@ use Rattle.str_scene.specs.Scenes.{Here, Scene, all_parts, hosts, in_part, leads
 use Rattle.str_model.proofs.Changes.OwnTurns.{OwnChange, o_aborts, o_acks, o_asks, o_begins, o_certifies, o_closes, o_commits, o_puts, o_rests, own_change}
 use Rattle.str_model.proofs.Changes.VersionChanges.{Placed, by_master, by_slave, version_step}
 use Rattle.str_model.proofs.OwnFacts.AtHome.{AckStep, OwnGood, a_new, a_old, acked_parts}
-use Rattle.str_model.specs.Owned.{Asks}
 use Rattle.str_base.proofs.Members.{any_in, filter_in, in_append, in_filter, in_left, in_map, in_right, map_in}
 use Rattle.str_base.proofs.Tests.{and_true_right}
 use Rattle.str_base.proofs.Lists.{get_push, get_set, got_replicate, got_set}

@@ -8,7 +8,8 @@ use Rattle.si_laws.proofs.Scripts.ReadsEvaluate.{Wants}
 use Rattle.si_laws.proofs.Scripts.EvaluationKept.{AllEvaluate, gives-act}
 use Rattle.si_laws.proofs.Stages.LinkedStates.{one_of}
 use Rattle.si_laws.proofs.Times.NoRepeats.{map_length}
-use Rattle.si_laws.proofs.Stages.ParticipantSeats.{own_seat, part_exists, range_in}
+use Rattle.str_model.proofs.ListFacts.{range_in}
+use Rattle.si_laws.proofs.Stages.ParticipantSeats.{own_seat, part_exists}
 use Rattle.spsi_laws.proofs.Work.LeftHome.{HomeFit, fit-act}
 use Rattle.spsi_laws.proofs.Rest.RestActs.{pre_new}
 use Rattle.str_base.specs.declared.names.KeyId.{KeyId}

@@ -2,11 +2,11 @@
 use Rattle.std.proofs.Common.{Bool, List, None, Option, Some, [], ap, arith, false, find, length, refl, slice_get, subst, suc, sym, true, zero, ℕ, ◌++◌, ◌+◌, ◌<◌, ◌∙◌, ◌∷◌, ◌≡◌, ◌≤◌}
 use Rattle.std.proofs.lemmas.Option.{slice_get_within}
 use Rattle.std.specs.List.{range_with_len}
-use Rattle.si_laws.proofs.Stages.ParticipantSeats.{range_in}
+use Rattle.str_model.proofs.ListFacts.{range_in}
 use Rattle.spsi_laws.proofs.Work.LeftEvents.{Ready}
 use Rattle.spsi_laws.proofs.Work.WorkHolds.{first_lowers, ready_run, run_more, step_lowers_at}
 use Rattle.spsi_laws.specs.Laws.Drain.{DrainFollows, DrainLowers, DrainRests, DrainStops, drain_from}
-use Rattle.str_model.specs.Drains.{AllGiven, AtRest, client_or_stop, drain_events, first_missing, message_or_client, moves, next_event, next_message, next_session, session_moves}
+use Rattle.str_model.specs.Drains.{AtRest, client_or_stop, drain_events, first_missing, message_or_client, moves, next_event, next_message, next_session, session_moves}
 use Rattle.str_model.specs.Runs.{World, happens, run, run_from}
 use Rattle.str_model.specs.Work.{left}
 use Rattle.str_scene.specs.declared.names.Event.{Event}

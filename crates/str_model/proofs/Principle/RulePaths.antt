@@ -1,5 +1,6 @@
 -- The rule of each input is a path of single changes.
-use Rattle.std.proofs.Common.{Bool, [], eqb-true, ◌∷◌, List, None, Option, Some, ap, arith, false, length, nat_lt, not, refl, slice_get, sub-one, subst, suc, sym, true, zero, ℕ, ◌&&◌, ◌+◌, ◌-◌, ◌||◌, ◌≡◌, ◌≢◌}
+use Rattle.partition_map.proofs.Proper.{at_nth}
+use Rattle.std.proofs.Common.{Bool, [], eqb-true, ◌∷◌, List, None, Option, Some, ap, arith, false, length, nat_lt, not, refl, slice_get, subst, suc, sym, true, zero, ℕ, ◌&&◌, ◌+◌, ◌-◌, ◌||◌, ◌≡◌, ◌≢◌}
 use Rattle.std.specs.List.{list_any}
 use Rattle.partition_map.specs.declared.rows.Asked.{Asked}
 use Rattle.str_base.specs.declared.names.Cause.{Cause}
@@ -67,15 +68,11 @@ from_one : {X : Type 0} (xs : List X) (n : ℕ) (x : X) → nth xs n ≡ Some x 
 from_one xs zero x e = absurd cc
 from_one xs (suc i) x e = omega arith
 
-nth-get : {X : Type 0} (xs : List X) (n : ℕ) (x : X) → nth xs n ≡ Some x → slice_get xs (n - 1) ≡ Some x
-nth-get xs zero x e = absurd cc
-nth-get xs (suc i) x e = rw sub-one e
-
 -- the own transaction that a message names
 pub named_owns : (here : Here) (tx : TxId) (d : Doing) (x : Own) → Returns.own_named here tx d ≡ Some x → slice_get d.view.own (tx.seq - 1) ≡ Some x
 named_owns here tx d x =
     if_elim (λ o. o ≡ Some x → slice_get d.view.own (tx.seq - 1) ≡ Some x) (same_node tx.node here.node) (nth d.view.own tx.seq) None
-    (λ e h. nth-get d.view.own tx.seq x h) (λ e h. absurd (cc h))
+    (λ e h. at_nth d.view.own tx.seq x h) (λ e h. absurd (cc h))
 
 module _ (here : Here) (input : Input) (w : Where) where
   module _ (is_rule : w ≡ InRule) where

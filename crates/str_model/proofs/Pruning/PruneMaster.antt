@@ -40,7 +40,7 @@ known_pruned g view tx p h = by_done (is_done view tx p) refl
     by_done true e = rw e refl
     by_done false e = ap (λ z. is_done view tx p || z) (any_pruned g (of_pair tx p) view.versions (h e))
 
-local_open : (kind : Kind) → is_local kind ≡ true → is_undecided kind ≡ true
+pub local_open : (kind : Kind) → is_local kind ≡ true → is_undecided kind ≡ true
 local_open Pre e = absurd cc
 local_open Local e = refl
 local_open Final e = absurd cc

@@ -131,7 +131,7 @@ made here input w d e (act_reply tx l rs v u' fc d' g) u h = m_old h
 
 -- ---- keys of writes
 
-writes_key : (scene : Scene) (op : Op) (k : KeyId) → IsOp scene.version scene.keys op → WritesKey op k → k.0 < length scene.keys.names
+pub writes_key : (scene : Scene) (op : Op) (k : KeyId) → IsOp scene.version scene.keys op → WritesKey op k → k.0 < length scene.keys.names
 writes_key scene (Put l m) k h q = subst (λ (z : KeyId). z.0 < length scene.keys.names) q h.0
 writes_key scene (Puts l t) k h q = subst (λ (z : KeyId). z.0 < length scene.keys.names) q h.0
 writes_key scene (Add l m) k h q = subst (λ (z : KeyId). z.0 < length scene.keys.names) q h.0

@@ -1,6 +1,6 @@
 use Rattle.std.proofs.Common.{[], ap, append_assoc, sym, ◌++◌, ◌+◌, ◌∙◌, ◌∷◌}
 use Rattle.std.specs.List.{range_with_len}
-use Rattle.lamport_log.proofs.Renumbering.NodeNumbers.{range_more}
+use Rattle.str_model.proofs.ListFacts.{range_more}
 use Rattle.lamport_log.proofs.cursors.append_numbers.Goals as goal
 
 pub loop-i-preserved : goal.loop-i-preserved

@@ -1,10 +1,8 @@
-use Rattle.std.proofs.Common.{◌≡◌, ◌<◌, ℕ, ap, arith, length}
+use Rattle.race_round.proofs.Sequences.{within}
+use Rattle.std.proofs.Common.{ap, length}
 use Rattle.race_round.proofs.ClientSteps.{moves_broken, moves_first, moves_next}
 use Rattle.str_scene.specs.Scenes.{Scene}
 use Rattle.race_round.proofs.moves.move_all.Goals as goal
-
-within : {i m n k : ℕ} → i < m → m ≡ n → n ≡ k → i < k
-within h e f = omega (arith, h, e, f)
 
 pub loop-place-init : goal.loop-place-init
 loop-place-init g c = moves_first _ _ c.requires.seat

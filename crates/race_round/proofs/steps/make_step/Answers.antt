@@ -1,6 +1,6 @@
+use Rattle.std.proofs.lemmas.Bool.{true≢false}
 use Rattle.std.proofs.Common.{◌∙◌, ap, arith, length, refl, rules, sym, true, false}
 use Rattle.race_round.proofs.StepsMade.{step_tried, stepped_few}
-use Rattle.race_round.proofs.Takings.{true_not_false}
 use Rattle.race_round.specs.Stretches.Tried.{was_unmade}
 use Rattle.ring_links.specs.Ends.{place_of}
 use Rattle.str_model.specs.declared.messages.Answer.{Answer}
@@ -47,11 +47,11 @@ returns-then-not-send_all-clause-tried g c =
     let h = c.make_room.ensures.room c.if-not-make_room.false in
     step_tried c.args.n.now c.make_room.new.n _ c.args.input.now c.args.logged c.args.stamp _ c.step-moves.result _ _ c.step-moves.new.self c.step-moves.new.out c.requires.seat c.make_room.ensures.roomed h c.step-moves.ensures
     (c.as_slice-messages.ensures.value ∙ c.messages-2.ensures) (c.as_slice.ensures.value ∙ c.answers.ensures) refl refl refl c.enter.ensures.node c.enter.ensures.entries c.enter.ensures.messages c.enter.ensures.released refl
-    (search rules) c.send_all.ensures.sent false (λ w. absurd (true_not_false (sym w))) (λ w. refl)
+    (search rules) c.send_all.ensures.sent false (λ w. absurd (true≢false (sym w))) (λ w. refl)
 
 pub returns-clause-tried : goal.returns-clause-tried
 returns-clause-tried g c =
     let h = c.make_room.ensures.room c.if-not-make_room.false in
     step_tried c.args.n.now c.make_room.new.n _ c.args.input.now c.args.logged c.args.stamp _ c.step-moves.result _ _ c.step-moves.new.self c.step-moves.new.out c.requires.seat c.make_room.ensures.roomed h c.step-moves.ensures
     (c.as_slice-messages.ensures.value ∙ c.messages-2.ensures) (c.as_slice.ensures.value ∙ c.answers.ensures) refl refl refl c.enter.ensures.node c.enter.ensures.entries c.enter.ensures.messages c.enter.ensures.released refl
-    (search rules) c.send_all.ensures.sent true (λ w. c.send_all.ensures.away c.if-not-send_all.false) (λ w. absurd (true_not_false w))
+    (search rules) c.send_all.ensures.sent true (λ w. c.send_all.ensures.away c.if-not-send_all.false) (λ w. absurd (true≢false w))

@@ -1,12 +1,10 @@
-use Rattle.std.proofs.Common.{◌≡◌, ◌+◌, ◌<◌, ◌∙◌, ℕ, ap, arith, eqb-true, refl, sym}
+use Rattle.race_round.proofs.Sequences.{within}
+use Rattle.std.proofs.Common.{◌≡◌, ◌+◌, ◌∙◌, ap, eqb-true, refl, sym}
 use Rattle.race_round.proofs.Takings.{takes_broken, takes_more, takes_none, takes_own}
 use Rattle.race_round.specs.Nodes.{seat_of}
 use Rattle.str_base.specs.declared.names.NodeId.{NodeId}
 use Rattle.str_scene.specs.Scenes.{Scene}
 use Rattle.race_round.proofs.takes.take_all.Goals as goal
-
-within : {i m n k : ℕ} → i < m → m ≡ n → n ≡ k → i < k
-within h e f = omega (arith, h, e, f)
 
 pub loop-place-init : goal.loop-place-init
 loop-place-init g c = record { took = takes_none (seat_of c.args.n.now) c.requires.seat; clock = refl }
