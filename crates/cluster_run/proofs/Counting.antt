@@ -3,7 +3,8 @@ use Rattle.std.proofs.Common.{List, [], arith, length, not, refl, sum_by, ℕ, �
 use Rattle.std.proofs.lemmas.List.Sums.{count_by-le-length, sum_by-cons}
 use Rattle.std.specs.List.{count_by}
 use Rattle.node_core.specs.Working.{NodeState}
-use Rattle.cluster_run.specs.Clusters.{IsRun, events_of, views_of}
+use Rattle.cluster_run.proofs.RunOf.{answers_few}
+use Rattle.cluster_run.specs.Clusters.{AreFew, IsRun, events_of, views_of}
 use Rattle.si_laws.proofs.Times.BegunFew.{few_begin, own_total}
 use Rattle.str_model.specs.Runs.{World}
 use Rattle.str_model.specs.Views.{Own, View, is_decided}
@@ -34,7 +35,8 @@ sum_views f (n ∷ ns) =
     let b = sum_by-cons f n.view (views_of ns) in
     let r = sum_views f ns in omega (arith, a, b, r)
 
-total_is : (vs : List View) → sum_by (λ (v : View). length v.own) vs ≡ own_total vs
+-- so counts the sum of the own lists
+pub total_is : (vs : List View) → sum_by (λ (v : View). length v.own) vs ≡ own_total vs
 total_is [] = refl
 total_is (v ∷ vs) =
     let a = sum_by-cons (λ (u : View). length u.own) v vs in
@@ -49,14 +51,19 @@ fewer f g (v ∷ vs) h =
     let r = fewer f g vs h in omega (arith, a, b, c, r)
 
 -- 1024 transactions at most have begun
-pub begun_few : (scene : Scene) (w : World) → IsScene scene → IsRun scene w → begun_in w.nodes ≤ 1024
+begun_few : (scene : Scene) (w : World) → IsScene scene → IsRun scene w → begun_in w.nodes ≤ 1024
 begun_few scene w ok r =
     let f = few_begin scene ok (events_of w.journal) in
     let t = total_is w.nodes in
     let e = ap (λ (v : World). own_total v.nodes) r in omega (arith, f, t, e)
 
-pub held_few : (scene : Scene) (w : World) → IsScene scene → IsRun scene w → held_in w.nodes ≤ 1024
-held_few scene w ok r =
-    let b = begun_few scene w ok r in
+-- so it is in a run, and there are few answers
+pub are_few : (scene : Scene) (w : World) → IsScene scene → IsRun scene w → AreFew w
+are_few scene w ok r = record { begun = begun_few scene w ok r; answers = answers_few scene w ok r }
+
+-- then few are undecided
+pub held_few : (w : World) → AreFew w → held_in w.nodes ≤ 1024
+held_few w few =
+    let b = few.begun in
     let l = fewer held_of (λ (v : View). length v.own) w.nodes (λ v. count_by-le-length (λ (x : Own). not (is_decided x.phase)) v.own) in
     omega (arith, b, l)

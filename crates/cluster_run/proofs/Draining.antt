@@ -67,10 +67,11 @@ drain_ended scene w ok r q = subst (Ended scene) (sym r) (record { rest = rest; 
     rest : AtRest scene (run scene es)
     rest = (drain_rests scene ok es).rest (subst (λ (v : World). next_event scene v ≡ None) r (sym q))
 
+-- one more of the first of a list
+pub take_more : (es : List Event) (i : ℕ) (d : Event) → i < length es → take (i + 1) es ≡ take i es ++ get_or es i d ∷ []
+take_more es i d h = rw add-one (take-suc es i d h)
+
 -- one more event of the schedule
 pub one_more : (scene : Scene) (w v : World) (es : List Event) (i : ℕ) (d : Event) → i < length es
     → v ≡ run_from scene w (take i es) → happens scene v (get_or es i d) ≡ run_from scene w (take (i + 1) es)
-one_more scene w v es i d h k = rw (taken, run-append, k) refl
-  where
-    taken : take (i + 1) es ≡ take i es ++ get_or es i d ∷ []
-    taken = rw add-one (take-suc es i d h)
+one_more scene w v es i d h k = rw (take_more es i d h, run-append, k) refl

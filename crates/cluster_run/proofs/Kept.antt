@@ -5,7 +5,7 @@ use Rattle.std.proofs.Math.ListN.{length-set}
 use Rattle.std.specs.Prelude.{Err, OnErr, OnOk, Ok, Result}
 use Rattle.cluster_run.specs.declared.parts.Parts.{Parts}
 use Rattle.node_core.specs.Working.{NodeState}
-use Rattle.cluster_run.specs.Clusters.{ArePlaced, ClusterState, Comes, HasRoom, IsCluster, IsRun, SameParts, StepsAt, events_of, world_of}
+use Rattle.cluster_run.specs.Clusters.{ArePlaced, ClusterState, Comes, HasRoom, IsCluster, IsRun, MayHappen, SameParts, StepsAt, events_of, world_of}
 use Rattle.cluster_run.specs.Flags.{FlagState}
 use Rattle.cluster_run.proofs.Happening.{deliver_to}
 use Rattle.cluster_run.proofs.Stepping.{entry_of, step_shown, world_with}
@@ -36,6 +36,25 @@ pub event_keeps : {X E : Type 0} (r : Result X E) (old new : Parts) (e : Event) 
 event_keeps (Ok x) old new e is ok err = comes_run (happens old.scene (world_of old) e) old new is (run_kept old.scene (world_of old) e is.run_) ok
 event_keeps (Err x) old new e is ok err = comes_run (world_of old) old new is is.run_ err
 
+-- an event may happen to a cluster
+pub may_happen : (p : Parts) (e : Event) → IsCluster p → MayHappen p e
+may_happen p e is =
+    record {
+      placed = is.placed;
+      even = run_even p.scene (world_of p) is.run_;
+      few = answers_few p.scene (happens p.scene (world_of p) e) is.limits (run_kept p.scene (world_of p) e is.run_);
+    }
+
+-- and so where there was room made
+pub may_still : (old mid : Parts) (e : Event) → MayHappen old e → SameParts old mid → MayHappen mid e
+may_still old mid e may same =
+    record {
+      placed = subst (λ (s : Scene). ArePlaced s mid.nodes.items) (sym same.scene_) (same.placed old.scene may.placed);
+      even = ap (λ (w : World). length w.given) same.world ∙ (may.even ∙ sym (ap (λ (w : World). length w.sent) same.world));
+      few = (let a : length (happens mid.scene (world_of mid) e).answers ≡ length (happens old.scene (world_of old) e).answers = λ j. length (happens (same.scene_ j) (same.world j) e).answers in
+          let f = may.few in omega (arith, a, f));
+    }
+
 -- what a cluster shows then
 abbrev pub shown : Parts → ClusterState
 shown p = record { scene = p.scene; world = world_of p }
@@ -61,12 +80,12 @@ pub record StepReady (old mid : Parts) (e : Event) (node : NodeId) (input : Inpu
   pub few : length (at_node mid.scene e node input (world_of mid)).answers ≤ 1024
   pub is : at_node mid.scene e node input (world_of mid) ≡ happens old.scene (world_of old) e
 
-pub step_ready : (old mid : Parts) (v : World) (e : Event) (node : NodeId) (input : Input) → IsCluster old → mid.scene ≡ old.scene → ArePlaced mid.scene mid.nodes.items → world_of mid ≡ v → length v.given ≡ length v.sent
+pub step_ready : (old mid : Parts) (v : World) (e : Event) (node : NodeId) (input : Input) → MayHappen old e → mid.scene ≡ old.scene → ArePlaced mid.scene mid.nodes.items → world_of mid ≡ v → length v.given ≡ length v.sent
     → happens old.scene (world_of old) e ≡ at_node old.scene e node input v → StepReady old mid e node input
 step_ready old mid v e node input is s p w even h =
     let path : at_node mid.scene e node input (world_of mid) ≡ at_node old.scene e node input v = λ j. at_node (s j) e node input (w j) in
     let same : at_node mid.scene e node input (world_of mid) ≡ happens old.scene (world_of old) e = path ∙ sym h in
-    let few = answers_few old.scene (happens old.scene (world_of old) e) is.limits (run_kept old.scene (world_of old) e is.run_) in
+    let few = is.few in
     record {
       placed = p;
       even = ap (λ (x : World). length x.given) w ∙ (even ∙ sym (ap (λ (x : World). length x.sent) w));
@@ -75,9 +94,9 @@ step_ready old mid v e node input is s p w even h =
     }
 
 -- what makes room leaves the parts ready for a step by an event of this kind
-pub room_ready : (old mid : Parts) (e : Event) (node : NodeId) (input : Input) → IsCluster old → SameParts old mid → happens old.scene (world_of old) e ≡ at_node old.scene e node input (world_of old) → StepReady old mid e node input
+pub room_ready : (old mid : Parts) (e : Event) (node : NodeId) (input : Input) → MayHappen old e → SameParts old mid → happens old.scene (world_of old) e ≡ at_node old.scene e node input (world_of old) → StepReady old mid e node input
 room_ready old mid e node input is same h =
-    step_ready old mid (world_of old) e node input is same.scene_ (subst (λ (s : Scene). ArePlaced s mid.nodes.items) (sym same.scene_) (same.placed old.scene is.placed)) same.world (run_even old.scene (world_of old) is.run_) h
+    step_ready old mid (world_of old) e node input is same.scene_ (subst (λ (s : Scene). ArePlaced s mid.nodes.items) (sym same.scene_) (same.placed old.scene is.placed)) same.world is.even h
 
 -- the step done, the event has happened
 pub step_comes : (old mid new : Parts) (e : Event) (node : NodeId) (input : Input) → mid.scene ≡ old.scene → StepReady old mid e node input → Comes (at_node mid.scene e node input (world_of mid)) mid new → Comes (happens old.scene (world_of old) e) old new
@@ -120,18 +139,18 @@ more_room a b input None l h = tt
 more_room a b input (Some n) l h = omega (arith, l, h)
 
 -- a message that was sent has a flag
-pub sent_flag : (old : Parts) (i : ℕ) (m : Message) → IsCluster old → Some m ≡ nth old.out.messages i → (1 ≤ i) × (i ≤ length old.given.flags)
+pub sent_flag : (old : Parts) (i : ℕ) (m : Message) → MayHappen old (DeliverEvent i) → Some m ≡ nth old.out.messages i → (1 ≤ i) × (i ≤ length old.given.flags)
 sent_flag old i m is e =
     let p = of_nth old.out.messages i m (sym e) in
     let l = slice_get_within old.out.messages p.0 m p.2 in
-    let even = run_even old.scene (world_of old) is.run_ in (omega (arith, p.1), omega (arith, p.1, l, even))
+    let even = is.even in (omega (arith, p.1), omega (arith, p.1, l, even))
 
 -- the parts with a message given are ready for the step by its delivery
-pub given_ready : (old made : Parts) (flags : FlagState) (i : ℕ) (m : Message) → IsCluster old → SameParts old made → flags.flags ≡ slice_set made.given.flags (i - 1) true → Some m ≡ nth old.out.messages i
+pub given_ready : (old made : Parts) (flags : FlagState) (i : ℕ) (m : Message) → MayHappen old (DeliverEvent i) → SameParts old made → flags.flags ≡ slice_set made.given.flags (i - 1) true → Some m ≡ nth old.out.messages i
     → StepReady old (record made { given = flags }) (DeliverEvent i) m.receiver (Deliver m)
 given_ready old made flags i m is same f e =
     let raised : world_of (record made { given = flags }) ≡ give i (world_of made) = λ j. record (world_of made) { given = f j } in
     let w : world_of (record made { given = flags }) ≡ give i (world_of old) = raised ∙ ap (give i) same.world in
-    let even : length (slice_set old.given.flags (i - 1) true) ≡ length old.out.messages = length-set old.given.flags (i - 1) true ∙ run_even old.scene (world_of old) is.run_ in
+    let even : length (slice_set old.given.flags (i - 1) true) ≡ length old.out.messages = length-set old.given.flags (i - 1) true ∙ is.even in
     step_ready old (record made { given = flags }) (give i (world_of old)) (DeliverEvent i) m.receiver (Deliver m) is same.scene_
     (subst (λ (s : Scene). ArePlaced s made.nodes.items) (sym same.scene_) (same.placed old.scene is.placed)) w even (deliver_to old.scene (world_of old) i m e)

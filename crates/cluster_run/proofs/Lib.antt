@@ -7,3 +7,8 @@ pub mod Kept
 pub mod Draining
 pub mod Looking
 pub mod Counting
+pub mod RoomFor
+pub mod PrunedOf
+pub mod Settling
+pub mod PrunedDraining
+pub mod Bounds

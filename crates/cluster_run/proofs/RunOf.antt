@@ -58,14 +58,16 @@ happens_logged scene w (DeliverEvent i) = by_message (nth w.sent i)
     by_message None = stepped_logged (DeliverEvent i) 0 w None
     by_message (Some m) = step_at_logged scene (DeliverEvent i) m.receiver (Deliver m) (give i w) (nth w.nodes m.receiver.0)
 
+-- the events of the journal after an event
+pub logged_events : (scene : Scene) (w : World) (e : Event) → events_of (happens scene w e).journal ≡ events_of w.journal ++ e ∷ []
+unfolding Logged
+logged_events scene w e =
+    let l = happens_logged scene w e in
+    ap events_of l.1 ∙ (map-append (λ (d : Done). d.event) w.journal (l.0 ∷ []) ∙ ap (λ x. events_of w.journal ++ x ∷ []) l.2)
+
 -- after an event it is that run again
 pub run_kept : (scene : Scene) (w : World) (e : Event) → IsRun scene w → IsRun scene (happens scene w e)
-unfolding Logged
-run_kept scene w e r =
-    let l = happens_logged scene w e in
-    let events : events_of (happens scene w e).journal ≡ events_of w.journal ++ e ∷ [] =
-    ap events_of l.1 ∙ (map-append (λ (d : Done). d.event) w.journal (l.0 ∷ []) ∙ ap (λ x. events_of w.journal ++ x ∷ []) l.2) in
-    ap (λ v. happens scene v e) r ∙ (sym (run_more scene (events_of w.journal) e) ∙ ap (run scene) (sym events))
+run_kept scene w e r = ap (λ v. happens scene v e) r ∙ (sym (run_more scene (events_of w.journal) e) ∙ ap (run scene) (sym (logged_events scene w e)))
 
 -- there are as many flags as messages
 pub run_even : (scene : Scene) (w : World) → IsRun scene w → length w.given ≡ length w.sent

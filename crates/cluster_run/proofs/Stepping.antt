@@ -5,12 +5,14 @@ use Rattle.std.proofs.lemmas.Option.{slice_get-map}
 use Rattle.node_parts.specs.Sending.{OutState}
 use Rattle.node_core.specs.Working.{NodeState, Steps, here_of}
 use Rattle.partition_map.proofs.Proper.{at_nth}
+use Rattle.si_laws.proofs.Stages.LinkedStates.{one_of}
 use Rattle.si_laws.proofs.Stages.ParticipantSeats.{of_nth}
-use Rattle.cluster_run.specs.Clusters.{ArePlaced, DidAt, HasRoom, IsIdle, SameNodes, StepsAt, views_of}
+use Rattle.cluster_run.specs.Clusters.{ArePlaced, DidAt, HasRoom, IsIdle, PrunedAt, SameNodes, StepsAt, views_of}
 use Rattle.str_base.proofs.Lists.{got_set, set_got}
 use Rattle.str_base.specs.declared.names.NodeId.{NodeId}
 use Rattle.str_model.specs.declared.messages.Input.{Input}
 use Rattle.str_model.specs.declared.names.Done.{Done}
+use Rattle.str_model.specs.Pruning.{pruned}
 use Rattle.str_model.specs.Runs.{World, at_node, step_at, stepped}
 use Rattle.str_model.specs.Steps.{count_of, need, step}
 use Rattle.str_model.specs.Views.{Doing}
@@ -38,7 +40,7 @@ here_is scene n node i s e q =
     λ j. record { scene = sym s j; node = id j }
 
 -- a node that is put in another's place is placed like that one
-placed_set : (scene : Scene) (ns : List NodeState) (i : ℕ) (n m : NodeState) → slice_get ns i ≡ Some n → m.scene ≡ n.scene → m.id ≡ n.id → ArePlaced scene ns → ArePlaced scene (slice_set ns i m)
+pub placed_set : (scene : Scene) (ns : List NodeState) (i : ℕ) (n m : NodeState) → slice_get ns i ≡ Some n → m.scene ≡ n.scene → m.id ≡ n.id → ArePlaced scene ns → ArePlaced scene (slice_set ns i m)
 placed_set scene ns i n m g s e h =
     record {
       scene_ = λ j x k. elim (got_set ns i j m x k) [
@@ -141,3 +143,14 @@ step_shown scene e node input old new before after flags journal moves p says = 
           where
             fits : (room : ℕ) (d : Doing) → step (here_of n) input n.view ≡ Some d → need (here_of n) input n.view ≤ room → (k : ℕ) → k ≡ length d.sent → k ≤ room
             fits room d k r c q = let a = ap count_of k in omega (arith, r, a, q)
+
+-- a node that has pruned stands in its place
+pub pruned_set : (ns : List NodeState) (i g : ℕ) (n m : NodeState) → slice_get ns i ≡ Some n → m.scene ≡ n.scene → m.id ≡ n.id → m.view ≡ pruned g n.view → PrunedAt g i ns (slice_set ns i m)
+pruned_set ns i g n m at s e v =
+    record {
+      views = λ u q.
+          let there : slice_get (views_of ns) i ≡ Some n.view = slice_get-map (λ (z : NodeState). z.view) ns i ∙ ap (option_map (λ (z : NodeState). z.view)) at in
+          let same : n.view ≡ u = one_of n.view u (slice_get (views_of ns) i) there q in
+          map-set (λ (z : NodeState). z.view) ns i m ∙ ap (slice_set (views_of ns) i) (v ∙ ap (pruned g) same);
+      placed = λ scene h. placed_set scene ns i n m at s e h;
+    }

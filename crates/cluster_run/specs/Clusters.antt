@@ -3,13 +3,15 @@ use Rattle.node_parts.specs.Sending.{OutState}
 use Rattle.node_core.specs.Working.{NodeState, Steps, here_of}
 use Rattle.cluster_run.specs.declared.parts.Parts.{Parts}
 use Rattle.spsi_laws.specs.Laws.Drain.{drain_from}
-use Rattle.std.specs.Prelude.{Bool, List, MatchOption, None, Option, Some, [], false, map, slice_get, slice_set, take, true, vec_capacity, vec_len, ℕ, ◌++◌, ◌+◌, ◌<◌, ◌∷◌, ◌≡◌, ◌≤◌}
+use Rattle.std.specs.List.{sum_by}
+use Rattle.std.specs.Prelude.{Bool, List, MatchOption, None, Option, Some, [], false, length, map, slice_get, slice_set, take, true, vec_capacity, vec_len, ℕ, ◌++◌, ◌+◌, ◌<◌, ◌∷◌, ◌≡◌, ◌≤◌}
 use Rattle.str_base.specs.declared.names.NodeId.{NodeId}
 use Rattle.str_model.specs.declared.messages.Input.{Input}
 use Rattle.str_model.specs.declared.messages.Answer.{Answer}
 use Rattle.str_model.specs.declared.names.Done.{Done}
 use Rattle.str_model.specs.declared.messages.Message.{Message}
-use Rattle.str_model.specs.Runs.{World, run, run_from}
+use Rattle.str_model.specs.Pruning.{pruned}
+use Rattle.str_model.specs.Runs.{World, happens, run, run_from}
 use Rattle.str_model.specs.Steps.{need, step}
 use Rattle.str_model.specs.Views.{Doing, View}
 use Rattle.str_scene.specs.declared.names.Event.{Event}
@@ -35,6 +37,11 @@ pub record ArePlaced (scene : Scene) (ns : List NodeState) : Type 0 where
 -- the views are as they were, and so is where the nodes are placed
 pub record SameNodes (old new : List NodeState) : Type 0 where
   pub views : views_of new ≡ views_of old
+  pub placed : (scene : Scene) → ArePlaced scene old → ArePlaced scene new
+
+-- the node at the place has pruned at a mark
+pub record PrunedAt (g i : ℕ) (old new : List NodeState) : Type 0 where
+  pub views : (v : View) → slice_get (views_of old) i ≡ Some v → views_of new ≡ slice_set (views_of old) i (pruned g v)
   pub placed : (scene : Scene) → ArePlaced scene old → ArePlaced scene new
 
 -- there are so many free places for the step of a node on an input, if the node is there
@@ -93,6 +100,17 @@ pub record SameParts (old new : Parts) : Type 0 where
   pub scene_ : new.scene ≡ old.scene
   pub placed : (scene : Scene) → ArePlaced scene old.nodes.items → ArePlaced scene new.nodes.items
   pub world : world_of new ≡ world_of old
+
+-- what an event needs of the parts: the nodes at their places, a flag for each message, and answers that can be counted after it
+pub record MayHappen (p : Parts) (e : Event) : Type 0 where
+  pub placed : ArePlaced p.scene p.nodes.items
+  pub even : length p.given.flags ≡ length p.out.messages
+  pub few : length (happens p.scene (world_of p) e).answers ≤ 1024
+
+-- few transactions have begun, and few are answered
+pub record AreFew (w : World) : Type 0 where
+  pub begun : sum_by (λ (v : View). length v.own) w.nodes ≤ 1024
+  pub answers : length w.answers ≤ 1024
 
 -- there is room for a journal entry, and for a step of the node on the input
 pub record MayStep (node : NodeId) (input : Input) (p : Parts) : Type 0 where

@@ -1,3 +1,5 @@
 pub mod Flags
 pub mod Clusters
 pub mod Printing
+pub mod Marks
+pub mod PrunedStates

@@ -2,23 +2,21 @@
 ghost use Rattle.cluster_run.specs.Clusters.{ArePlaced, Entered, IsRun, PartlyDrained, PartlyScheduled, drained_from, resumed};
 ghost use Rattle.cluster_run.specs.Printing.{counted};
 ghost use Rattle.spsi_laws.specs.Laws.Ends.{Ended};
-ghost use Rattle.std.specs.List.{count_by, sum_by};
-ghost use Rattle.std.specs.Prelude.{◌≡◌, ◌≤◌, ◌<◌, ◌+◌, ◌^◌, IfOk, IfSome, IsNone, None, OnErr, OnOk, length, not, option_map};
-ghost use Rattle.str_model.specs.Drains.{next_event, next_message, next_session};
-ghost use Rattle.str_model.specs.Lines.{counts, is_commit};
+ghost use Rattle.std.specs.Prelude.{◌≡◌, ◌<◌, IfOk, IfSome, IsNone, None, OnErr, OnOk, length, not};
+ghost use Rattle.str_model.specs.Drains.{next_event, next_message};
+ghost use Rattle.str_model.specs.Lines.{counts};
 ghost use Rattle.str_model.specs.Runs.{happens, opening, run_from};
 ghost use Rattle.str_model.specs.Work.{left};
 ghost use Rattle.str_scene.specs.SceneLimits.{IsScene};
 
 use crate::flags::GivenFlags;
 use crate::lines::Counts;
-use crate::members::{begun_among, held_among, opening_nodes};
+use crate::members::opening_nodes;
 use crate::parts::Parts;
 use node_core::{Node, Outbox};
 use std::alloc::{AllocError, Global};
 use std::marker::{Model, Send, Sync};
-use str_base::SessionId;
-use str_model::{Answer, Done, Message, Outcome};
+use str_model::{Answer, Done, Message};
 use str_scene::{Event, KeyTable, Scene};
 
 /// All nodes of a scene, the messages that were sent, the journal and the answers. It is seen as its scene and a world, which is always the
@@ -142,36 +140,13 @@ impl Cluster {
         self.parts.event(event)
     }
 
-    /// The lowest session for which a client step is not idle.
-    fn lowest_session(&self) -> Option<SessionId>
-        ensures { option_map (λ s. s.0) result ≡ next_session self.now.scene self.now.world }
-    {
-        for i in 0..self.parts.scene.sessions().len() {
-            let session = SessionId(i as u8 + 1);
-            if self.parts.moves(session) {
-                return Some(session);
-            }
-        }
-        None
-    }
-
     /// The event that the drain's rule names. None where it stops.
     fn next_event(&self) -> Option<Event>
         ensures event { result ≡ next_event self.now.scene self.now.world }
         ensures limits { IsScene self.now.scene }
         ensures run { IsRun self.now.scene self.now.world }
     {
-        let _ = &self.parts;
-        match self.next_message() {
-            Some(index) => Some(Event::Deliver { index }),
-            None => match self.lowest_session() {
-                Some(session) => Some(Event::Client {
-                    session,
-                    reading: 0,
-                }),
-                None => None,
-            },
-        }
+        self.parts.next_event()
     }
 
     /// Does the next event of the drain: it gives the oldest message that was never given, else it makes the client step with the reading 0 of the
@@ -238,56 +213,8 @@ impl Cluster {
     pub fn counts(&self) -> Counts
         ensures { counted result ≡ counts self.now.scene self.now.world }
     {
-        let begun = begun_among(self.parts.nodes.as_slice());
-        let answers = self.parts.out.answers().as_slice();
-        Counts {
-            commits: commits_among(answers),
-            aborts: aborts_among(answers),
-            held: held_among(self.parts.nodes.as_slice()),
-            unbegun: scripts_of(&self.parts.scene).saturating_sub(begun),
-            messages: self.sent(),
-        }
+        self.parts.counts()
     }
-}
-
-/// Whether a transaction committed.
-fn has_committed(outcome: &Outcome) -> bool
-    ensures { result ≡ is_commit outcome.now }
-{
-    match outcome {
-        Outcome::Committed { .. } => true,
-        Outcome::Aborted { .. } => false,
-    }
-}
-
-/// How many of these answers are commits.
-fn commits_among(answers: &[Answer]) -> u32
-    requires { length answers.now ≤ 1024 }
-    ensures { result ≡ count_by (λ a. is_commit a.outcome) answers.now }
-{
-    answers.iter().filter(|a| has_committed(&a.outcome)).count() as u32
-}
-
-/// How many of these answers are aborts.
-fn aborts_among(answers: &[Answer]) -> u32
-    requires { length answers.now ≤ 1024 }
-    ensures { result ≡ count_by (λ a. not (is_commit a.outcome)) answers.now }
-{
-    answers
-        .iter()
-        .filter(|a| !has_committed(&a.outcome))
-        .count() as u32
-}
-
-/// How many transactions the sessions of a scene have.
-fn scripts_of(scene: &Scene) -> u32
-    ensures { result ≡ sum_by (λ s. length s.txs) scene.now.sessions }
-{
-    let mut total = 0;
-    for session in scene.sessions() {
-        total += session.txs().len() as u32;
-    }
-    total
 }
 
 fn sendable<T: Send + Sync>(_: &T) {}

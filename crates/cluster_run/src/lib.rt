@@ -2,11 +2,19 @@
 #![tactic(auto)]
 
 pub mod clusters;
+mod drains;
 pub mod flags;
+mod last_line;
 pub mod lines;
+pub mod marks;
 mod members;
 mod parts;
+pub mod pruned;
+mod pruned_parts;
+#[cfg(test)]
+mod tests;
 
 pub use clusters::Cluster;
 pub use flags::GivenFlags;
 pub use lines::{Counts, push_done, push_end};
+pub use pruned::PrunedCluster;

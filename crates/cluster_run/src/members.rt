@@ -1,17 +1,18 @@
 //! The nodes of a cluster.
-ghost use Rattle.cluster_run.specs.Clusters.{ArePlaced, HasRoom, IsReady, SameNodes, StepsAt, views_of};
+ghost use Rattle.cluster_run.specs.Clusters.{ArePlaced, HasRoom, IsReady, PrunedAt, SameNodes, StepsAt, views_of};
 ghost use Rattle.node_core.specs.Working.{SameLists};
 ghost use Rattle.std.specs.List.{count_by, sum_by};
-ghost use Rattle.std.specs.Prelude.{◌≡◌, ◌<◌, ◌≤◌, ◌+◌, ◌-◌, ◌^◌, IfOk, IfSome, IsNone, None, length, not, replicate, true};
+ghost use Rattle.std.specs.Prelude.{◌≡◌, ◌<◌, ◌≤◌, ◌+◌, ◌-◌, ◌^◌, IfOk, IfSome, IsNone, None, Some, length, min, not, replicate, slice_get, true};
+ghost use Rattle.str_model.specs.Pruning.{low};
 ghost use Rattle.str_model.specs.Runs.{opening_view};
 ghost use Rattle.str_model.specs.Strange.{has_node};
-ghost use Rattle.str_model.specs.Views.{is_decided};
+ghost use Rattle.str_model.specs.Views.{View, is_decided};
 ghost use Rattle.str_scene.specs.SceneLimits.{IsScene};
 ghost use Rattle.str_scene.specs.Scenes.{nth};
 
 use node_core::{Node, Outbox};
 use std::alloc::{AllocError, Global};
-use str_base::NodeId;
+use str_base::{NodeId, Ts};
 use str_model::Input;
 use str_scene::Scene;
 
@@ -53,6 +54,13 @@ pub(crate) fn place_of(nodes: &Vec<Node>, node: NodeId) -> Option<usize>
         return None;
     }
     Some(number - 1)
+}
+
+/// The place at which a node stands, counted from 0; 0 for the number 0 too.
+pub(crate) fn list_place(node: NodeId) -> usize
+    ensures { result ≡ node.0 - 1 }
+{
+    (node.0 as usize).saturating_sub(1)
 }
 
 /// Makes room for the step of a node on this input, if it is there, and gives a number that is as great as the
@@ -110,6 +118,35 @@ pub(crate) fn held_among(nodes: &[Node]) -> u32
     let mut total = 0;
     for node in nodes {
         total += node.held();
+    }
+    total
+}
+
+/// The low mark of the node at a place.
+pub(crate) fn low_at(nodes: &Vec<Node>, place: usize) -> Ts
+    requires { place < length nodes.now.items }
+    ensures { (v : View) → slice_get (views_of nodes.now.items) place ≡ Some v → result.0 ≡ low v }
+{
+    let member = &nodes[place];
+    member.low()
+}
+
+/// The node at a place prunes at a mark.
+pub(crate) fn prune_at(nodes: &mut Vec<Node>, place: usize, below: Ts)
+    requires { place < length nodes.old.items }
+    ensures { PrunedAt below.0 place nodes.old.items nodes.new.items }
+{
+    let member = &mut nodes[place];
+    member.prune(below);
+}
+
+/// How many versions the nodes have; the greatest `u64` where there are more.
+pub(crate) fn kept_among(nodes: &[Node]) -> u64
+    ensures { result ≡ min (sum_by (λ n. length n.view.versions) nodes.now) (2 ^ 64 - 1) }
+{
+    let mut total = 0u64;
+    for node in nodes {
+        total = total.saturating_add(node.versions());
     }
     total
 }

@@ -55,7 +55,7 @@ module _ (scene : Scene) (es : List Event) where
       ∙ (ap (λ (z : View). is_some (step (at_place scene i) (Client s 0) z)) (sym same)
       ∙ (some_both g (IsDecidedIn (run scene es)) (at_place scene i) (step (at_place scene i) (Client s 0) v) (step (at_place scene i) (Client s 0) (pruned g v)) both ∙ moves_by_step (at_place scene i) s v))
 
-  moves_alike : (s : ℕ) → moves scene (pruned_run scene es).world s ≡ moves scene (run scene es) s
+  pub moves_alike : (s : ℕ) → moves scene (pruned_run scene es).world s ≡ moves scene (run scene es) s
   unfolding moves
   moves_alike s = by_session (nth scene.sessions s)
     where
@@ -122,7 +122,7 @@ module _ (scene : Scene) (es : List Event) where
   sum_bare : (f : View → ℕ) → ((v : View) → f (bare v) ≡ f v) → (vs : List View) → sum_by f (map bare vs) ≡ sum_by f vs
   sum_bare f h vs = fold_bare f h 0 vs
 
-  sum_alike : (f : View → ℕ) → ((v : View) → f (bare v) ≡ f v) → sum_by f (pruned_run scene es).world.nodes ≡ sum_by f (run scene es).nodes
+  pub sum_alike : (f : View → ℕ) → ((v : View) → f (bare v) ≡ f v) → sum_by f (pruned_run scene es).world.nodes ≡ sum_by f (run scene es).nodes
   sum_alike f h = sym (sum_bare f h (pruned_run scene es).world.nodes) ∙ (ap (sum_by f) nodes_alike ∙ sum_bare f h (run scene es).nodes)
 
   views_bare : (n : ℕ) (vs : List View) → Work.views_left scene n (map bare vs) ≡ Work.views_left scene n vs
@@ -163,7 +163,7 @@ module _ (scene : Scene) (es : List Event) where
 
   -- ---- what is written
 
-  counts_alike : counts scene (pruned_run scene es).world ≡ counts scene (run scene es)
+  pub counts_alike : counts scene (pruned_run scene es).world ≡ counts scene (run scene es)
   counts_alike =
       let a = alongside scene es in
       let held = sum_alike (λ v. count_by (λ (x : Own). not (is_decided x.phase)) v.own) (λ v. refl) in
@@ -197,7 +197,7 @@ drains_alike scene es = next_alike scene es
 pub left_alike : LeftAlike
 left_alike scene es = left_same scene es
 
-drain_alike : (scene : Scene) (n : ℕ) (es : List Event) → pruned_drain_events scene n (pruned_run scene es) ≡ drain_events scene n (run scene es)
+pub drain_alike : (scene : Scene) (n : ℕ) (es : List Event) → pruned_drain_events scene n (pruned_run scene es) ≡ drain_events scene n (run scene es)
 drain_alike scene zero es = refl
 drain_alike scene (suc n) es = by_event (next_event scene (pruned_run scene es).world) (next_event scene (run scene es)) (next_alike scene es) (λ e. drain_alike scene n (es ++ e ∷ []))
   where

@@ -14,7 +14,8 @@ use Rattle.str_scene.specs.Scenes.{Scene}
 use Rattle.str_model.proofs.Principle.Everywhere.{run-append}
 use Rattle.str_model.proofs.Pruning.Twins.{Alike, AllAlike, a_refuse, a_reply, a_same}
 
-pruned_append : (scene : Scene) (p : PrunedWorld) (xs ys : List Event) → pruned_from scene p (xs ++ ys) ≡ pruned_from scene (pruned_from scene p xs) ys
+-- the events of one list after those of another
+pub pruned_append : (scene : Scene) (p : PrunedWorld) (xs ys : List Event) → pruned_from scene p (xs ++ ys) ≡ pruned_from scene (pruned_from scene p xs) ys
 pruned_append scene p [] ys = refl
 pruned_append scene p (x ∷ xs) ys = pruned_append scene (pruned_happens scene p x) xs ys
 

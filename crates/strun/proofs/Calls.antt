@@ -4,14 +4,14 @@ use Rattle.scene_text.proofs.FirstBad.FirstBadLaws.{one_scene_of}
 use Rattle.str_outer.specs.Causes.{Rose}
 use Rattle.str_scene.specs.Scenes.{Scene}
 use Rattle.str_scene.specs.Spelling.{IsText}
-use Rattle.strun.proofs.Refusing.{not_refused}
+use Rattle.run_io.proofs.Offered.{no_history_not_read, spelled_not_refused, unspelled_not_read}
+use Rattle.run_io.specs.Inputs.{IsSpelled}
+use Rattle.run_io.specs.declared.inputs.Form.TheVariants.{History, Text}
 use Rattle.strun.specs.Failing.{CallFails, TaskFails}
 use Rattle.strun.specs.Banks.{IsBankScene, accounts_of, amounts_of}
-use Rattle.strun.specs.Inputs.{HasRefused, HasSubject, IsRefused, IsSpelled, Offers, OffersNone, Origin, ReadFailed, ReadsNothing, Subject, origin_of}
+use Rattle.strun.specs.Inputs.{HasSubject, IsRefused, Offers, OffersNone, Origin, ReadFailed, ReadsNothing, Subject, origin_of}
 use Rattle.strun.specs.Inputs.Origin.{makes, reads, reads_bank, reads_history}
 use Rattle.strun.specs.Tops.{Asked, Completes, CompletesFrom, Done, IsPartial, PartlyDone, Refuses, RefusesFrom}
-use Rattle.strun.specs.declared.inputs.Form.{Form}
-use Rattle.strun.specs.declared.inputs.Form.TheVariants.{History, Text}
 use Rattle.strun_words.proofs.Apart.{one_task}
 use Rattle.strun_words.specs.Tasks.{AskFor, AskNothing, IsUnasked}
 use Rattle.strun_words.specs.declared.task.Task.{Task}
@@ -135,21 +135,16 @@ refused_of words left left' read read' held held' write write' (Err Read) f e = 
 refused_of words left left' read read' held held' write write' (Err Write) f e = absurd (cc e)
 refused_of words left left' read read' held held' write write' (Err Memory) f e = absurd (cc e)
 
--- bytes that are told and spell a scene, or a history, are not refused
-spelled_not_refused : (form : Form) (left left' : Option (List ℕ)) (said : List ℕ) (bytes : List ℕ) (scene : Scene) → left ≡ Some bytes → IsSpelled form bytes scene → HasRefused form left left' said → ⊥
-spelled_not_refused form left left' said bytes scene e s g =
-    let same : bytes ≡ g.bytes = all_told left left' bytes g.bytes e g.consumed g.whole s.short in
-    not_refused form g.bytes said scene (subst (λ (xs : List ℕ). IsSpelled form xs scene) same s) g.refusal
-
+-- what is offered is not refused
 told_not_refused : (origin : Origin) (left left' : Option (List ℕ)) (said : List ℕ) → Offers origin left → IsRefused origin left left' said → ⊥
-told_not_refused (reads form) left left' said o g = spelled_not_refused form left left' said o.0 o.1 o.2 o.3 g
-told_not_refused reads_bank left left' said o (inl g) = spelled_not_refused Text left left' said o.0 o.1 o.2 o.3 g
+told_not_refused (reads form) left left' said o g = spelled_not_refused form left left' said o g
+told_not_refused reads_bank left left' said o (inl g) = spelled_not_refused Text left left' said (o.0, o.1, o.2, o.3) g
 told_not_refused reads_bank left left' said o (inr g) =
     let bytes : o.0 ≡ g.has.bytes = all_told left left' o.0 g.has.bytes o.2 g.has.consumed (inr g.has.ended) o.3.short in
     let scene : o.1 ≡ g.scene =
     one_scene_of g.has.bytes o.1 g.scene o.3.scene_ g.has.spelled.scene_ (subst (λ (xs : List ℕ). IsText xs o.1) bytes o.3.spelled) g.has.spelled.spelled in
     g.reason.0 (accounts_of g.scene) (amounts_of g.scene) (subst IsBankScene scene o.4)
-told_not_refused reads_history left left' said o g = spelled_not_refused History left left' said o.0 o.1 o.2 o.3 g
+told_not_refused reads_history left left' said o g = spelled_not_refused History left left' said o g
 told_not_refused (makes seed) left left' said o g = g
 
 -- the one task of the words has what another task of the words has
@@ -170,16 +165,11 @@ complete_of words left left' read read' held held' write write' (Err Memory) f t
 
 -- no scene and no history is read from an input that spells none
 none_read : (origin : Origin) (left left' : Option (List ℕ)) (subject : Subject origin) → OffersNone origin left → HasSubject origin left left' subject → ⊥
-none_read (reads form) left left' scene o h =
-    let same : o.0 ≡ h.bytes = all_read left left' o.0 h.bytes o.1 h.consumed (inr h.ended) h.spelled.short in
-    o.2 scene (subst (λ (xs : List ℕ). IsSpelled form xs scene) (sym same) h.spelled)
+none_read (reads form) left left' scene o h = unspelled_not_read form left left' scene o h
 none_read reads_bank left left' scene o h =
     let same : o.0 ≡ h.0.bytes = all_read left left' o.0 h.0.bytes o.1 h.0.consumed (inr h.0.ended) h.0.spelled.short in
     o.2 scene (subst (λ (xs : List ℕ). IsSpelled Text xs scene) (sym same) h.0.spelled) h.1
-none_read reads_history left left' a o h =
-    let same : o.0 ≡ h.0.bytes = all_read left left' o.0 h.0.bytes o.1 h.0.consumed (inr h.0.ended) h.0.short in
-    let spelled : IsSpelled History h.0.bytes a.scene = record { short = h.0.short; scene_ = h.0.spelled.is_history.is_scene; spelled = (a.answers, h.0.spelled) } in
-    o.2 a.scene (subst (λ (xs : List ℕ). IsSpelled History xs a.scene) (sym same) spelled)
+none_read reads_history left left' a o h = no_history_not_read left left' a.scene a.answers o h.0
 none_read (makes seed) left left' scene o h = o
 
 -- where the words ask for a task and what is told spells nothing for it, it is refused, or memory was wanting

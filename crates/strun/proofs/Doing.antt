@@ -1,15 +1,16 @@
 -- What a task does, from what it reads to its output.
-use Rattle.std.proofs.Common.{Bool, Err, IfErr, IfOk, List, Ok, OnErr, OnOk, Option, Result, arith, false, inl, inr, length, refl, subst, sym, true, ℕ, ℤ, ◌<◌, ◌≡◌, ◌≤◌, ◌⊎◌}
 use Rattle.bank_book.specs.BankScenes.{IsBank}
 use Rattle.history_audit.proofs.SeenOnLedgers.{no_run}
 use Rattle.history_audit.specs.Verdicts.{IsVerdict}
 use Rattle.history_audit.specs.declared.verdicts.Verdict.{Verdict}
 use Rattle.history_audit.specs.declared.verdicts.Verdict.TheVariants.{No, Yes}
-use Rattle.history_reading.specs.Histories.{IsHistoryText}
-use Rattle.history_reading.specs.declared.reading.History.{History as PastRead}
+use Rattle.run_io.specs.Inputs.{HasRead, InputFails}
+use Rattle.run_io.specs.declared.inputs.Form.{Form}
+use Rattle.run_io.specs.declared.inputs.Form.TheVariants.{History, Text}
 use Rattle.scene_gen.proofs.MadeLimits.{made_holds}
 use Rattle.scene_gen.specs.Made.{made}
-use Rattle.std.specs.Io.KnownBytes.{Appends, Consumes, IsAtEnd}
+use Rattle.std.proofs.Common.{Bool, Err, IfErr, List, Ok, OnErr, OnOk, Option, Result, false, inl, inr, refl, subst, sym, true, ℕ, ℤ, ◌≡◌, ◌⊎◌}
+use Rattle.std.specs.Io.KnownBytes.{Appends}
 use Rattle.str_base.specs.declared.names.KeyId.{KeyId}
 use Rattle.str_model.specs.declared.messages.Answer.{Answer}
 use Rattle.str_outer.specs.Pieces.{AppendsPrefix}
@@ -17,18 +18,15 @@ use Rattle.str_scene.specs.SceneLimits.{IsScene}
 use Rattle.str_scene.specs.Scenes.{Scene}
 use Rattle.strun.proofs.BankRuns.{bank_run_holds, bank_scene}
 use Rattle.strun.proofs.WholeRun.{run_holds}
-use Rattle.strun.proofs.Refusing.{refuses_long}
 use Rattle.strun.specs.Audits.{TellsIsolation}
-use Rattle.strun.specs.Failing.{InputFails, RefusesInput, RefusesScene, TaskFails}
-use Rattle.strun.specs.Inputs.{HasHistory, HasRead, HasSubject, IsSpelled, Subject, origin_of, too_many}
+use Rattle.strun.specs.Failing.{RefusesScene, TaskFails}
+use Rattle.strun.specs.Inputs.{HasSubject, IsRefused, Origin, ReadFailed, Subject, origin_of}
 use Rattle.strun.specs.Inputs.Origin.{reads, reads_bank, reads_history}
 use Rattle.strun.specs.Outputs.{Promised, output}
 use Rattle.strun.specs.Tops.{Done}
-use Rattle.strun.specs.declared.inputs.Form.{Form}
-use Rattle.strun.specs.declared.inputs.Form.TheVariants.{History, Text}
 use Rattle.strun_words.specs.declared.task.Task.{Task}
-use Rattle.strun_words.specs.declared.task.Task.TheVariants.{At, Audit, Bank, Generate, Pack, Run, Show}
-use Rattle.top_status.specs.Failures.{HasReadCause, HasWriteCause, RefusesWith}
+use Rattle.strun_words.specs.declared.task.Task.TheVariants.{At, Audit, Bank, Generate, Pack, Run, RunPruned, Show}
+use Rattle.top_status.specs.Failures.{HasWriteCause}
 use Rattle.top_status.specs.declared.failure.Failure.{Failure}
 use Rattle.top_status.specs.declared.failure.Failure.TheVariants.{Memory, Read, Refused as Refusal, Usage, Write}
 
@@ -40,6 +38,7 @@ tells_isolation scene answers (No answer clause) h = (λ e. absurd (cc e), λ r.
 -- what a task promises holds of what it works on
 promise_holds : (task : Task) (left left' : Option (List ℕ)) (subject : Subject (origin_of task)) → HasSubject (origin_of task) left left' subject → Promised task subject
 promise_holds (Run frames journal) left left' scene h = run_holds scene h.spelled.scene_
+promise_holds RunPruned left left' scene h = run_holds scene h.spelled.scene_
 promise_holds Pack left left' scene h = tt
 promise_holds Show left left' scene h = tt
 promise_holds (Generate seed false) left left' scene h = subst IsScene (sym h.1) (made_holds seed)
@@ -47,70 +46,6 @@ promise_holds (Generate seed true) left left' scene h = run_holds scene (subst I
 promise_holds Bank left left' scene h = (run_holds scene h.0.spelled.scene_, bank_run_holds scene h.0.spelled.scene_ h.1)
 promise_holds Audit left left' a h = tells_isolation a.scene a.answers a.verdict h.1
 promise_holds (At time) left left' a h = tells_isolation a.scene a.answers a.verdict h.1
-
--- ---- what is read
-
--- what is not too long was read to the end
-pub read_whole : (left' : Option (List ℕ)) (bytes : List ℕ) → length bytes ≤ 1048576 → (length bytes ≡ 1048577) ⊎ IsAtEnd left' → IsAtEnd left'
-read_whole left' bytes s (inl l) = absurd (omega (arith, s, l))
-read_whole left' bytes s (inr e) = e
-
--- the bytes that were read spell the scene
-pub scene_taken : {E : Type 0} (form : Form) (left left' : Option (List ℕ)) (bytes taken : List ℕ) (r : Result Scene E) → Consumes left left' bytes → IsAtEnd left' → taken ≡ bytes
-    → IfOk r (λ scene. IsSpelled form taken scene) → IfOk r (λ scene. HasRead form left left' scene)
-scene_taken form left left' bytes taken (Err e) c w q t = tt
-scene_taken form left left' bytes taken (Ok scene) c w q t = record { bytes = bytes; consumed = c; ended = w; spelled = subst (λ (xs : List ℕ). IsSpelled form xs scene) q t }
-
--- they spell the history
-pub history_taken : {E : Type 0} (left left' : Option (List ℕ)) (bytes taken : List ℕ) (r : Result PastRead E) → Consumes left left' bytes → IsAtEnd left' → length bytes ≤ 1048576 → taken ≡ bytes
-    → IfOk r (λ h. IsHistoryText taken h.scene h.answers.items) → IfOk r (λ h. HasHistory left left' h.scene h.answers.items)
-history_taken left left' bytes taken (Err e) c w s q t = tt
-history_taken left left' bytes taken (Ok h) c w s q t =
-    record { bytes = bytes; consumed = c; ended = w; short = s; spelled = subst (λ (xs : List ℕ). IsHistoryText xs h.scene h.answers.items) q t }
-
--- bytes that were read are refused
-input_refused : (form : Form) (left left' : Option (List ℕ)) (read read' : ℕ) (bytes taken : List ℕ) (f : Failure) → Consumes left left' bytes → (length bytes ≡ 1048577) ⊎ IsAtEnd left'
-    → taken ≡ bytes → RefusesInput form taken f → InputFails (reads form) left left' read read' f
-input_refused form left left' read read' bytes taken (Refusal said) c w e r =
-    let q : RefusesInput form bytes (Refusal said) = subst (λ (xs : List ℕ). RefusesInput form xs (Refusal said)) e r in
-    record { bytes = bytes; consumed = c; whole = w; refusal = q }
-input_refused form left left' read read' bytes taken Memory c w e r = tt
-input_refused form left left' read read' bytes taken Usage c w e r = absurd r
-input_refused form left left' read read' bytes taken Read c w e r = absurd r
-input_refused form left left' read read' bytes taken Write c w e r = absurd r
-
--- the same of a result
-pub bytes_refused : {T : Type 0} (form : Form) (left left' : Option (List ℕ)) (read read' : ℕ) (bytes taken : List ℕ) (r : Result T Failure) → Consumes left left' bytes
-    → IsAtEnd left' → taken ≡ bytes → IfErr r (RefusesInput form taken) → IfErr r (InputFails (reads form) left left' read read')
-bytes_refused form left left' read read' bytes taken (Ok x) c w q h = tt
-bytes_refused form left left' read read' bytes taken (Err f) c w q h = input_refused form left left' read read' bytes taken f c (inr w) q h
-
--- they are too many
-pub long_refused : (form : Form) (left left' : Option (List ℕ)) (read read' : ℕ) (bytes : List ℕ) (f : Failure) → Consumes left left' bytes → (length bytes ≡ 1048577) ⊎ IsAtEnd left'
-    → length bytes ≤ 1048577 → 1048576 < length bytes → RefusesWith too_many f → InputFails (reads form) left left' read read' f
-long_refused form left left' read read' bytes f c w l m e = input_refused form left left' read read' bytes bytes f c w refl (refuses_long form bytes f l m e)
-
--- reading failed
-pub reading_failed : (form : Form) (left left' : Option (List ℕ)) (read read' : ℕ) (f : Failure) → HasReadCause read read' f → InputFails (reads form) left left' read read' f
-reading_failed form left left' read read' Read h = h
-reading_failed form left left' read read' Memory h = tt
-reading_failed form left left' read read' Usage h = absurd h
-reading_failed form left left' read read' Write h = absurd h
-reading_failed form left left' read read' (Refusal said) h = absurd h
-
--- where a history was to be read
-pub history_fails : (left left' : Option (List ℕ)) (read read' : ℕ) (f : Failure) → InputFails (reads History) left left' read read' f → InputFails reads_history left left' read read' f
-history_fails left left' read read' (Refusal said) h = h
-history_fails left left' read read' Read h = h
-history_fails left left' read read' Memory h = h
-history_fails left left' read read' Usage h = h
-history_fails left left' read read' Write h = h
-
--- the same of a result
-pub history_refused : {T : Type 0} (left left' : Option (List ℕ)) (read read' : ℕ) (bytes taken : List ℕ) (r : Result T Failure) → Consumes left left' bytes
-    → IsAtEnd left' → taken ≡ bytes → IfErr r (RefusesInput History taken) → IfErr r (InputFails reads_history left left' read read')
-history_refused left left' read read' bytes taken (Ok x) c w q h = tt
-history_refused left left' read read' bytes taken (Err f) c w q h = history_fails left left' read read' f (input_refused History left left' read read' bytes taken f c (inr w) q h)
 
 -- ---- the output
 
@@ -120,14 +55,23 @@ pub task_done : {E : Type 0} (task : Task) (left left' held held' : Option (List
 task_done task left left' held held' subject (Err e) h o = tt
 task_done task left left' held held' subject (Ok u) h o = record { subject = subject; has = h; written = o; promised = promise_holds task left left' subject h }
 
--- nothing came of what was read
-pub input_failed : (task : Task) (left left' : Option (List ℕ)) (read read' : ℕ) (held : Option (List ℕ)) (write write' : ℕ) (f : Failure) → InputFails (origin_of task) left left' read read' f
-    → TaskFails task left left' read read' held held write write' f
-input_failed task left left' read read' held write write' (Refusal said) h = (h, refl)
-input_failed task left left' read read' held write write' Read h = (h, refl)
-input_failed task left left' read read' held write write' Memory h = inl refl
-input_failed task left left' read read' held write write' Usage h = absurd h
-input_failed task left left' read read' held write write' Write h = absurd h
+-- no scene came of what was read
+pub scene_unread : (task : Task) (form : Form) (left left' : Option (List ℕ)) (read read' : ℕ) (held : Option (List ℕ)) (write write' : ℕ) (f : Failure) → origin_of task ≡ reads form
+    → InputFails form left left' read read' f → TaskFails task left left' read read' held held write write' f
+scene_unread task form left left' read read' held write write' (Refusal said) e h = (subst (λ (o : Origin). IsRefused o left left' said.items) (sym e) h, refl)
+scene_unread task form left left' read read' held write write' Read e h = (subst (λ (o : Origin). ReadFailed o read read') (sym e) h, refl)
+scene_unread task form left left' read read' held write write' Memory e h = inl refl
+scene_unread task form left left' read read' held write write' Usage e h = absurd h
+scene_unread task form left left' read read' held write write' Write e h = absurd h
+
+-- no history came of it
+pub history_unread : (task : Task) (left left' : Option (List ℕ)) (read read' : ℕ) (held : Option (List ℕ)) (write write' : ℕ) (f : Failure) → origin_of task ≡ reads_history
+    → InputFails History left left' read read' f → TaskFails task left left' read read' held held write write' f
+history_unread task left left' read read' held write write' (Refusal said) e h = (subst (λ (o : Origin). IsRefused o left left' said.items) (sym e) h, refl)
+history_unread task left left' read read' held write write' Read e h = (subst (λ (o : Origin). ReadFailed o read read') (sym e) h, refl)
+history_unread task left left' read read' held write write' Memory e h = inl refl
+history_unread task left left' read read' held write write' Usage e h = absurd h
+history_unread task left left' read read' held write write' Write e h = absurd h
 
 -- writing failed
 pub writing_failed : (task : Task) (left left' : Option (List ℕ)) (read read' : ℕ) (held held' : Option (List ℕ)) (write write' : ℕ) (subject : Subject (origin_of task))
@@ -164,7 +108,7 @@ pub has_bank : (left left' : Option (List ℕ)) (scene : Scene) (accounts : List
 has_bank left left' scene accounts amounts h b = (h, bank_scene scene accounts amounts b)
 
 -- no scene came
-pub bank_unread : (left left' : Option (List ℕ)) (read read' : ℕ) (held : Option (List ℕ)) (write write' : ℕ) (f : Failure) → InputFails (reads Text) left left' read read' f
+pub bank_unread : (left left' : Option (List ℕ)) (read read' : ℕ) (held : Option (List ℕ)) (write write' : ℕ) (f : Failure) → InputFails Text left left' read read' f
     → TaskFails Bank left left' read read' held held write write' f
 bank_unread left left' read read' held write write' (Refusal said) h = (inl h, refl)
 bank_unread left left' read read' held write write' Read h = (h, refl)

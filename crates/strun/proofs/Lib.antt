@@ -4,11 +4,8 @@ pub mod BankWritten
 pub mod AuditWritten
 pub mod Totals
 pub mod BalanceLines
-pub mod Behind
 pub mod Written
-pub mod Events
-pub mod Going
+pub mod PrunedRuns
 pub mod Said
-pub mod Refusing
 pub mod Doing
 pub mod Calls

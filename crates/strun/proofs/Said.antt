@@ -1,6 +1,6 @@
 -- The lines that the program says, spelled out.
 use Rattle.std.specs.Prelude.{[], codes, refl, ◌≡◌}
-use Rattle.strun.specs.Inputs.{too_many}
+use Rattle.run_io.specs.Inputs.{too_many}
 use Rattle.strun.specs.Tops.{own_name}
 use Rattle.top_status.specs.declared.status.Status.TheVariants.{NoMemory, Ok as StatusOk, ReadFault, Refused, Usage, WriteFault}
 use Rattle.top_status.specs.Statuses.{line_of}

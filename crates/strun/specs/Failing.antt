@@ -5,37 +5,18 @@ use Rattle.std.specs.Prelude.{List, Option, ℕ, ⊤, ◌≡◌, ◌⊎◌}
 use Rattle.str_outer.specs.Causes.{Rose}
 use Rattle.str_scene.specs.Scenes.{Scene}
 use Rattle.str_scene.specs.declared.names.TxPlace.{TxPlace}
-use Rattle.strun.specs.Inputs.{IsRefusal, IsRefused, Origin, ReadFailed, not_bank_said, origin_of}
+use Rattle.strun.specs.Inputs.{IsRefused, ReadFailed, not_bank_said, origin_of}
 use Rattle.strun.specs.Tops.{Asked, IsPartial, PartlyDone}
-use Rattle.strun.specs.declared.inputs.Form.{Form}
 use Rattle.strun_words.specs.Tasks.{AskNothing}
 use Rattle.strun_words.specs.declared.task.Task.{Task}
 use Rattle.top_status.specs.declared.failure.Failure.{Failure}
 use Rattle.top_status.specs.declared.failure.Failure.TheVariants.{Memory, Read, Refused as Refusal, Usage, Write}
-
--- memory was wanting
-abbrev pub IsWant : Failure → Type 0
-IsWant Memory = ⊤
-IsWant _ = ⊥
-
--- why bytes are refused
-abbrev pub RefusesInput : Form → List ℕ → Failure → Type 0
-RefusesInput form bytes (Refusal said) = IsRefusal form bytes said.items
-RefusesInput form bytes Memory = ⊤
-RefusesInput form bytes _ = ⊥
 
 -- why a scene is refused that was to be a bank's
 abbrev pub RefusesScene : Scene → Failure → Type 0
 RefusesScene scene (Refusal said) = (place : TxPlace) × IsReason scene (Not place) × (said.items ≡ not_bank_said place)
 RefusesScene scene Memory = ⊤
 RefusesScene scene _ = ⊥
-
--- why nothing came of what was read
-abbrev pub InputFails : Origin → Option (List ℕ) → Option (List ℕ) → ℕ → ℕ → Failure → Type 0
-InputFails origin left left' read read' (Refusal said) = IsRefused origin left left' said.items
-InputFails origin left left' read read' Read = ReadFailed origin read read'
-InputFails origin left left' read read' Memory = ⊤
-InputFails origin left left' read read' _ = ⊥
 
 -- why a task failed, and what was written until then
 abbrev pub TaskFails : Task → Option (List ℕ) → Option (List ℕ) → ℕ → ℕ → Option (List ℕ) → Option (List ℕ) → ℕ → ℕ → Failure → Type 0

@@ -2,6 +2,5 @@ pub mod Audits
 pub mod Banks
 pub mod Inputs
 pub mod Outputs
-pub mod Journal
 pub mod Tops
 pub mod Failing

@@ -1,4 +1,6 @@
 -- What a task writes of what it works on, and what is promised of that.
+use Rattle.cluster_run.specs.PrunedStates.{kept_versions}
+use Rattle.prune_laws.specs.PrunedClusters.{pruned_cluster_run}
 use Rattle.request_frame.specs.Frames.{frames_of}
 use Rattle.request_frame.specs.Spelling.{bytes_of}
 use Rattle.si_laws.specs.GateLaw.{GateLaw}
@@ -7,7 +9,7 @@ use Rattle.si_laws.specs.SnapshotIsolation.{SIRun}
 use Rattle.si_laws.specs.SpeculativeIsolation.{SPSI}
 use Rattle.si_laws.specs.TrueCause.{TrueCause}
 use Rattle.spsi_laws.specs.Laws.Ends.{NoneOpen}
-use Rattle.std.specs.Prelude.{List, false, take, true, ℕ, ⊤, ◌++◌, ◌≡◌}
+use Rattle.std.specs.Prelude.{List, codes, decimal, false, min, take, true, ℕ, ⊤, ◌++◌, ◌-◌, ◌^◌, ◌≡◌}
 use Rattle.str_model.specs.Drains.{cluster_events, cluster_run}
 use Rattle.str_model.specs.Lines.{counts, end_line, render, render_j}
 use Rattle.str_model.specs.Runs.{run}
@@ -19,14 +21,23 @@ use Rattle.strun.specs.Audits.{TellsIsolation, at_lines, verdict_line}
 use Rattle.strun.specs.Banks.{BankRunHolds, balances_after, bank_lines}
 use Rattle.strun.specs.Inputs.{Subject, origin_of}
 use Rattle.strun_words.specs.declared.task.Task.{Task}
-use Rattle.strun_words.specs.declared.task.Task.TheVariants.{At, Audit, Bank, Generate, Pack, Run, Show}
+use Rattle.strun_words.specs.declared.task.Task.TheVariants.{At, Audit, Bank, Generate, Pack, Run, RunPruned, Show}
+
+-- the line of so many kept versions
+abbrev pub kept_line : ℕ → List ℕ
+kept_line kept = codes "kept versions=" ++ decimal kept ++ codes "\n"
+
+-- how many versions all nodes have after the run of a scene in a cluster that prunes; the greatest number of 64 bits where there are more
+abbrev pub kept_after : Scene → ℕ
+kept_after scene = min (kept_versions (pruned_cluster_run scene).world) (2 ^ 64 - 1)
 
 -- what a task writes: of its one run the rendering (the events of the schedule, and then those of the drain where it has one), with or
--- without its journal, with the balances of a bank behind it, or the last line alone; the scene's frames, or its text; or of a history what
+-- without its journal, with the kept versions of the pruned run or the balances of a bank behind it, or the last line alone; the scene's frames, or its text; or of a history what
 -- its audit finds, or the values at a timestamp
 abbrev pub output : (task : Task) → Subject (origin_of task) → List ℕ
 output (Run frames false) scene = render scene (cluster_run scene)
 output (Run frames true) scene = render_j scene (cluster_run scene)
+output RunPruned scene = render scene (cluster_run scene) ++ kept_line (kept_after scene)
 output Pack scene = bytes_of (frames_of scene)
 output Show scene = spelling scene
 output (Generate seed false) scene = spelling scene
@@ -55,6 +66,7 @@ pub record RunHolds (scene : Scene) : Type 0 where
 -- what is promised of what a task writes; a made scene keeps the limits of a scene
 abbrev pub Promised : (task : Task) → Subject (origin_of task) → Type 0
 Promised (Run frames journal) scene = RunHolds scene
+Promised RunPruned scene = RunHolds scene
 Promised Pack scene = ⊤
 Promised Show scene = ⊤
 Promised (Generate seed false) scene = IsScene scene

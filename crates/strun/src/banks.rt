@@ -11,9 +11,10 @@ ghost use Rattle.strun.specs.Outputs.{output};
 ghost use Rattle.strun_words.specs.declared.task.Task.TheVariants.{Bank};
 ghost use Rattle.top_status.specs.Failures.{HasWriteCause};
 
-use crate::writing::{run_cluster, write_cluster};
+use crate::writing::run_cluster;
 use bank_book::Book;
 use bank_book::balances::balances;
+use run_io::write_cluster;
 use std::alloc::{AllocError, Global};
 use str_base::{Value, push_i64};
 use str_model::Got;

@@ -1,12 +1,15 @@
-//! The program `strun`: it runs a scene and writes the released answers, and the balances where it is a bank's; or says of answers whether
+//! The program `strun`: it runs a scene and writes the released answers, and the balances where it is a bank's, or how many versions are kept where
+//! nodes drop old ones; or says of answers whether
 //! snapshot isolation holds of them, or what stood at a timestamp; or writes a scene's text as frames or the other way, or makes a scene.
 #![tactic(auto)]
 
 mod audits;
 mod banks;
 mod books;
+#[cfg(test)]
+mod hostile;
 mod inputs;
-mod journal;
+mod prunes;
 mod tasks;
 #[cfg(test)]
 mod tests;

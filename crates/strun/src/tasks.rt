@@ -12,10 +12,11 @@ ghost use Rattle.top_status.specs.Failures.{HasWriteCause};
 use crate::audits::{write_at, write_verdict};
 use crate::banks::write_bank;
 use crate::books::book_of;
-use crate::inputs::{read_either, read_packed, read_past, read_text};
-use crate::journal::write_journal;
-use crate::writing::{write_end, write_packed, write_run, write_text};
+use crate::inputs::read_either;
+use crate::prunes::write_pruned;
+use crate::writing::{write_end, write_journal, write_packed, write_run, write_text};
 use history_audit::audit;
+use run_io::{read_packed, read_past, read_text};
 use scene_gen::make;
 use std::alloc::Global;
 use str_outer::{Sink, Source};
@@ -43,6 +44,7 @@ pub(crate) fn do_task<S: Source, K: Sink>(
             frames,
             journal: true,
         } => do_journal(alloc, frames, src, out),
+        Task::RunPruned => do_pruned(alloc, src, out),
         Task::Pack => do_pack(alloc, src, out),
         Task::Show => do_show(alloc, src, out),
         Task::Generate { seed, run: false } => write_made(alloc, seed, out),
@@ -81,6 +83,17 @@ fn do_journal<S: Source, K: Sink>(
 {
     let scene = read_either(alloc, frames, src)?;
     write_journal(alloc, scene, out)
+}
+
+/// `run --prune`: reads the text of a scene, runs it in a cluster that drops old versions, and writes the answers, the last line and how many
+/// versions were kept.
+fn do_pruned<S: Source, K: Sink>(alloc: Global, src: &mut S, out: &mut K) -> Result<(), Failure>
+    ensures done { OnOk result (Done Task.RunPruned (S.left src.old) (S.left src.new) (K.held out.old) (K.held out.new)) }
+    ensures failed { IfErr result (TaskFails Task.RunPruned (S.left src.old) (S.left src.new) (S.faults src.old) (S.faults src.new)
+        (K.held out.old) (K.held out.new) (K.faults out.old) (K.faults out.new)) }
+{
+    let scene = read_text(alloc, src)?;
+    write_pruned(alloc, scene, out)
 }
 
 /// `pack`: reads the text of a scene, and writes its frames.

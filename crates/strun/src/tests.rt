@@ -28,7 +28,7 @@ const EARLY_LINES: &[u8] =
 const ONE_PUT: &[u8] =
     b"str 1\nnodes 1\npart 1 1\nsession 1\ntx\nput a@1 5\nschedule\nc 1 10\ndrain\nend\n";
 
-const ONE_PUT_FRAMES: &[u8] =
+pub(crate) const ONE_PUT_FRAMES: &[u8] =
     b"STRF\x01\x01\x00\x01\x01\x02\x00\x01\x01\x03\x00\x01\x01\x04\x00\x0c\x02\x01\x01a\x00\x00\x00\x00\x00\x00\x00\x05\x05\x00\x09\x01\x00\x00\x00\x00\x00\x00\x00\x0a\x07\x00\x00\x08\x00\x00";
 
 const ONE_PUT_LINES: &[u8] =
@@ -67,16 +67,58 @@ const NO_PAST: &[u8] =
 /// The last line of the run of the scene that is made of 7.
 const SEVEN_END: &[u8] = b"end commits=287 aborts=13 held=0 unbegun=0 messages=1451\n";
 
+/// A session that writes one key three times at the only node.
+const THREE_PUTS: &[u8] =
+    b"str 1\nnodes 1\npart 1 1\nsession 1\ntx\nput a@1 1\ntx\nput a@1 2\ntx\nput a@1 3\nschedule\nc 1 10\ndrain\nend\n";
+
+const THREE_PUTS_LINES: &[u8] =
+    b"1.1 s1/1 commit rs=10 fc=11\n1.2 s1/2 commit rs=11 fc=12\n1.3 s1/3 commit rs=12 fc=13\n\
+    end commits=3 aborts=0 held=0 unbegun=0 messages=0\nkept versions=1\n";
+
+/// Scenes, each with the line of the versions that its pruned run keeps.
+const KEPT: [(&[u8], &[u8]); 5] = [
+    // A node that was never heard.
+    (
+        b"str 1\nnodes 2\npart 1 1\nsession 1\ntx\nput a@1 1\ntx\nput a@1 2\ntx\nput a@1 3\nschedule\nc 1 10\ndrain\nend\n",
+        b"kept versions=3\n",
+    ),
+    // A message that is idle tells its receiver nothing.
+    (
+        b"str 1\nnodes 2\npart 1 1\nsession 1\ntx\nput a@1 1\ntx\nput a@1 1\ntx\nget a@1\nsession 2\ntx\nput a@1 1\n\
+        schedule\nc 2 1\nc 2 0\nc 1 0\nc 1 0\nc 1 0\nc 1 0\nc 1 0\nc 1 0\nc 2 0\nd 1\nd 2\nd 3\nc 1 0\nend\n",
+        b"kept versions=2\n",
+    ),
+    // A message that comes late lowers nothing that was heard.
+    (
+        b"str 1\nnodes 2\npart 1 1 2\npart 2 1\nsession 1\ntx\nput a@1 1\ntx\nput a@1 1\nsession 2\ntx\nput b@2 1\n\
+        put a@1 1\ntx\nneed b@2 1\nschedule\nc 1 0\nc 2 0\nc 1 0\nc 1 0\nd 1\nc 2 0\nc 2 0\nd 2\nc 1 0\nc 1 0\nc 1 0\n\
+        d 4\nc 2 0\nc 2 2\nc 2 0\nd 6\nd 5\nend\n",
+        b"kept versions=3\n",
+    ),
+    // A message carries the low mark at the end of the step that sent it.
+    (
+        b"str 1\nnodes 2\npart 1 1\nsession 1\ntx\nput a@1 1\nsession 1\ntx\nput a@1 3\nsession 2\ntx\nput a@1 1\n\
+        schedule\nc 3 1\nc 1 0\nc 1 0\nc 3 0\nc 1 0\nc 3 0\nd 1\nc 2 2\nd 2\nd 3\nend\n",
+        b"kept versions=1\n",
+    ),
+    // A repeated read of a decided transaction is answered from what is left.
+    (
+        b"str 1\nnodes 2\npart 1 1\nsession 1\ntx\nput a@1 6\nsession 1\ntx\nput a@1 1\nsession 2\ntx\nadd a@1 1\n\
+        schedule\nc 1 0\nc 3 1\nc 1 0\nc 3 0\nc 1 0\nd 1\nd 2\nc 3 0\nd 3\nd 4\nc 2 2\nd 5\nd 1\nend\n",
+        b"kept versions=1\n",
+    ),
+];
+
 /// A call: its words, its input, which read and which write are to fail (0: none), and what comes of it.
 #[derive(Clone, Copy)]
-struct Call {
-    words: &'static [&'static str],
-    text: &'static [u8],
-    failing_read: u64,
-    failing_write: u64,
-    status: Status,
-    out: &'static [u8],
-    err: &'static [u8],
+pub(crate) struct Call {
+    pub(crate) words: &'static [&'static str],
+    pub(crate) text: &'static [u8],
+    pub(crate) failing_read: u64,
+    pub(crate) failing_write: u64,
+    pub(crate) status: Status,
+    pub(crate) out: &'static [u8],
+    pub(crate) err: &'static [u8],
 }
 
 /// A one-element list, or none where the number is 0.
@@ -97,7 +139,7 @@ fn owned(alloc: Global, texts: &[&str]) -> Result<Vec<String>, AllocError> {
     Ok(words)
 }
 
-fn check(rt: &(impl Abort + AllocGlobal), call: &Call) -> Result<(), Fail> {
+pub(crate) fn check(rt: &(impl Abort + AllocGlobal), call: &Call) -> Result<(), Fail> {
     let words = owned(rt.alloc(), call.words)?;
     let text = call.text.to_vec(rt.alloc())?;
     let mut src = MemSource::new(text, failing(rt.alloc(), call.failing_read)?, 8);
@@ -533,8 +575,53 @@ fn audits(rt: HostRuntime) -> Result<(), Fail> {
     )
 }
 
+#[test]
+fn pruned_runs(rt: HostRuntime) -> Result<(), Fail> {
+    let pruned = Call {
+        words: &["run", "--prune"],
+        text: THREE_PUTS,
+        failing_read: 0,
+        failing_write: 0,
+        status: Status::Ok,
+        out: THREE_PUTS_LINES,
+        err: b"",
+    };
+    check(&rt, &pruned)?;
+    check(
+        &rt,
+        &Call {
+            failing_write: 10,
+            status: Status::WriteFault,
+            out: &THREE_PUTS_LINES[..135],
+            err: b"strun: write fault\n",
+            ..pruned
+        },
+    )?;
+    check(
+        &rt,
+        &Call {
+            words: &["run", "--frames", "--prune"],
+            status: Status::Usage,
+            out: b"",
+            err: b"strun: usage\n",
+            ..pruned
+        },
+    )
+}
+
+#[test]
+fn kept_versions(rt: HostRuntime) -> Result<(), Fail> {
+    for (text, kept) in KEPT {
+        let mut wanted = output_of(rt.alloc(), &["run"], text.to_vec(rt.alloc())?)?;
+        wanted.extend_from_slice(kept)?;
+        let pruned = output_of(rt.alloc(), &["run", "--prune"], text.to_vec(rt.alloc())?)?;
+        assert_eq!(rt; pruned.as_slice(), wanted.as_slice());
+    }
+    Ok(())
+}
+
 /// What a call writes of a text, in a few writes.
-fn output_of(alloc: Global, words: &[&str], text: Vec<u8>) -> Result<Vec<u8>, Fail> {
+pub(crate) fn output_of(alloc: Global, words: &[&str], text: Vec<u8>) -> Result<Vec<u8>, Fail> {
     let words = owned(alloc, words)?;
     let mut src = MemSource::new(text, Vec::new(alloc), 65_536);
     let mut out = MemSink::new(alloc, Vec::new(alloc), 65_536);

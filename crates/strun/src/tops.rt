@@ -17,7 +17,8 @@ use strun_words::read_task;
 use top_status::{Failure, Status, answer};
 
 /// Does what the words ask for. `run` reads the text of a scene, and `run --frames` its frames, runs it, and writes the answers and
-/// the last line; with `--journal` each event has a line before its answers. `pack` writes the frames of a text's scene, and `show`
+/// the last line; with `--journal` each event has a line before its answers. `run --prune` writes the same as `run` of a text, in a cluster whose nodes
+/// drop old versions, and how many they kept. `pack` writes the frames of a text's scene, and `show`
 /// the text of the frames' scene. `gen N` reads nothing and writes the text of the scene that is made of N; with `--run` it runs that
 /// scene and writes the last line alone. `bank` reads the text of a bank's scene, runs it, and writes the answers, the last line, the
 /// balance of each account and their sum. `audit` reads a history, that is the text of a scene with answers and their last line behind it,

@@ -5,7 +5,7 @@ use Rattle.std.specs.Prelude.{[], decimal, slice_index, ◌∷◌}
 use Rattle.std.specs.Str.Parse.{digits_value}
 use Rattle.strun_words.specs.Tasks.{AskFor, IsTask, words_of}
 use Rattle.strun_words.specs.declared.task.Task.{Task}
-use Rattle.strun_words.specs.declared.task.Task.TheVariants.{At, Audit, Bank, Generate, Pack, Run, Show}
+use Rattle.strun_words.specs.declared.task.Task.TheVariants.{At, Audit, Bank, Generate, Pack, Run, RunPruned, Show}
 
 -- a number is not less than itself
 pub not_less : {X : Type 0} (m n : ℕ) → m ≡ n → m < n → X
@@ -14,7 +14,7 @@ not_less m n e l = absurd (omega (arith, e, l))
 -- the task of the words behind `run`; the third byte of a flag tells which it is
 abbrev run_told : List (List ℕ) → Task
 run_told [] = Run false false
-run_told (w ∷ []) = Run (slice_index w 2 == 102) (slice_index w 2 == 106)
+run_told (w ∷ []) = if slice_index w 2 == 112 then RunPruned else Run (slice_index w 2 == 102) (slice_index w 2 == 106)
 run_told (w ∷ v ∷ ws) = Run true true
 
 -- the task of the words behind `gen`
@@ -48,6 +48,7 @@ told (Run false false) i = refl
 told (Run false true) i = refl
 told (Run true false) i = refl
 told (Run true true) i = refl
+told RunPruned i = refl
 told Pack i = refl
 told Show i = refl
 told (Generate seed false) i = ap (λ (n : ℕ). Generate n false) (number_told seed i)

@@ -8,7 +8,7 @@ use Rattle.str_base.proofs.DecimalLemmas.{spelling_first}
 use Rattle.strun_words.specs.Parsing.{Finds, HasFlag, program}
 use Rattle.strun_words.specs.Tasks.{IsTask, words_of}
 use Rattle.strun_words.specs.declared.task.Task.{Task}
-use Rattle.strun_words.specs.declared.task.Task.TheVariants.{At, Audit, Bank, Generate, Pack, Run, Show}
+use Rattle.strun_words.specs.declared.task.Task.TheVariants.{At, Audit, Bank, Generate, Pack, Run, RunPruned, Show}
 
 -- this word and this flag are found behind `gen`
 abbrev FindsWord : Option (Text × List Row) → List ℕ → Bool → Type 0
@@ -61,6 +61,7 @@ words_taken (Run false false) i = refl
 words_taken (Run false true) i = refl
 words_taken (Run true false) i = refl
 words_taken (Run true true) i = refl
+words_taken RunPruned i = refl
 words_taken Pack i = refl
 words_taken Show i = refl
 words_taken (Generate seed false) i = begins (λ ds. takes program (codes "gen" ∷ ds ∷ []) ≡ true) seed i gen_taken
@@ -81,10 +82,11 @@ finds_at (Some p) time l h = (h.0, (l, h.1))
 -- the subcommand and the arguments of a task are found in its words
 pub words_found : (task : Task) → IsTask task → Finds (subcommand_of program (words_of task)) task
 unfolding clap_on_literals
-words_found (Run false false) i = (refl, (refl, refl))
-words_found (Run false true) i = (refl, (refl, refl))
-words_found (Run true false) i = (refl, (refl, refl))
-words_found (Run true true) i = (refl, (refl, refl))
+words_found (Run false false) i = (refl, (refl, refl, refl))
+words_found (Run false true) i = (refl, (refl, refl, refl))
+words_found (Run true false) i = (refl, (refl, refl, refl))
+words_found (Run true true) i = (refl, (refl, refl, refl))
+words_found RunPruned i = (refl, refl)
 words_found Pack i = (refl, tt)
 words_found Show i = (refl, tt)
 words_found (Generate seed false) i =

@@ -12,7 +12,7 @@ use Rattle.std.specs.Prelude.{Box, codes, decimal, false, if◌then◌else◌, o
 use Rattle.strun_words.proofs.Apart.{not_less}
 use Rattle.strun_words.specs.Parsing.{Finds, HasArguments, HasFlag, HasNumber, name_of}
 use Rattle.strun_words.specs.declared.task.Task.{Task}
-use Rattle.strun_words.specs.declared.task.Task.TheVariants.{At, Audit, Bank, Generate, Pack, Run, Show}
+use Rattle.strun_words.specs.declared.task.Task.TheVariants.{At, Audit, Bank, Generate, Pack, Run, RunPruned, Show}
 
 -- the name of a subcommand that was found
 abbrev name_found : Option (Text × List Row) → Option Text
@@ -63,6 +63,7 @@ plain_named name t task p e = by_task task (ap plain_told e ∙ p)
   where
     by_task : (u : Task) → plain_told (name_of u) ≡ Some t → t ≡ u
     by_task (Run frames journal) q = absurd (cc q)
+    by_task RunPruned q = absurd (cc q)
     by_task Pack q = cc q
     by_task Show q = cc q
     by_task (Generate seed run) q = absurd (cc q)
@@ -82,22 +83,37 @@ bank_named task e = plain_named (codes "bank") Bank task refl e
 pub audit_named : (task : Task) → name_of task ≡ codes "audit" → Audit ≡ task
 audit_named task e = plain_named (codes "audit") Audit task refl e
 
--- a task with the name `run` has the flags that are read
-pub run_named : (f : Found) (frames journal : Bool) (task : Task) → name_of task ≡ codes "run" → HasArguments task (rows_of f) → ((flag : Bool) → HasFlag (codes "frames") flag (rows_of f) → frames ≡ flag)
+-- a task with the name `run` and without its flag `prune` has the other flags that are read
+pub run_named : (f : Found) (prune frames journal : Bool) (task : Task) → prune ≡ false → name_of task ≡ codes "run" → HasArguments task (rows_of f)
+    → ((flag : Bool) → HasFlag (codes "prune") flag (rows_of f) → prune ≡ flag) → ((flag : Bool) → HasFlag (codes "frames") flag (rows_of f) → frames ≡ flag)
     → ((flag : Bool) → HasFlag (codes "journal") flag (rows_of f) → journal ≡ flag) → Run frames journal ≡ task
-run_named f frames journal (Run a b) e h x y = ap₂ Run (x a h.0) (y b h.1)
-run_named f frames journal Pack e h x y = not_less 112 114 (first_byte _ _ e) (omega arith)
-run_named f frames journal Show e h x y = not_less 114 115 (sym (first_byte _ _ e)) (omega arith)
-run_named f frames journal (Generate seed run) e h x y = not_less 103 114 (first_byte _ _ e) (omega arith)
-run_named f frames journal Bank e h x y = not_less 98 114 (first_byte _ _ e) (omega arith)
-run_named f frames journal Audit e h x y = not_less 97 114 (first_byte _ _ e) (omega arith)
-run_named f frames journal (At time) e h x y = not_less 97 114 (first_byte _ _ e) (omega arith)
+run_named f prune frames journal (Run a b) n e h z x y = ap₂ Run (x a h.0) (y b h.1)
+run_named f prune frames journal RunPruned n e h z x y = let t : prune ≡ true = z true h in absurd (cc (n, t))
+run_named f prune frames journal Pack n e h z x y = not_less 112 114 (first_byte _ _ e) (omega arith)
+run_named f prune frames journal Show n e h z x y = not_less 114 115 (sym (first_byte _ _ e)) (omega arith)
+run_named f prune frames journal (Generate seed run) n e h z x y = not_less 103 114 (first_byte _ _ e) (omega arith)
+run_named f prune frames journal Bank n e h z x y = not_less 98 114 (first_byte _ _ e) (omega arith)
+run_named f prune frames journal Audit n e h z x y = not_less 97 114 (first_byte _ _ e) (omega arith)
+run_named f prune frames journal (At time) n e h z x y = not_less 97 114 (first_byte _ _ e) (omega arith)
+
+-- with that flag it is the run that prunes
+pub pruned_named : (f : Found) (prune : Bool) (task : Task) → prune ≡ true → name_of task ≡ codes "run" → HasArguments task (rows_of f)
+    → ((flag : Bool) → HasFlag (codes "prune") flag (rows_of f) → prune ≡ flag) → RunPruned ≡ task
+pruned_named f prune (Run a b) t e h z = let n : prune ≡ false = z false h.2 in absurd (cc (n, t))
+pruned_named f prune RunPruned t e h z = refl
+pruned_named f prune Pack t e h z = not_less 112 114 (first_byte _ _ e) (omega arith)
+pruned_named f prune Show t e h z = not_less 114 115 (sym (first_byte _ _ e)) (omega arith)
+pruned_named f prune (Generate seed run) t e h z = not_less 103 114 (first_byte _ _ e) (omega arith)
+pruned_named f prune Bank t e h z = not_less 98 114 (first_byte _ _ e) (omega arith)
+pruned_named f prune Audit t e h z = not_less 97 114 (first_byte _ _ e) (omega arith)
+pruned_named f prune (At time) t e h z = not_less 97 114 (first_byte _ _ e) (omega arith)
 
 -- a task with the name `gen` has a seed and a flag
 pub generate_named : {X : Type 0} (f : Found) (task : Task) → name_of task ≡ codes "gen" → HasArguments task (rows_of f)
     → ((n : ℕ) (run : Bool) → Generate n run ≡ task → HasArguments (Generate n run) (rows_of f) → X) → X
 generate_named f (Generate seed run) e h go = go seed run refl h
 generate_named f (Run frames journal) e h go = not_less 103 114 (sym (first_byte _ _ e)) (omega arith)
+generate_named f RunPruned e h go = not_less 103 114 (sym (first_byte _ _ e)) (omega arith)
 generate_named f Pack e h go = not_less 103 112 (sym (first_byte _ _ e)) (omega arith)
 generate_named f Show e h go = not_less 103 115 (sym (first_byte _ _ e)) (omega arith)
 generate_named f Bank e h go = not_less 98 103 (first_byte _ _ e) (omega arith)
@@ -109,6 +125,7 @@ pub at_named : {X : Type 0} (f : Found) (task : Task) → name_of task ≡ codes
     → ((n : ℕ) → At n ≡ task → HasArguments (At n) (rows_of f) → X) → X
 at_named f (At time) e h go = go time refl h
 at_named f (Run frames journal) e h go = not_less 97 114 (sym (first_byte _ _ e)) (omega arith)
+at_named f RunPruned e h go = not_less 97 114 (sym (first_byte _ _ e)) (omega arith)
 at_named f Pack e h go = not_less 97 112 (sym (first_byte _ _ e)) (omega arith)
 at_named f Show e h go = not_less 97 115 (sym (first_byte _ _ e)) (omega arith)
 at_named f (Generate seed run) e h go = not_less 97 103 (sym (first_byte _ _ e)) (omega arith)

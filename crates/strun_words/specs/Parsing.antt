@@ -5,7 +5,7 @@ use Rattle.clap.specs.declared.error.kind.ErrorKind.{ErrorKind}
 use Rattle.clap.specs.declared.error.kind.ErrorKind.TheVariants.{OutOfMemory}
 use Rattle.std.specs.Prelude.{Bool, List, None, Option, Some, codes, decimal, false, true, ⊤, ℕ, ◌<◌, ◌^◌, ◌≡◌}
 use Rattle.strun_words.specs.declared.task.Task.{Task}
-use Rattle.strun_words.specs.declared.task.Task.TheVariants.{At, Audit, Bank, Generate, Pack, Run, Show}
+use Rattle.strun_words.specs.declared.task.Task.TheVariants.{At, Audit, Bank, Generate, Pack, Run, RunPruned, Show}
 use Rattle.top_status.specs.declared.failure.Failure.{Failure}
 use Rattle.top_status.specs.declared.failure.Failure.TheVariants.{Memory, Usage}
 
@@ -19,7 +19,7 @@ seed_rule = record (new_rule (codes "seed")) { action = Some Set }
 
 -- the subcommands
 abbrev pub run_command : App
-run_command = with_rule (with_rule (new_app (codes "run")) (flag (codes "frames"))) (flag (codes "journal"))
+run_command = with_rule (with_rule (with_rule (new_app (codes "run")) (flag (codes "frames"))) (flag (codes "journal"))) (flag (codes "prune"))
 
 abbrev pub pack_command : App
 pack_command = new_app (codes "pack")
@@ -76,6 +76,7 @@ HasNumber name number rows = (number < 2 ^ 64) × (first_of name rows ≡ Some (
 -- the name of a task's subcommand
 abbrev pub name_of : Task → Text
 name_of (Run frames journal) = codes "run"
+name_of RunPruned = codes "run"
 name_of Pack = codes "pack"
 name_of Show = codes "show"
 name_of (Generate seed run) = codes "gen"
@@ -85,7 +86,8 @@ name_of (At time) = codes "at"
 
 -- the arguments are those of the task
 abbrev pub HasArguments : Task → List Row → Type 0
-HasArguments (Run frames journal) rows = HasFlag (codes "frames") frames rows × HasFlag (codes "journal") journal rows
+HasArguments (Run frames journal) rows = HasFlag (codes "frames") frames rows × HasFlag (codes "journal") journal rows × HasFlag (codes "prune") false rows
+HasArguments RunPruned rows = HasFlag (codes "prune") true rows
 HasArguments Pack rows = ⊤
 HasArguments Show rows = ⊤
 HasArguments (Generate seed run) rows = HasNumber (codes "seed") seed rows × HasFlag (codes "run") run rows

@@ -1,7 +1,7 @@
 -- The lists of words that are taken, and what each asks for.
 use Rattle.std.specs.Prelude.{List, [], codes, decimal, false, true, ℕ, ⊤, ◌<◌, ◌^◌, ◌∷◌, ◌≡◌}
 use Rattle.strun_words.specs.declared.task.Task.{Task}
-use Rattle.strun_words.specs.declared.task.Task.TheVariants.{At, Audit, Bank, Generate, Pack, Run, Show}
+use Rattle.strun_words.specs.declared.task.Task.TheVariants.{At, Audit, Bank, Generate, Pack, Run, RunPruned, Show}
 use Rattle.top_status.specs.declared.failure.Failure.{Failure}
 use Rattle.top_status.specs.declared.failure.Failure.TheVariants.{Memory, Usage}
 
@@ -11,6 +11,7 @@ words_of (Run false false) = codes "run" ∷ []
 words_of (Run false true) = codes "run" ∷ codes "--journal" ∷ []
 words_of (Run true false) = codes "run" ∷ codes "--frames" ∷ []
 words_of (Run true true) = codes "run" ∷ codes "--frames" ∷ codes "--journal" ∷ []
+words_of RunPruned = codes "run" ∷ codes "--prune" ∷ []
 words_of Pack = codes "pack" ∷ []
 words_of Show = codes "show" ∷ []
 words_of (Generate seed false) = codes "gen" ∷ decimal seed ∷ []

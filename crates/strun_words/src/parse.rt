@@ -16,7 +16,7 @@ use std::alloc::{AllocError, Global};
 use str_base::read_u64;
 use top_status::Failure;
 
-/// What the words ask for: `run` with its flags, `pack`, `show`, `gen` with a number and its flag, `bank`, `audit`, or `at` with a number,
+/// What the words ask for: `run` with its flags, `run --prune`, `pack`, `show`, `gen` with a number and its flag, `bank`, `audit`, or `at` with a number,
 /// in this order, and nothing else.
 ///
 /// # Errors
@@ -83,7 +83,8 @@ fn run_command<'a>(alloc: Global) -> Result<Command<'a>, AllocError>
 {
     Command::new(alloc, "run")
         .arg(flag(alloc, "frames"))?
-        .arg(flag(alloc, "journal"))
+        .arg(flag(alloc, "journal"))?
+        .arg(flag(alloc, "prune"))
 }
 
 /// The subcommand `gen`.
@@ -163,6 +164,9 @@ fn task_of(matches: &ArgMatches<'_>) -> Option<Task>
 fn run_of(given: &ArgMatches<'_>) -> Task
     ensures { (task : _) → name_of task ≡ codes "run" → HasArguments task (rows_of (found_of given.now)) → result ≡ task }
 {
+    if given.get_flag("prune") {
+        return Task::RunPruned;
+    }
     Task::Run {
         frames: given.get_flag("frames"),
         journal: given.get_flag("journal"),

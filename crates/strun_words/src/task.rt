@@ -11,6 +11,9 @@ pub enum Task {
     /// Run a scene, which comes as its text or, with `--frames`, as its frames, and write the answers and the last line. With
     /// `--journal` each event has a line before its answers.
     Run { frames: bool, journal: bool },
+    /// Run a scene, which comes as its text, in a cluster that drops old versions, and write the answers, the last line and how many versions
+    /// were kept.
+    RunPruned,
     /// Write the frames of a scene, which comes as its text.
     Pack,
     /// Write the text of a scene, which comes as its frames.
@@ -32,6 +35,7 @@ impl Task {
     {
         match self {
             Task::Run { frames, journal } => is_run(frames, journal, words),
+            Task::RunPruned => are_same(words, &["run", "--prune"]),
             Task::Pack => are_same(words, &["pack"]),
             Task::Show => are_same(words, &["show"]),
             Task::Generate { seed, run } => is_generate(seed, run, words),

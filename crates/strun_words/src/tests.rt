@@ -39,6 +39,7 @@ fn lists_that_are_taken(rt: HostRuntime) -> Result<(), Fail> {
     check(&rt, &["run", "--journal"], run_with(false, true))?;
     check(&rt, &["run", "--frames"], run_with(true, false))?;
     check(&rt, &["run", "--frames", "--journal"], run_with(true, true))?;
+    check(&rt, &["run", "--prune"], Ok(Task::RunPruned))?;
     check(&rt, &["pack"], Ok(Task::Pack))?;
     check(&rt, &["show"], Ok(Task::Show))?;
     check(&rt, &["bank"], Ok(Task::Bank))?;
@@ -60,7 +61,7 @@ fn lists_that_are_taken(rt: HostRuntime) -> Result<(), Fail> {
 
 #[test]
 fn other_lists(rt: HostRuntime) -> Result<(), Fail> {
-    let lists: [&[&str]; 45] = [
+    let lists: [&[&str]; 49] = [
         &[],
         &[""],
         &["--"],
@@ -82,6 +83,10 @@ fn other_lists(rt: HostRuntime) -> Result<(), Fail> {
         &["run", "--frames=true"],
         &["run", "--frames", "true"],
         &["--frames", "run"],
+        &["run", "--frames", "--prune"],
+        &["run", "--prune", "--journal"],
+        &["run", "--prune", "--prune"],
+        &["--prune", "run"],
         &["run", "pack"],
         &["pack", "--frames"],
         &["show", "--journal"],

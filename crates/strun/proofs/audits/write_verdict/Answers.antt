@@ -1,4 +1,5 @@
-use Rattle.strun.proofs.AuditWritten.{is_alone, partly_as, written_as}
+use Rattle.run_io.proofs.Rendered.{partly_as, written_as}
+use Rattle.strun.proofs.AuditWritten.{is_alone}
 use Rattle.strun.proofs.audits.write_verdict.Goals as goal
 
 pub returns-clause-written : goal.returns-clause-written

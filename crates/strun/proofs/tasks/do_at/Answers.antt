@@ -1,5 +1,6 @@
+use Rattle.std.proofs.Common.{refl}
 use Rattle.std.proofs.lemmas.Result.{err_from_is_err_and}
-use Rattle.strun.proofs.Doing.{input_failed, task_done, writing_failed}
+use Rattle.strun.proofs.Doing.{history_unread, task_done, writing_failed}
 use Rattle.strun.specs.Audits.{Audited}
 use Rattle.strun_words.specs.declared.task.Task.TheVariants.{At}
 use Rattle.strun.proofs.tasks.do_at.Goals as goal
@@ -7,7 +8,7 @@ use Rattle.strun.proofs.tasks.do_at.Goals as goal
 pub returns-in_err-history-clause-failed : goal.returns-in_err-history-clause-failed
 returns-in_err-history-clause-failed g c =
     let p = err_from_is_err_and c.from_residual.result c.from_residual.ensures.1 in
-    rw (p.1, p.2) (input_failed (At c.args.time) _ _ _ _ _ _ _ c.in_err-history.field-0.0 c.in_err-history.ensures.failed)
+    rw (p.1, p.2) (history_unread (At c.args.time) _ _ _ _ _ _ _ c.in_err-history.field-0.0 refl c.in_err-history.ensures.failed)
 
 pub returns-clause-done : goal.returns-clause-done
 returns-clause-done g c =

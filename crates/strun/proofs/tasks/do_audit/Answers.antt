@@ -1,6 +1,8 @@
+use Rattle.std.proofs.Common.{refl}
 use Rattle.std.proofs.lemmas.Result.{err_from_is_err_and}
-use Rattle.strun.proofs.AuditWritten.{partly_as, verdict_is, written_as}
-use Rattle.strun.proofs.Doing.{input_failed, task_done, writing_failed}
+use Rattle.run_io.proofs.Rendered.{partly_as, written_as}
+use Rattle.strun.proofs.AuditWritten.{verdict_is}
+use Rattle.strun.proofs.Doing.{history_unread, task_done, writing_failed}
 use Rattle.strun.specs.Audits.{Audited}
 use Rattle.strun_words.specs.declared.task.Task.TheVariants.{Audit}
 use Rattle.strun.proofs.tasks.do_audit.Goals as goal
@@ -8,7 +10,7 @@ use Rattle.strun.proofs.tasks.do_audit.Goals as goal
 pub returns-in_err-history-clause-failed : goal.returns-in_err-history-clause-failed
 returns-in_err-history-clause-failed g c =
     let p = err_from_is_err_and c.from_residual.result c.from_residual.ensures.1 in
-    rw (p.1, p.2) (input_failed Audit _ _ _ _ _ _ _ c.in_err-history.field-0.0 c.in_err-history.ensures.failed)
+    rw (p.1, p.2) (history_unread Audit _ _ _ _ _ _ _ c.in_err-history.field-0.0 refl c.in_err-history.ensures.failed)
 
 pub returns-clause-done : goal.returns-clause-done
 returns-clause-done g c =

@@ -1,5 +1,5 @@
 use Rattle.std.proofs.Common.{ap, ◌∙◌}
-use Rattle.cluster_run.proofs.Kept.{comes_back, comes_world, event_keeps, same_scene}
+use Rattle.cluster_run.proofs.Kept.{comes_back, comes_world, event_keeps, may_happen, same_scene}
 use Rattle.cluster_run.specs.Clusters.{ClusterState, world_of}
 use Rattle.cluster_run.proofs.clusters.Cluster.event.Goals as goal
 use Rattle.str_model.specs.Runs.{happens}
@@ -25,3 +25,6 @@ returns-clause-err c = rw (← c.self.view_is) (comes_back c.event.result c.self
 
 pub returns-clause-run : goal.returns-clause-run
 returns-clause-run c = (event_keeps c.event.result c.self.inside.parts c.event.new.self c.args.event c.self.invariant c.event.ensures.ok c.event.ensures.err).run_
+
+pub event-requires : goal.event-requires
+event-requires c = may_happen c.self.inside.parts c.args.event c.self.invariant

@@ -1,7 +1,0 @@
-use Rattle.std.proofs.Common.{◌≡◌, ◌+◌, ◌-◌, find, length}
-use Rattle.std.specs.List.{range_with_len}
-use Rattle.cluster_run.proofs.clusters.Cluster.lowest_session.Given as goal
-use Rattle.str_model.specs.Drains.{moves, next_session}
-
-abbrev pub invariant-loop-i : goal.invariant-loop-i
-invariant-loop-i l = find (moves l.self.scene l.self.world) (range_with_len (1 + l.i) (length l.self.scene.sessions - l.i)) ≡ next_session l.self.scene l.self.world
