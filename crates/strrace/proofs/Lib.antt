@@ -1,0 +1,5 @@
+pub mod RoundsAsked
+pub mod Spelled
+pub mod Starting
+pub mod Merged
+pub mod Raced
