@@ -1,0 +1,12 @@
+pub mod Closed
+pub mod Entries
+pub mod EventsDone
+pub mod Following
+pub mod FoundAnswers
+pub mod NextEntry
+pub mod NodePlaces
+pub mod PlacesFilledOnce
+pub mod Replaying
+pub mod Searches
+pub mod Calls
+pub mod Jobs

@@ -1,0 +1,363 @@
+//! Whole calls of the program over a source and sinks in memory.
+ghost use Rattle.std.specs.Prelude.{◌≡◌, ◌<◌, IfOk, length};
+
+use crate::tops::door_top;
+use crate::visits::visit;
+use cluster_run::Cluster;
+use held_answer::push_line;
+use run_io::{open_gates, write_whole};
+use scene_text::read_scene;
+use std::alloc::{AllocError, Global};
+use std::marker::{Send, Sync};
+use std::process::Abort;
+use std::str;
+use std::sync::Wait;
+use std::sync::atomic::{AtomicU64, Ordering};
+use std::test::Fail;
+use std::thread::Threads;
+use str_base::NodeId;
+use str_model::Answer;
+use str_outer::{Clock, FixedClock, Gate, MemSink, MemSource};
+use str_scene::KeyTable;
+use top_status::Status;
+
+const EMPTY: &[u8] = b"str 1\nnodes 1\npart 1 1\nschedule\ndrain\nend\n";
+
+const EMPTY_LINES: &[u8] =
+    b"j d 1 idle\nj d 2 idle\nj d 3 idle\nj d 4 idle\nj d 5 idle\nj d 6 idle\nj d 7 idle\nj d 8 idle\n\
+    end commits=0 aborts=0 held=0 unbegun=0 messages=0\n";
+
+/// Two sums on one key at one node; the schedule and the drain are not used.
+const LOST_UPDATE: &[u8] =
+    b"str 1\nnodes 1\npart 1 1\nsession 1\ntx\nadd a@1 1\nsession 1\ntx\nadd a@1 1\nschedule\nc 1 10\nc 2 10\ndrain\nend\n";
+
+const LOST_UPDATE_LINES: &[u8] =
+    b"j c 1 10\nj c 2 10\nj d 1 idle\nj c 1 10\nj c 2 10\nj d 2 idle\nj c 1 10\n1.1 s1/1 commit rs=10 fc=11\nj c 2 10\n\
+    1.2 s2/1 abort rs=10 conflict 1.1 a@1 at=1\nj d 3 idle\n\
+    j c 1 10 idle\nj c 2 10 idle\nj d 4 idle\nj c 1 10 idle\nj c 2 10 idle\nj d 5 idle\nj c 1 10 idle\nj c 2 10 idle\nj d 6 idle\n\
+    j c 1 10 idle\nj c 2 10 idle\nj d 7 idle\nj c 1 10 idle\nj c 2 10 idle\nj d 8 idle\n\
+    end commits=1 aborts=1 held=0 unbegun=0 messages=0\n";
+
+/// A transfer between two nodes, and a statement: the text before its schedule.
+const TRANSFER: &str =
+    "str 1\nnodes 2\npart 1 1 2\npart 2 2 1\nsession 1\ntx\nput alice@1 100\ntx\nneed alice@1 30\nadd alice@1 -30\nadd bob@2 30\n\
+    session 2\ntx\nget alice@1\nget bob@2\n";
+
+/// A call: its words, its input, which read and which write are to fail (0: none), and what is to come of it.
+#[derive(Clone, Copy)]
+struct Case<'a> {
+    words: &'a [&'a str],
+    text: &'a [u8],
+    failing_read: u64,
+    failing_write: u64,
+    status: Status,
+    out: &'static [u8],
+    err: &'static [u8],
+}
+
+/// A scene without transactions.
+const EMPTY_DOOR: Case<'static> = Case {
+    words: &[],
+    text: EMPTY,
+    failing_read: 0,
+    failing_write: 0,
+    status: Status::Ok,
+    out: EMPTY_LINES,
+    err: b"",
+};
+
+/// What a call came to.
+#[derive(Drop)]
+struct Came {
+    status: Status,
+    out: Vec<u8>,
+    err: Vec<u8>,
+}
+
+/// A list of this number, or an empty one where it is 0.
+fn failing(alloc: Global, call: u64) -> Result<Vec<u64>, AllocError> {
+    let mut calls = Vec::new(alloc);
+    if call > 0 {
+        calls.push(call)?;
+    }
+    Ok(calls)
+}
+
+/// The words, owned.
+fn owned(alloc: Global, texts: &[&str]) -> Result<Vec<String>, AllocError> {
+    let mut words = Vec::new(alloc);
+    for text in texts {
+        words.push(String::from_str(alloc, *text)?)?;
+    }
+    Ok(words)
+}
+
+/// Clocks that always give this number.
+fn clocks_at(alloc: Global, number: u64) -> Result<Vec<FixedClock>, AllocError>
+    ensures { IfOk result (λ clocks. length clocks.items ≡ 8) }
+{
+    let mut clocks = Vec::new(alloc);
+    for _node in 0..8u8 {
+        clocks.push(FixedClock::new(vec![in alloc; number]?))?;
+    }
+    Ok(clocks)
+}
+
+/// Calls the program with these clocks and gates.
+fn called<C: Clock + Send + Drop, G: Gate + Send + Drop, R: Threads + Wait + Sync>(
+    rt: &R,
+    alloc: Global,
+    case: &Case<'_>,
+    clocks: Vec<C>,
+    gates: Vec<G>,
+) -> Result<Came, AllocError>
+    requires clocks { length clocks.items ≡ 8 }
+    requires gates { length gates.items ≡ 8 }
+{
+    let words = owned(alloc, case.words)?;
+    let text = case.text.to_vec(alloc)?;
+    let mut src = MemSource::new(text, failing(alloc, case.failing_read)?, 8);
+    let mut out = MemSink::new(alloc, failing(alloc, case.failing_write)?, 16);
+    let mut err = MemSink::new(alloc, Vec::new(alloc), 16);
+    let words = words.as_slice();
+    let status = door_top(
+        rt, alloc, words, &mut src, &mut out, &mut err, clocks, gates,
+    );
+    Ok(Came {
+        status,
+        out: out.bytes().to_vec(alloc)?,
+        err: err.bytes().to_vec(alloc)?,
+    })
+}
+
+/// Every clock gives 10, and every gate is open.
+fn check<R: Threads + Wait + Sync + Abort + AllocGlobal>(
+    rt: &R,
+    case: &Case<'_>,
+) -> Result<(), Fail> {
+    let clocks = clocks_at(rt.alloc(), 10)?;
+    let gates = open_gates(rt.alloc())?;
+    let came = called(rt, rt.alloc(), case, clocks, gates)?;
+    assert_eq!(rt; came.status, case.status);
+    assert_eq!(rt; came.out.as_slice(), case.out);
+    assert_eq!(rt; came.err.as_slice(), case.err);
+    Ok(())
+}
+
+#[test]
+fn doors_of_one_node(rt: HostRuntime) -> Result<(), Fail> {
+    let plain = EMPTY_DOOR;
+    check(&rt, &plain)?;
+    let two = Case {
+        text: LOST_UPDATE,
+        out: LOST_UPDATE_LINES,
+        ..plain
+    };
+    check(&rt, &two)?;
+    let worded = Case {
+        words: &["x"],
+        status: Status::Usage,
+        out: b"",
+        err: b"door: usage\n",
+        ..plain
+    };
+    check(&rt, &worded)?;
+    let bad = Case {
+        text: b"str 1\nnodes 9\npart 1 1\nschedule\ndrain\nend\n",
+        status: Status::Refused,
+        out: b"",
+        err: b"door: line 2: range\n",
+        ..plain
+    };
+    check(&rt, &bad)?;
+    let unread = Case {
+        failing_read: 2,
+        status: Status::ReadFault,
+        out: b"",
+        err: b"door: read fault\n",
+        ..plain
+    };
+    check(&rt, &unread)?;
+    let unwritten = Case {
+        failing_write: 2,
+        status: Status::WriteFault,
+        out: b"j d 1 idle\nj d 2",
+        err: b"door: write fault\n",
+        ..plain
+    };
+    check(&rt, &unwritten)
+}
+
+/// Whether each of two nodes has begun, and whether it has seen that the other had.
+#[derive(Drop)]
+struct Flags {
+    begun: [AtomicU64; 2],
+    seen: [AtomicU64; 2],
+}
+
+/// A gate that at its first call tells that its node has begun, and then looks whether the other has, again and again.
+#[derive(Drop)]
+struct Meeting<'a> {
+    flags: &'a Flags,
+    passed: bool,
+}
+
+impl Gate for Meeting<'_> {
+    fn before(&mut self, node: NodeId) {
+        if !self.passed {
+            self.passed = true;
+            look(self.flags, usize::from(node == NodeId(2)));
+        }
+    }
+}
+
+/// Tells that a node has begun, and looks whether the other has.
+fn look(flags: &Flags, place: usize)
+    requires { place < 2 }
+{
+    flags.begun[place].store(1, Ordering::SeqCst);
+    for _turn in 0..100_000_000u32 {
+        if flags.begun[1 - place].load(Ordering::SeqCst) == 1 {
+            flags.seen[place].store(1, Ordering::SeqCst);
+            return;
+        }
+    }
+}
+
+/// Gates at which two nodes meet.
+fn meetings(alloc: Global, flags: &Flags) -> Result<Vec<Meeting<'_>>, AllocError>
+    ensures { IfOk result (λ gates. length gates.items ≡ 8) }
+{
+    let mut gates = Vec::new(alloc);
+    for _node in 0..8u8 {
+        gates.push(Meeting {
+            flags,
+            passed: false,
+        })?;
+    }
+    Ok(gates)
+}
+
+/// The text of the transfer with the schedule that a journal spells, and without a drain.
+fn with_schedule(alloc: Global, journal: &str) -> Result<Vec<u8>, AllocError> {
+    let mut text = TRANSFER.as_bytes().to_vec(alloc)?;
+    text.extend_from_slice(b"schedule\n")?;
+    for line in journal.lines() {
+        if let Some(entry) = line.strip_prefix("j ") {
+            let event = entry.strip_suffix(" idle").unwrap_or(entry);
+            text.extend_from_slice(event.as_bytes())?;
+            text.extend_from_slice(b"\n")?;
+        }
+    }
+    text.extend_from_slice(b"end\n")?;
+    Ok(text)
+}
+
+/// What the run of a text writes with its journal; nothing where the text is no scene's or memory is wanting.
+fn journal_of(alloc: Global, text: &[u8]) -> Option<Vec<u8>> {
+    let scene = read_scene(alloc, text).ok()?;
+    let mut cluster = Cluster::new(alloc, scene).ok()?;
+    cluster.run_schedule().ok()?;
+    let mut out = MemSink::new(alloc, Vec::new(alloc), 4096);
+    write_whole(alloc, &cluster, &mut out).ok()?;
+    out.bytes().to_vec(alloc).ok()
+}
+
+/// How many lines spell this entry, idle or not.
+fn times(lines: &str, entry: &str) -> usize {
+    let spells = |line: &&str| line.strip_suffix(" idle").unwrap_or(*line) == entry;
+    lines.lines().filter(spells).count()
+}
+
+#[test]
+fn workers_act_beside_each_other(rt: HostRuntime) -> Result<(), Fail> {
+    let flags = Flags {
+        begun: [AtomicU64::new(0), AtomicU64::new(0)],
+        seen: [AtomicU64::new(0), AtomicU64::new(0)],
+    };
+    let alloc = rt.alloc();
+    let text = with_schedule(alloc, "")?;
+    let case = Case {
+        text: text.as_slice(),
+        ..EMPTY_DOOR
+    };
+    let clocks = clocks_at(alloc, 7000)?;
+    let came = called(&rt, alloc, &case, clocks, meetings(alloc, &flags)?)?;
+    assert_eq!(rt; came.status, Status::Ok);
+    let seen = (
+        flags.seen[0].load(Ordering::SeqCst),
+        flags.seen[1].load(Ordering::SeqCst),
+    );
+    assert_eq!(rt; seen, (1, 1));
+    check_acts(&rt, str::from_utf8(came.out.as_slice()).unwrap_or(""))?;
+    check_again(&rt, came.out.as_slice())
+}
+
+/// The acts of all turns were entered: 8 client steps of each session, and a delivery of each number.
+fn check_acts(rt: &(impl Abort + AllocGlobal), lines: &str) -> Result<(), Fail> {
+    assert_eq!(rt; times(lines, "j c 1 7000"), 8);
+    assert_eq!(rt; times(lines, "j c 2 7000"), 8);
+    for number in 1..=16u32 {
+        let entry = format!(in rt.alloc(); "j d {number}")?;
+        assert!(rt; times(lines, entry.as_str()) > 0);
+    }
+    assert!(rt; lines.contains(" held=0 unbegun=0 "));
+    Ok(())
+}
+
+/// The journal is a schedule whose run writes the same.
+fn check_again(rt: &(impl Abort + AllocGlobal), out: &[u8]) -> Result<(), Fail> {
+    let text = with_schedule(rt.alloc(), str::from_utf8(out).unwrap_or(""))?;
+    match journal_of(rt.alloc(), text.as_slice()) {
+        Some(again) => assert_eq!(rt; again.as_slice(), out),
+        None => assert!(rt; false),
+    }
+    Ok(())
+}
+
+/// The line of an answer.
+fn line_of(alloc: Global, answer: &Answer, keys: &KeyTable) -> Result<Vec<u8>, AllocError> {
+    let mut line = Vec::new(alloc);
+    push_line(answer, keys, &mut line)?;
+    Ok(line)
+}
+
+/// The answer is the one at its place among these.
+fn check_found(
+    rt: &(impl Abort + AllocGlobal),
+    keys: &KeyTable,
+    found: &Answer,
+    all: &[Answer],
+) -> Result<(), Fail> {
+    let Some(closed) = all.iter().find(|answer| answer.place == found.place) else {
+        assert!(rt; false);
+        return Ok(());
+    };
+    let line = line_of(rt.alloc(), found, keys)?;
+    assert_eq!(rt;
+        line.as_slice(),
+        line_of(rt.alloc(), closed, keys)?.as_slice()
+    );
+    Ok(())
+}
+
+#[test]
+fn what_workers_found_is_what_the_closing_has(rt: HostRuntime) -> Result<(), Fail> {
+    let alloc = rt.alloc();
+    let text = with_schedule(alloc, "")?;
+    let Ok(scene) = read_scene(alloc, text.as_slice()) else {
+        assert!(rt; false);
+        return Ok(());
+    };
+    let clocks = clocks_at(alloc, 7000)?;
+    let visited = visit(&rt, alloc, &scene, clocks, open_gates(alloc)?)?;
+    assert_eq!(rt; visited.found.len(), 2);
+    assert_eq!(rt; visited.closing.answers.len(), 3);
+    let answers = visited.closing.answers.as_slice();
+    for found in &visited.found {
+        for answer in found {
+            check_found(&rt, scene.keys(), answer, answers)?;
+        }
+    }
+    Ok(())
+}
