@@ -53,7 +53,7 @@ hides_fewer g test v vs h = by_kind (not (is_undecided v.kind)) h
     by_kind false e = refl
 
 -- only the versions of its key hide a version
-covers_of_key : (g : ℕ) (k : KeyId) (vs : List Version) → list_any (covers g k) (chain k vs) ≡ list_any (covers g k) vs
+pub covers_of_key : (g : ℕ) (k : KeyId) (vs : List Version) → list_any (covers g k) (chain k vs) ≡ list_any (covers g k) vs
 covers_of_key g k [] = refl
 covers_of_key g k (v ∷ vs) = by_key (same_key v.key k) refl (covers_of_key g k vs)
   where

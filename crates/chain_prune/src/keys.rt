@@ -45,6 +45,7 @@ fn oldest_hidden(store: &ReplicaStore, key: KeyId, below: Ts) -> Option<Version>
 pub fn prune_key(store: &mut ReplicaStore, key: KeyId, below: Ts) -> u64
     ensures here { StaysHere store.old store.new }
     ensures versions { store.new.versions ≡ pruned_key key below.0 store.old.versions }
+    ensures crowd { store.new.crowd ≡ store.old.crowd }
     ensures count { result + length store.new.versions ≡ length store.old.versions }
     ensures spare { store.old.spare ≤ store.new.spare }
     ensures kept { IsStore store.old × IsStore store.new }

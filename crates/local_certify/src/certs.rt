@@ -290,22 +290,30 @@ mod tests {
         }
     }
 
+    // What the transaction meets where key 1 is marked at `mark`.
+    fn meets(alloc: Global, rs: u64, ffc: u64, mark: u64) -> Result<Seen, AllocError>
+        requires rs { rs < 100 }
+        requires mark { mark < 100 }
+    {
+        let map = map(alloc)?;
+        let store = store(alloc)?;
+        let cache = cache(alloc)?;
+        let mut marks = Marks::new(alloc, 2)?;
+        marks.raise(KeyId(1), Ts(mark));
+        Ok(cert(&store, &cache, &marks, &map, rs, ffc))
+    }
+
     #[test]
     fn certifies(rt: HostRuntime) -> Result<(), Fail> {
-        let map = map(rt.alloc())?;
-        let store = store(rt.alloc())?;
-        let cache = cache(rt.alloc())?;
-        let mut marks = Marks::new(rt.alloc(), 2)?;
-        let early = cert(&store, &cache, &marks, &map, 4, 0);
+        let early = meets(rt.alloc(), 4, 0, 0)?;
         assert_eq!(rt; early, Seen::Conflict(tx(2, 1), KeyId(0)));
-        let later = cert(&store, &cache, &marks, &map, 5, 0);
+        let later = meets(rt.alloc(), 5, 0, 0)?;
         assert_eq!(rt; later, Seen::Conflict(tx(1, 1), KeyId(1)));
-        let shut = cert(&store, &cache, &marks, &map, 8, 5);
+        let shut = meets(rt.alloc(), 8, 5, 0)?;
         assert_eq!(rt; shut, Seen::WaitGate(tx(1, 1)));
-        let open = cert(&store, &cache, &marks, &map, 8, 4);
+        let open = meets(rt.alloc(), 8, 4, 0)?;
         assert_eq!(rt; open, Seen::Certified(Ts(9), 1));
-        marks.raise(KeyId(1), Ts(20));
-        let marked = cert(&store, &cache, &marks, &map, 8, 4);
+        let marked = meets(rt.alloc(), 8, 4, 20)?;
         assert_eq!(rt; marked, Seen::Certified(Ts(21), 1));
         Ok(())
     }

@@ -4,3 +4,4 @@ pub mod Merging
 pub mod MergedReads
 pub mod MergedChanges
 pub mod OwnCommit
+pub mod Crowds

@@ -1,2 +1,3 @@
 pub mod StoreLists
 pub mod DoneIndex
+pub mod Crowds

@@ -17,11 +17,13 @@ pub record ParkedList : Type 0 where
   pub waiters : List Waiter
   pub spare : ℕ
 
--- a node, the partitions that it hosts, its versions in them, and how many more are taken without memory
+-- a node, the partitions that it hosts, its versions in them, the numbers of the keys that may have more than one version, and how many more
+-- versions are taken without memory
 pub record StoreList : Type 0 where
   pub node : NodeId
   pub hosted : List PartId
   pub versions : List Version
+  pub crowd : List ℕ
   pub spare : ℕ
 
 -- the version lies in one of these partitions

@@ -1,34 +1,64 @@
 //! The versions of the partitions that a node hosts.
-ghost use Rattle.std.specs.Prelude.{◌≡◌, ◌<◌, ◌≤◌, ◌+◌, ◌++◌, ◌^◌, [], OnErr, OnOk, length, slice_get, IfSome};
+ghost use Rattle.std.specs.Prelude.{◌≡◌, ◌<◌, ◌≤◌, ◌+◌, ◌++◌, ◌^◌, [], OnErr, OnOk, true, length, option_map, slice_get, IfSome};
 ghost use Rattle.std.specs.List.{list_any};
+ghost use Rattle.indexmap.specs.IndexSet.{spare};
 ghost use Rattle.str_base.specs.Versions.{chain, finalise, insert_version, newest, of_pair, visible, without};
 ghost use Rattle.version_chain.specs.ChainLists.{Apart, Each, is_among, last_held, of_write};
 ghost use Rattle.version_chain.specs.Walks.{IsSettled};
+ghost use Rattle.replica_store.specs.Crowds.{NotesAll, NotesCrowds, is_crowded, is_noted, left_by};
 ghost use Rattle.replica_store.specs.StoreLists.{IsStore, LiesIn, StaysHere};
 
+use indexmap::IndexSet;
 use std::alloc::{AllocError, Global};
 use std::marker::{Model, Send, Sync};
 use str_base::{KeyId, NodeId, PartId, ShortList, Ts, TxId, Version};
 use version_chain::{Chains, Walk};
 
-/// The versions of the partitions that a node hosts. They are seen as the node, its partitions, the versions in order and
-/// the number `spare` of those that still have room.
+/// The versions of the partitions that a node hosts. They are seen as the node, its partitions, the versions in order, the crowd and the number
+/// `spare` of the versions that still have room. The crowd is a list of numbers of keys: each key with two versions or more is in it, and there may be
+/// others, which had so many once.
 #[derive(Drop)]
 pub struct ReplicaStore {
     node: NodeId,
     hosted: ShortList<PartId, 32>,
     chains: Chains,
+    crowd: IndexSet<u32>,
+    spare: usize,
 }
 
 impl Model for ReplicaStore {
-    ghost use Rattle.version_chain.specs.ChainLists.{Each, IsOrdered};
-    ghost use Rattle.replica_store.specs.StoreLists.{LiesIn, StoreList};
+    ghost use Rattle.indexmap.specs.IndexSet.{spare as places_left};
+    ghost use Rattle.replica_store.specs.Crowds.{AreKept};
+    ghost use Rattle.replica_store.specs.StoreLists.{StoreList};
 
     ghost Value = { StoreList };
 
-    ghost view = { λ s. record { node = s.node; hosted = s.hosted; versions = s.chains.versions; spare = s.chains.spare } };
+    ghost view = { λ s. record { node = s.node; hosted = s.hosted; versions = s.chains.versions; crowd = s.crowd.keys; spare = s.spare } };
 
-    ghost invariant = { λ s. IsOrdered s.chains.versions × Each (LiesIn s.hosted) s.chains.versions };
+    ghost invariant = { λ s. AreKept s.hosted s.chains s.crowd.keys s.spare (places_left s.crowd) };
+}
+
+/// Whether a key has two versions or more.
+fn has_two(chains: &Chains, key: KeyId) -> bool
+    ensures { result ≡ is_crowded chains.now.versions key }
+{
+    let mut walk = chains.walk_from_newest(key);
+    walk.older().is_some() && walk.older().is_some()
+}
+
+/// Puts a key into a crowd, if it has two versions or more. There is room.
+fn note(crowd: &mut IndexSet<u32>, chains: &Chains, key: KeyId)
+    requires { 0 < spare crowd.old }
+    ensures all { NotesAll crowd.old.keys crowd.new.keys }
+    ensures key { is_crowded chains.now.versions key ≡ true → is_noted crowd.new.keys key ≡ true }
+    ensures spare { spare crowd.old ≤ spare crowd.new + 1 }
+{
+    if has_two(chains, key) {
+        match crowd.insert(key.0) {
+            Ok(_) => {}
+            Err(_) => unreachable!(),
+        }
+    }
 }
 
 impl ReplicaStore {
@@ -42,6 +72,8 @@ impl ReplicaStore {
             node,
             hosted,
             chains: Chains::new(alloc),
+            crowd: IndexSet::new(alloc),
+            spare: 0,
         }
     }
 
@@ -75,7 +107,12 @@ impl ReplicaStore {
         ensures kept { self.old.spare ≤ self.new.spare }
         ensures err { OnErr result (self.new ≡ self.old) }
     {
-        self.chains.reserve(n)
+        if self.spare < n {
+            self.chains.reserve(n)?;
+            self.crowd.reserve(n)?;
+            self.spare = n;
+        }
+        Ok(())
     }
 
     /// Puts a version in its place. There is room, its partition is hosted, and there is no version of its key by its
@@ -90,6 +127,8 @@ impl ReplicaStore {
         ensures kept { IsStore self.old × IsStore self.new }
     {
         self.chains.insert(version);
+        self.spare -= 1;
+        note(&mut self.crowd, &self.chains, version.key);
     }
 
     /// Makes each version of a transaction in a partition Final at `fc`. It takes no memory.
@@ -116,10 +155,45 @@ impl ReplicaStore {
     pub fn drop_version(&mut self, key: KeyId, tx: TxId)
         ensures here { StaysHere self.old self.new }
         ensures versions { self.new.versions ≡ without (of_write key tx) self.old.versions }
+        ensures crowd { self.new.crowd ≡ self.old.crowd }
         ensures spare { self.old.spare ≤ self.new.spare }
         ensures kept { IsStore self.old × IsStore self.new }
     {
         self.chains.drop_version(key, tx);
+    }
+
+    /// How many keys are in the crowd. Each key with two versions or more is in it.
+    pub fn crowd_len(&self) -> usize
+        ensures value { result ≡ length self.now.crowd }
+        ensures noted { NotesCrowds self.now.crowd self.now.versions }
+        ensures kept { IsStore self.now }
+    {
+        let _ = &self.chains;
+        self.crowd.len()
+    }
+
+    /// The key at a place of the crowd, from 0.
+    pub fn crowd_at(&self, place: usize) -> Option<KeyId>
+        ensures { option_map (λ k. k.0) result ≡ slice_get self.now.crowd place }
+    {
+        match self.crowd.get_index(place) {
+            Some(number) => Some(KeyId(*number)),
+            None => None,
+        }
+    }
+
+    /// Lets the key at a place leave the crowd, unless it has two versions or more. The last key of the crowd takes its place.
+    pub fn leave_crowd(&mut self, place: usize)
+        ensures here { StaysHere self.old self.new }
+        ensures versions { self.new.versions ≡ self.old.versions }
+        ensures crowd { self.new.crowd ≡ left_by self.old.versions self.old.crowd place (slice_get self.old.crowd place) }
+        ensures spare { self.old.spare ≤ self.new.spare }
+    {
+        if let Some(key) = self.crowd_at(place) {
+            if !has_two(&self.chains, key) {
+                self.crowd.swap_remove_index(place);
+            }
+        }
     }
 
     /// Whether there is a version of a transaction in a partition.

@@ -26,6 +26,7 @@ hidden-preserved c =
     record {
       next = c.oldest_hidden-hidden-in-Some.ensures.value;
       pruned = ap (λ (xs : List Version). pruned_key c.args.key c.args.below.0 xs) c.drop_version.ensures.versions ∙ d.pruned ∙ c.hidden.invariant.pruned;
+      crowd = c.drop_version.ensures.crowd ∙ c.hidden.invariant.crowd;
       count = omega (arith, e, f, n);
       count_of_key = omega (arith, e', f', n');
       limit = c.hidden.invariant.limit;

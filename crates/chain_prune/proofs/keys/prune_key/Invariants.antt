@@ -9,6 +9,7 @@ abbrev pub invariant-hidden : goal.invariant-hidden
 invariant-hidden l = record {
   next : l.hidden ≡ first_hidden l.below.0 (chain l.key l.store.versions);
   pruned : pruned_key l.key l.below.0 l.store.versions ≡ pruned_key l.key l.below.0 l.fn.store.versions;
+  crowd : l.store.crowd ≡ l.fn.store.crowd;
   count : l.dropped + length l.store.versions ≡ length l.fn.store.versions;
   count_of_key : l.dropped + length (chain l.key l.store.versions) ≡ length (chain l.key l.fn.store.versions);
   limit : length (chain l.key l.fn.store.versions) < 2 ^ 63;

@@ -1,12 +1,25 @@
-use Rattle.std.proofs.Common.{not, subst}
+use Rattle.std.proofs.Common.{arith, not, subst}
 use Rattle.version_chain.specs.ChainLists.{of_write}
 use Rattle.version_chain.proofs.Each.{each_kept}
 use Rattle.replica_store.specs.StoreLists.{IsStore, LiesIn}
+use Rattle.replica_store.proofs.Crowds.{noted_fewer, number_without}
 use Rattle.replica_store.proofs.stores.ReplicaStore.drop_version.Goals as goal
 
 pub invariant_of-self : goal.invariant_of-self
-invariant_of-self c = (c.drop_version.ensures.order.1, rw c.drop_version.ensures.versions (each_kept (λ v. not (of_write c.args.key c.args.tx v)) (LiesIn c.self.inside.hosted) c.self.inside.chains.versions c.self.invariant.1))
+invariant_of-self c =
+    let vs = c.self.inside.chains.versions in
+    let i = c.self.invariant in
+    let a = i.room in
+    let b = c.drop_version.ensures.spare in
+    record {
+      order = c.drop_version.ensures.order.1;
+      hosted_ = rw c.drop_version.ensures.versions (each_kept (λ v. not (of_write c.args.key c.args.tx v)) (LiesIn c.self.inside.hosted) vs i.hosted_);
+      noted = rw c.drop_version.ensures.versions (noted_fewer c.self.inside.crowd.keys vs _ (λ k. number_without k (of_write c.args.key c.args.tx) vs) i.noted);
+      room = omega (arith, a, b);
+      crowd_room = i.crowd_room;
+    }
 
 pub returns-clause-kept : goal.returns-clause-kept
 returns-clause-kept c =
-    (subst IsStore c.self.view_is c.self.invariant, (c.drop_version.ensures.order.1, rw c.drop_version.ensures.versions (each_kept (λ v. not (of_write c.args.key c.args.tx v)) (LiesIn c.self.inside.hosted) c.self.inside.chains.versions c.self.invariant.1)))
+    let i = c.self.invariant in
+    (subst IsStore c.self.view_is (i.order, i.hosted_), (c.drop_version.ensures.order.1, rw c.drop_version.ensures.versions (each_kept (λ v. not (of_write c.args.key c.args.tx v)) (LiesIn c.self.inside.hosted) c.self.inside.chains.versions i.hosted_)))

@@ -4,10 +4,9 @@ use Rattle.cache_partition.specs.CacheLists.{CacheList}
 use Rattle.partition_map.specs.Maps.{PartitionMap, hosts}
 use Rattle.replica_store.specs.StoreLists.{StoreList}
 use Rattle.snapshot_read.specs.Shown.{StandAt}
-use Rattle.str_base.specs.declared.names.NodeId.{NodeId}
 use Rattle.str_base.specs.declared.names.PartId.{PartId}
 use Rattle.version_chain.specs.ChainLists.{is_among}
-use Rattle.local_certify.proofs.certs.tests.certifies.Goals as goal
+use Rattle.local_certify.proofs.certs.tests.meets.Goals as goal
 
 -- the map of the tests: partition 1 at node 1, partition 2 at node 2
 abbrev two_parts : PartitionMap
@@ -28,7 +27,6 @@ stands : (map : PartitionMap) → map ≡ two_parts → (store : StoreList) → 
     → cache.hosted ≡ record { 0 = 1 } ∷ [] → StandAt (record { 0 = 1 }) map store cache
 stands map m store n h cache k g = record { store_here = n; cache_here = k; store_hosts = hosted_as map m store.hosted h; cache_hosts = hosted_as map m cache.hosted g }
 
--- src/certs.rt:304:21
-pub cert-early-requires-clause-here : goal.cert-early-requires-clause-here
-cert-early-requires-clause-here g c =
-    stands c.in_ok-map.map c.in_ok-map.ensures c.in_ok-store.store c.in_ok-store.ensures.0 c.in_ok-store.ensures.1 c.in_ok-cache.cache c.in_ok-cache.ensures.0 c.in_ok-cache.ensures.1
+pub cert-requires-clause-here : goal.cert-requires-clause-here
+cert-requires-clause-here g =
+    stands g.in_ok-map.map g.in_ok-map.ensures g.in_ok-store.store g.in_ok-store.ensures.0 g.in_ok-store.ensures.1 g.in_ok-cache.cache g.in_ok-cache.ensures.0 g.in_ok-cache.ensures.1
