@@ -11,8 +11,6 @@ mod members;
 mod parts;
 pub mod pruned;
 mod pruned_parts;
-#[cfg(test)]
-mod tests;
 
 pub use clusters::Cluster;
 pub use flags::GivenFlags;

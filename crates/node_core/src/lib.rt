@@ -12,10 +12,6 @@ mod returns;
 mod scripts;
 mod sizes;
 mod steps;
-#[cfg(test)]
-mod test_letters;
-#[cfg(test)]
-mod tests;
 mod waiters;
 mod work;
 

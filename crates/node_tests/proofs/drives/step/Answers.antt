@@ -1,6 +1,6 @@
 use Rattle.std.proofs.Common.{arith, ◌≡◌}
 use Rattle.node_core.proofs.Whole.Readying.{need_same}
-use Rattle.node_core.proofs.tests.step.Goals as goal
+use Rattle.node_tests.proofs.drives.step.Goals as goal
 
 pub step-requires-clause-room : goal.step-requires-clause-room
 step-requires-clause-room c =

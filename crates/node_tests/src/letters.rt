@@ -1,13 +1,16 @@
 //! Inputs in short for tables of tests, and the lines of what a node sends and releases.
 
-use crate::Outbox;
 use held_answer::push_line;
+use node_core::Outbox;
 use std::alloc::AllocError;
 use str_base::{
     KeyId, NodeId, PartId, SessionId, Ts, TxId, Value, Write, Writes, push_i64, push_u64,
 };
 use str_model::{Body, Input, KeyMark, KeyMarks, Message};
 use str_scene::KeyTable;
+
+/// The first timestamp that is too great.
+pub(crate) const LIMIT: u64 = (1 << 62) + (1 << 20);
 
 /// A transaction: its node and its number there.
 pub(crate) type Name = (u8, u32);
@@ -81,7 +84,7 @@ fn read_reply(name: Name, key: KeyId, value: Value, writer: Option<Name>, fc: u6
     }
 }
 
-fn body(letter: Letter) -> Body {
+pub(crate) fn body(letter: Letter) -> Body {
     match letter {
         Letter::ReadReq(name, key, rs) => Body::ReadReq {
             tx: tx(name),

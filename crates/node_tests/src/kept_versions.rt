@@ -1,8 +1,8 @@
 //! Scenes whose number of versions tells when a node prunes, and at what mark.
 
-use crate::PrunedCluster;
+use cluster_run::PrunedCluster;
 use scene_text::read_scene;
-use std::alloc::AllocError;
+use std::alloc::Global;
 use std::process::Abort;
 use std::test::Fail;
 
@@ -41,7 +41,7 @@ const REFUSE_DIFFERS: &[u8] =
     schedule\nc 2 0\nc 2 0\nc 2 0\nc 1 0\nc 1 0\nc 1 0\nd 2\nd 4\nc 1 0\nc 1 0\nc 1 0\nc 2 2\nd 6\nd 7\nd 1\nend\n";
 
 /// Each scene, and the versions that its nodes keep.
-const CASES: [(&[u8], u64); 7] = [
+static CASES: [(&[u8], u64); 7] = [
     (ONE_NODE, 1),
     (UNHEARD_NODE, 3),
     (HEARD_IDLE, 2),
@@ -51,26 +51,55 @@ const CASES: [(&[u8], u64); 7] = [
     (REFUSE_DIFFERS, 3),
 ];
 
+// Behind a call: a proof then has no table in sight.
+fn cases() -> &'static [(&'static [u8], u64)] {
+    &CASES
+}
+
+/// A cluster that prunes, at the beginning of the scene of a text.
+fn cluster_of(alloc: Global, text: &[u8]) -> Result<PrunedCluster, Fail> {
+    let scene = read_scene(alloc, text)?;
+    Ok(PrunedCluster::new(alloc, scene)?)
+}
+
+/// Runs the schedule, and drains the cluster if the scene says so.
+fn run(cluster: &mut PrunedCluster) -> Result<(), Fail> {
+    let drains = cluster.scene().drain();
+    cluster.run_schedule()?;
+    if drains {
+        cluster.drain()?;
+    }
+    Ok(())
+}
+
+fn check_kept(
+    rt: &(impl Abort + AllocGlobal),
+    cluster: &PrunedCluster,
+    kept: u64,
+) -> Result<(), Fail> {
+    assert_eq!(rt; cluster.kept(), kept);
+    let counts = cluster.counts();
+    let answers = cluster.answers().len();
+    assert_eq!(rt;
+        counts.commits.wrapping_add(counts.aborts) as usize,
+        answers
+    );
+    let events = cluster.scene().schedule().len();
+    assert!(rt; events <= cluster.journal().len());
+    assert!(rt; cluster.keys().len() > 0);
+    Ok(())
+}
+
+fn check(rt: &(impl Abort + AllocGlobal), text: &[u8], kept: u64) -> Result<(), Fail> {
+    let mut cluster = cluster_of(rt.alloc(), text)?;
+    run(&mut cluster)?;
+    check_kept(rt, &cluster, kept)
+}
+
 #[test]
 fn old_versions_go(rt: HostRuntime) -> Result<(), Fail> {
-    for (text, kept) in CASES {
-        let scene = read_scene(rt.alloc(), text)?;
-        let drains = scene.drain();
-        let mut cluster = PrunedCluster::new(rt.alloc(), scene)?;
-        cluster.run_schedule()?;
-        if drains {
-            cluster.drain()?;
-        }
-        assert_eq!(rt; cluster.kept(), kept);
-        let counts = cluster.counts();
-        let answers = cluster.answers().len();
-        assert_eq!(rt;
-            counts.commits.wrapping_add(counts.aborts) as usize,
-            answers
-        );
-        let events = cluster.scene().schedule().len();
-        assert!(rt; events <= cluster.journal().len());
-        assert!(rt; cluster.keys().len() > 0);
+    for (text, kept) in cases().iter() {
+        check(&rt, text, *kept)?;
     }
     Ok(())
 }

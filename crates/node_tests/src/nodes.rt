@@ -1,16 +1,15 @@
 //! A node that hosts two partitions, driven through every kind of message, and messages that it never takes.
 
-use crate::test_letters::{Given, Letter, input, push_answers, push_messages};
-use crate::{Node, Outbox};
-use scene_text::read_scene;
-use std::alloc::AllocError;
+use crate::drives::{IDLE, Row, check, node_of, step};
+use crate::letters::{Given, LIMIT, Letter, input};
+use node_core::{Node, Outbox};
+use std::alloc::{AllocError, Global};
 use std::process::Abort;
 use std::test::Fail;
-use str_base::{KeyId, NodeId, TextId, Ts, Value};
-use str_model::Input;
+use str_base::{KeyId, TextId, Ts, Value};
 
 /// Node 1 is the master of partition 1 and a slave of partition 2. It does not host partition 3.
-const SCENE: &[u8] = b"str 2\nnodes 3\npart 1 1 2 3\npart 2 2 1\npart 3 3\n\
+static SCENE: [u8; 278] = *b"str 2\nnodes 3\npart 1 1 2 3\npart 2 2 1\npart 3 3\n\
     session 1\ntx\nget c@3\nput a@1 5\nput b@2 6\nsession 1\ntx\nput b@2 7\nsession 1\ntx\nget b@2\n\
     session 1\ntx\nget a@1\nsession 1\ntx\nput b@2 9\nsession 1\ntx\nputs a@1 x6869\n\
     session 1\ntx\nget a@1\nsession 1\ntx\nget a@1\nsession 2\ntx\nabort\nschedule\nend\n";
@@ -24,17 +23,8 @@ const B: KeyId = KeyId(2);
 /// The scene's byte string.
 const HI: Value = Value::Text(TextId(0));
 
-/// The first timestamp that is too great.
-const LIMIT: u64 = (1 << 62) + (1 << 20);
-
-/// An input, and the lines of what is sent and released on it.
-type Row = (Given, &'static [u8]);
-
-/// The lines of an idle input.
-const IDLE: &[u8] = b"idle\n";
-
 /// An own transaction reads from afar, writes both partitions and commits; others read and propose meanwhile.
-const OWN_COMMIT: [Row; 22] = [
+static OWN_COMMIT: [Row; 22] = [
     (Given::Client(1, 10), b""),
     (Given::Client(1, 0), b"1>3 read 1.1 c@3 rs=10\n"),
     (Given::Client(1, 0), IDLE),
@@ -99,7 +89,7 @@ const OWN_COMMIT: [Row; 22] = [
 ];
 
 /// A Replicate evicts an own transaction, and with it one that has read from it. Decisions come before what they decide, and again.
-const AT_A_SLAVE: [Row; 17] = [
+static AT_A_SLAVE: [Row; 17] = [
     (Given::Client(2, 20), b""),
     (Given::Client(2, 0), b""),
     (
@@ -151,7 +141,7 @@ const AT_A_SLAVE: [Row; 17] = [
 ];
 
 /// The master accepts, parks and refuses. What is parked is judged again after a decision, and an own read goes on.
-const AT_A_MASTER: [Row; 13] = [
+static AT_A_MASTER: [Row; 13] = [
     (
         Given::Sent(
             2,
@@ -193,7 +183,7 @@ const AT_A_MASTER: [Row; 13] = [
 ];
 
 /// An own transaction is refused. Another one commits, above the snapshot of one that has read from it and below that of a second.
-const OWN_ENDS: [Row; 19] = [
+static OWN_ENDS: [Row; 19] = [
     (Given::Client(5, 0), b""),
     (Given::Client(5, 0), b""),
     (
@@ -235,7 +225,7 @@ const OWN_ENDS: [Row; 19] = [
 ];
 
 /// Reads raise the marks so far that nothing is accepted or taken any more. A Commit needs no Prepare before it.
-const AT_THE_LIMIT: [Row; 6] = [
+static AT_THE_LIMIT: [Row; 6] = [
     (
         Given::Sent(3, 1, Letter::ReadReq((3, 7), A, LIMIT - 1)),
         b"1>3 reply 3.7 a@1=x6869 by 1.6 fc=42\n",
@@ -263,7 +253,7 @@ const AT_THE_LIMIT: [Row; 6] = [
 ];
 
 /// Messages that node 1 never takes: to or from others, of its own transactions, or strange.
-const STRANGERS: [Given; 24] = [
+static STRANGERS: [Given; 24] = [
     Given::Sent(2, 2, Letter::Abort((2, 9), 1)),
     Given::Sent(4, 1, Letter::Abort((2, 9), 1)),
     Given::Sent(2, 1, Letter::Abort((4, 9), 1)),
@@ -294,68 +284,48 @@ const STRANGERS: [Given; 24] = [
     ),
 ];
 
-/// A whole step, and whether it was not idle.
-fn step(node: &mut Node, input: &Input, out: &mut Outbox) -> Result<bool, AllocError> {
-    let most = node.ready(input, out)?;
-    Ok(node.step(input, out))
+// The tables, each behind a call: a proof then has none of them in sight.
+
+fn own_commit() -> &'static [Row] {
+    &OWN_COMMIT
 }
 
-/// The lines of a whole step.
-fn lines(rt: &impl AllocGlobal, node: &mut Node, given: Given) -> Result<Vec<u8>, AllocError> {
-    let mut lines = Vec::new(rt.alloc());
-    let mut out = Outbox::new(rt.alloc());
-    if !step(node, &input(given), &mut out)? {
-        lines.extend_from_slice(IDLE)?;
-    }
-    push_messages(&out, node.scene().keys(), &mut lines)?;
-    push_answers(&out, node.scene().keys(), &mut lines)?;
-    Ok(lines)
+fn at_a_slave() -> &'static [Row] {
+    &AT_A_SLAVE
 }
 
-/// The first of these inputs that is not idle, by its place.
-fn first_taken(
-    rt: &impl AllocGlobal,
-    node: &mut Node,
-    inputs: &[Given],
-) -> Result<Option<usize>, AllocError> {
-    for (i, given) in inputs.iter().enumerate() {
-        let lines = lines(rt, node, *given)?;
-        if lines.as_slice() != IDLE {
-            return Ok(Some(i));
-        }
-    }
-    Ok(None)
+fn at_a_master() -> &'static [Row] {
+    &AT_A_MASTER
 }
 
-/// Gives the inputs of rows in order, and before each of them all strangers, which are to be idle.
-fn check(
+fn own_ends() -> &'static [Row] {
+    &OWN_ENDS
+}
+
+fn at_the_limit() -> &'static [Row] {
+    &AT_THE_LIMIT
+}
+
+fn strangers_of_all_kinds() -> &'static [Given] {
+    &STRANGERS
+}
+
+fn two_partitions() -> &'static [u8] {
+    &SCENE
+}
+
+/// Gives a new node 1 the inputs of all tables, with strangers between them.
+fn check_tables(
     rt: &(impl Abort + AllocGlobal),
     node: &mut Node,
     strangers: &[Given],
-    rows: &[Row],
 ) -> Result<(), Fail> {
-    for (i, (given, want)) in rows.iter().enumerate() {
-        assert_eq!(rt; first_taken(rt, node, strangers)?, None, "before row {i}");
-        let lines = lines(rt, node, *given)?;
-        assert_eq!(rt; lines.as_slice(), *want, "row {i}");
-    }
-    Ok(())
-}
-
-/// Gives the inputs of all tables to a new node, with strangers between them.
-fn check_all(rt: &(impl Abort + AllocGlobal), strangers: &[Given]) -> Result<(), Fail> {
-    let scene = read_scene(rt.alloc(), SCENE)?;
-    if scene.nodes() == 0 {
-        return Err("a node".into());
-    }
-    let mut node = Node::new(rt.alloc(), NodeId(1), &scene)?;
-    check(rt, &mut node, strangers, &OWN_COMMIT)?;
-    check(rt, &mut node, strangers, &AT_A_SLAVE)?;
-    check(rt, &mut node, strangers, &AT_A_MASTER)?;
+    check(rt, node, strangers, own_commit())?;
+    check(rt, node, strangers, at_a_slave())?;
+    check(rt, node, strangers, at_a_master())?;
     assert_eq!(rt; node.held(), 0);
-    check(rt, &mut node, strangers, &OWN_ENDS)?;
-    check(rt, &mut node, strangers, &AT_THE_LIMIT)?;
-    assert_eq!(rt; first_taken(rt, &mut node, strangers)?, None);
+    check(rt, node, strangers, own_ends())?;
+    check(rt, node, strangers, at_the_limit())?;
     assert_eq!(rt; node.begun(), 8);
     assert_eq!(rt; node.held(), 0);
     Ok(())
@@ -363,34 +333,48 @@ fn check_all(rt: &(impl Abort + AllocGlobal), strangers: &[Given]) -> Result<(),
 
 #[test]
 fn every_kind_of_message(rt: HostRuntime) -> Result<(), Fail> {
-    check_all(&rt, &[])
+    let mut node = node_of(rt.alloc(), two_partitions(), 1)?;
+    check_tables(&rt, &mut node, &[])
 }
 
 #[test]
 fn strangers_change_nothing(rt: HostRuntime) -> Result<(), Fail> {
-    check_all(&rt, &STRANGERS)
+    let mut node = node_of(rt.alloc(), two_partitions(), 1)?;
+    check_tables(&rt, &mut node, strangers_of_all_kinds())
 }
 
 /// One key is written three times.
-const THREE_PUTS: &[u8] = b"str 1\nnodes 1\npart 1 1\nsession 1\ntx\nput a@1 1\ntx\nput a@1 2\n\
+static THREE_PUTS: [u8; 85] =
+    *b"str 1\nnodes 1\npart 1 1\nsession 1\ntx\nput a@1 1\ntx\nput a@1 2\n\
     tx\nput a@1 3\nschedule\nend\n";
+
+fn three_puts() -> &'static [u8] {
+    &THREE_PUTS
+}
+
+/// All steps of the only session.
+fn put_thrice(alloc: Global, node: &mut Node) -> Result<(), AllocError> {
+    let mut out = Outbox::new(alloc);
+    for _ in 0..9 {
+        step(node, &input(Given::Client(1, 10)), &mut out)?;
+    }
+    Ok(())
+}
+
+/// Prunes a node that has three versions of a key, at rising marks.
+fn check_pruning(rt: &(impl Abort + AllocGlobal), node: &mut Node) -> Result<(), Fail> {
+    assert_eq!(rt; node.low(), Ts(13));
+    assert_eq!(rt; node.versions(), 3);
+    assert_eq!(rt; node.prune(Ts(11)), 0);
+    assert_eq!(rt; node.prune(Ts(12)), 1);
+    assert_eq!(rt; node.prune(Ts(13)), 1);
+    assert_eq!(rt; node.versions(), 1);
+    Ok(())
+}
 
 #[test]
 fn old_versions_go(rt: HostRuntime) -> Result<(), Fail> {
-    let scene = read_scene(rt.alloc(), THREE_PUTS)?;
-    if scene.nodes() == 0 {
-        return Err("a node".into());
-    }
-    let mut node = Node::new(rt.alloc(), NodeId(1), &scene)?;
-    let mut out = Outbox::new(rt.alloc());
-    for _ in 0..9 {
-        step(&mut node, &input(Given::Client(1, 10)), &mut out)?;
-    }
-    assert_eq!(rt; node.low(), Ts(13));
-    assert_eq!(rt; node.versions(), 3);
-    for below in [11, 12, 13] {
-        assert_eq!(rt; node.prune(Ts(below)), u64::from(below > 11));
-    }
-    assert_eq!(rt; node.versions(), 1);
-    Ok(())
+    let mut node = node_of(rt.alloc(), three_puts(), 1)?;
+    put_thrice(rt.alloc(), &mut node)?;
+    check_pruning(&rt, &mut node)
 }
