@@ -1,5 +1,7 @@
 -- The answer at a place of a list that grows, and entries that may follow a list.
-use Rattle.answer_board.specs.Entries.{answer_at, same_place}
+use Rattle.answer_board.specs.Entries.{answer_at}
+use Rattle.str_scene.proofs.SamePlaces.{same_place-is}
+use Rattle.str_scene.specs.Places.{same_place}
 use Rattle.answer_board.specs.Places.{Listed, MayAllFollow, MayFollow, extended, has_place, with_entry}
 use Rattle.answer_board.specs.declared.entries.Entry.{Entry}
 use Rattle.answer_board.specs.declared.entries.Entry.TheVariants.{Did, Gave}
@@ -12,13 +14,6 @@ use Rattle.str_scene.specs.declared.names.TxPlace.{TxPlace}
 use mathlib.Core.List.{IsPrefix}
 
 -- ---- one place
-
-pub same_place-is : (p q : TxPlace) → same_place p q ≡ true → p ≡ q
-same_place-is p q e =
-    let both = and_parts (p.session.0 == q.session.0) (p.index == q.index) e in
-    let s = eqb-true p.session.0 q.session.0 both.0 in
-    let i = eqb-true p.index q.index both.1 in
-    λ j. record { session = record { 0 = s j }; index = i j }
 
 pub same_place_self : (p : TxPlace) → same_place p p ≡ true
 same_place_self p = and_from (p.session.0 == p.session.0) (p.index == p.index) (eq-eqb p.session.0 p.session.0 refl) (eq-eqb p.index p.index refl)

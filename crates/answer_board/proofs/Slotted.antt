@@ -1,11 +1,13 @@
 -- The slots of places tell where answers stand.
 use Rattle.std.proofs.Math.Bool.{and-false}
-use Rattle.answer_board.specs.Entries.{answer_at, answer_in, same_place}
+use Rattle.answer_board.specs.Entries.{answer_at, answer_in}
+use Rattle.str_scene.proofs.SamePlaces.{same_place-is}
+use Rattle.str_scene.specs.Places.{same_place}
 use Rattle.answer_board.specs.Places.{Listed, MayAllFollow, extended, has_index, has_place, is_free, places_of}
 use Rattle.answer_board.specs.Slots.{IsListing, Tells, empty_rows, filled, set_nth, slot_at}
 use Rattle.answer_board.specs.declared.entries.Entry.{Entry}
 use Rattle.answer_board.specs.declared.entries.Entry.TheVariants.{Did, Gave}
-use Rattle.answer_board.proofs.Answering.{answer_did, answer_gave, answer_grows, answer_nowhere, follow_snoc, same_place-is, same_place_self}
+use Rattle.answer_board.proofs.Answering.{answer_did, answer_gave, answer_grows, answer_nowhere, follow_snoc, same_place_self}
 use Rattle.std.proofs.Common.{Bool, List, None, Option, Some, [], ap, arith, cond, false, length, map, refl, replicate, slice_get, slice_set, subst, suc, sym, true, zero, ℕ, ◌&&◌, ◌++◌, ◌==◌, ◌∙◌, ◌∷◌, ◌≡◌, ◌≢◌, eq-eqb}
 use Rattle.std.specs.Prelude.{is_none}
 use Rattle.std.proofs.lemmas.Bool.{and_from}

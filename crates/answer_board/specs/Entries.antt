@@ -4,11 +4,8 @@ use Rattle.answer_board.specs.declared.entries.Entry.TheVariants.{Did, Gave}
 use Rattle.std.specs.Prelude.{Bool, List, None, Option, Some, [], cond, ◌&&◌, ◌==◌, ◌∷◌}
 use Rattle.str_model.specs.declared.messages.Answer.{Answer}
 use Rattle.str_model.specs.declared.names.Done.{Done}
+use Rattle.str_scene.specs.Places.{same_place}
 use Rattle.str_scene.specs.declared.names.TxPlace.{TxPlace}
-
--- the places are one
-abbrev pub same_place : TxPlace → TxPlace → Bool
-same_place p q = (p.session.0 == q.session.0) && (p.index == q.index)
 
 -- the first answer at a place
 abbrev pub answer_at : TxPlace → List Entry → Option Answer

@@ -4,6 +4,7 @@ use Rattle.std.proofs.Common.{Bool, List, None, Option, Some, [], ap, append-nil
 use Rattle.std.proofs.lemmas.List.{length-take-le, take_more}
 use Rattle.std.specs.List.{range_with_len}
 use Rattle.str_base.proofs.Members.{in_append, in_left, in_map, in_right, map_in}
+use Rattle.str_model.proofs.ListFacts.{in_range, range_in, range_more}
 use Rattle.str_base.proofs.SameNames.{is-same_node, same_node-is}
 use Rattle.str_base.specs.Members.{In}
 use Rattle.str_base.specs.Versions.{same_node}
@@ -13,21 +14,6 @@ use Rattle.str_scene.specs.SceneLimits.{Exists}
 use Rattle.str_scene.specs.Scenes.{Scene, Session, nth}
 use Rattle.str_scene.specs.declared.names.TxPlace.{TxPlace}
 use native.Mathlib.Decide.{ℕ_discrete}
-
--- ---- a range
-
-in_range : (a n i : ℕ) → a ≤ i → i < a + n → In i (range_with_len a n)
-in_range a zero i lo hi = absurd (omega (arith, lo, hi))
-in_range a (suc n) i lo hi = by_first (ℕ_discrete a i) (λ other. in_range (a + 1) n i (omega (arith, lo, other)) (omega (arith, hi)))
-  where
-    by_first : Dec (a ≡ i) → ((a ≡ i → ⊥) → In i (range_with_len (a + 1) n)) → In i (range_with_len a (suc n))
-    by_first (yes same) f = inl same
-    by_first (no other) f = inr (f other)
-
-range_in : (a n i : ℕ) → In i (range_with_len a n) → (a ≤ i) × (i < a + n)
-range_in a zero i h = absurd h
-range_in a (suc n) i (inl same) = (omega (arith, same), omega (arith, same))
-range_in a (suc n) i (inr h) = let r = range_in (a + 1) n i h in (omega (arith, r), omega (arith, r))
 
 -- ---- a session
 
@@ -44,7 +30,7 @@ in_places : (node : NodeId) (session : ℕ) (text : Session) (p : TxPlace) → I
 in_places node session text p h =
     let b = in_if (same_node text.node node) (places_in session (length text.txs)) p h in
     let m = in_map (numbered_place session) (range_with_len 1 (length text.txs)) p b.1 in
-    let r = range_in 1 (length text.txs) m.0 m.1 in
+    let r = in_range 1 (length text.txs) m.0 m.1 in
     let s : session ≡ p.session.0 = ap (λ (x : TxPlace). x.session.0) m.2 in
     let i : m.0 ≡ p.index = ap (λ (x : TxPlace). x.index) m.2 in
     (same_node-is text.node node b.0, sym s, (omega (arith, r, i), omega (arith, r, i)))
@@ -52,7 +38,7 @@ in_places node session text p h =
 places_has : (node : NodeId) (session : ℕ) (text : Session) (i : ℕ) → text.node ≡ node → Exists i (length text.txs) → In (numbered_place session i) (places_at node session text)
 places_has node session text i q e =
     if_in (same_node text.node node) (places_in session (length text.txs)) (numbered_place session i) (is-same_node text.node node q)
-    (map_in (numbered_place session) (range_with_len 1 (length text.txs)) i (in_range 1 (length text.txs) i e.0 (let l = e.1 in omega (arith, l))))
+    (map_in (numbered_place session) (range_with_len 1 (length text.txs)) i (range_in 1 (length text.txs) i e.0 (let l = e.1 in omega (arith, l))))
 
 -- ---- all sessions
 
@@ -126,7 +112,7 @@ rise_range session a (suc n) = ((λ q h. later q (in_map (numbered_place session
   where
     later : (q : TxPlace) → (i : ℕ) × (In i (range_with_len (a + 1) n)) × (numbered_place session i ≡ q) → ComesBefore (numbered_place session a) q
     later q m =
-        let r = range_in (a + 1) n m.0 m.1 in
+        let r = in_range (a + 1) n m.0 m.1 in
         let i : m.0 ≡ q.index = ap (λ (x : TxPlace). x.index) m.2 in
         inr (ap (λ (x : TxPlace). x.session.0) m.2, omega (arith, r, i))
 
@@ -148,13 +134,6 @@ own_rise scene node = rise_from node 1 scene.sessions
 
 -- ---- one more
 
-range_snoc : (a n : ℕ) → range_with_len a (n + 1) ≡ range_with_len a n ++ (a + n) ∷ []
-range_snoc a zero = let e : a ≡ a + 0 = omega arith in ap (λ (k : ℕ). k ∷ []) e
-range_snoc a (suc n) =
-    let more : suc n + 1 ≡ suc (n + 1) = omega arith in
-    let same : (a + 1) + n ≡ a + suc n = omega arith in
-    ap (range_with_len a) more ∙ ap (λ (l : List ℕ). a ∷ l) (range_snoc (a + 1) n ∙ ap (λ (k : ℕ). range_with_len (a + 1) n ++ k ∷ []) same)
-
 map_snoc : (f : ℕ → TxPlace) (xs : List ℕ) (x : ℕ) → map f (xs ++ x ∷ []) ≡ map f xs ++ f x ∷ []
 map_snoc f [] x = refl
 map_snoc f (y ∷ xs) x = ap (λ (l : List TxPlace). f y ∷ l) (map_snoc f xs x)
@@ -163,7 +142,7 @@ map_snoc f (y ∷ xs) x = ap (λ (l : List TxPlace). f y ∷ l) (map_snoc f xs x
 pub places_more : (session n : ℕ) → places_in session (n + 1) ≡ places_in session n ++ numbered_place session (n + 1) ∷ []
 places_more session n =
     let same : 1 + n ≡ n + 1 = omega arith in
-    ap (map (numbered_place session)) (range_snoc 1 n) ∙ (map_snoc (numbered_place session) (range_with_len 1 n) (1 + n) ∙ ap (λ (k : ℕ). places_in session n ++ numbered_place session k ∷ []) same)
+    ap (map (numbered_place session)) (range_more 1 n) ∙ (map_snoc (numbered_place session) (range_with_len 1 n) (1 + n) ∙ ap (λ (k : ℕ). places_in session n ++ numbered_place session k ∷ []) same)
 
 -- the places of one more session
 pub places_from_more : (node : NodeId) (k : ℕ) (ts : List Session) (t : Session) → places_from node k (ts ++ t ∷ []) ≡ places_from node k ts ++ places_at node (k + length ts) t

@@ -1,6 +1,8 @@
 -- Each place of a board is filled once by the entries of a run.
-use Rattle.answer_board.proofs.Answering.{same_place-is, same_place_self}
-use Rattle.answer_board.specs.Entries.{answer_at, answers_of, same_place}
+use Rattle.answer_board.proofs.Answering.{same_place_self}
+use Rattle.str_scene.proofs.SamePlaces.{same_place-is}
+use Rattle.str_scene.specs.Places.{same_place}
+use Rattle.answer_board.specs.Entries.{answer_at, answers_of}
 use Rattle.answer_board.specs.Places.{MayFollow, has_index, has_place, places_of}
 use Rattle.answer_board.specs.declared.entries.Entry.{Entry}
 use Rattle.answer_board.specs.declared.entries.Entry.TheVariants.{Did, Gave}

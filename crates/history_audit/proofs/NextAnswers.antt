@@ -5,7 +5,9 @@ use Rattle.std.proofs.lemmas.Bool.{and_from, and_parts, cases_Bool, leb-false, n
 use Rattle.std.proofs.lemmas.Option.{slice_get_within}
 use Rattle.std.specs.List.{count_by, list_all}
 use Rattle.history_audit.proofs.WrittenKeys.{none_shared, one_shared, written_at_end}
-use Rattle.history_audit.specs.Tests.{are_apart, are_ordered, is_after, is_after_at_node, is_after_in_session, is_final_below, is_of_session, is_other, is_placed, is_written, same_place, share_key}
+use Rattle.history_audit.specs.Tests.{are_apart, are_ordered, is_after, is_after_at_node, is_after_in_session, is_final_below, is_of_session, is_other, is_placed, is_written, share_key}
+use Rattle.str_scene.proofs.SamePlaces.{is-same_place, same_place-is}
+use Rattle.str_scene.specs.Places.{same_place}
 use Rattle.si_laws.specs.Commits.{counts_for, look_up, members, seen}
 use Rattle.si_laws.specs.SnapshotIsolation.{AnswersPlaced, CommittedSnapshots, IsAnswer, IsCommittedAt, IsCommittedSnapshot, IsPlaced, NoOverlap, SessionOrder, of_one_session}
 use Rattle.str_base.proofs.Lists.{get_push, get_pushed, got_push, passes_at}
@@ -34,15 +36,6 @@ Which past a i x = ((i ≡ length past) × (x ≡ a)) ⊎ IsAnswer past i x
 
 not_itself : (past : List Answer) (i : ℕ) (b : Answer) → IsAnswer past i b → i ≡ length past → ⊥
 not_itself past i b h e = let l : i < length past = slice_get_within past i b h in omega arith
-
--- ---- places
-
-same_place-is : (p q : TxPlace) → same_place p q ≡ true → p ≡ q
-same_place-is p q e = let r = and_parts (p.session.0 == q.session.0) (p.index == q.index) e in
-    λ i. record { session = record { 0 = eqb-true p.session.0 q.session.0 r.0 i }; index = eqb-true p.index q.index r.1 i }
-
-is-same_place : (p q : TxPlace) → p ≡ q → same_place p q ≡ true
-is-same_place p q e = and_from (p.session.0 == q.session.0) (p.index == q.index) (eq-eqb p.session.0 q.session.0 (ap (λ z. z.session.0) e)) (eq-eqb p.index q.index (ap (λ z. z.index) e))
 
 record Fresh (past : List Answer) (a : Answer) : Type 0 where
   place : (i : ℕ) (b : Answer) → IsAnswer past i b → b.place ≡ a.place → ⊥

@@ -6,6 +6,7 @@ use Rattle.history_audit.specs.declared.ledgers.Stamped.{Stamped}
 use Rattle.si_laws.specs.SnapshotIsolation.{IsCommittedSnapshot, IsWish, of_one_session}
 use Rattle.str_base.specs.declared.names.KeyId.{KeyId}
 use Rattle.str_base.specs.Versions.{same_key, same_node, same_tx}
+use Rattle.str_scene.specs.Places.{same_place}
 use Rattle.str_base.specs.declared.names.Ts.{Ts}
 use Rattle.str_model.specs.Evaluation.{Evaluated, eval}
 use Rattle.str_model.specs.declared.messages.Answer.{Answer}
@@ -20,10 +21,6 @@ use Rattle.str_scene.specs.Scenes.{Scene, Session, nth, script_at}
 abbrev pub is_of_session : Answer → Option Session → Bool
 is_of_session a None = false
 is_of_session a (Some s) = same_node a.tx.node s.node && (nat_le 1 a.place.index && nat_le a.place.index (length s.txs))
-
--- the places are one
-abbrev pub same_place : TxPlace → TxPlace → Bool
-same_place p q = (p.session.0 == q.session.0) && (p.index == q.index)
 
 -- an earlier answer has neither the place nor the name
 abbrev pub is_other : Answer → Answer → Bool

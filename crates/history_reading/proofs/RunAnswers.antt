@@ -28,7 +28,7 @@ use Rattle.str_base.specs.declared.names.Ts.{Ts}
 use Rattle.str_base.specs.declared.names.TxId.{TxId}
 use Rattle.str_model.proofs.OwnFacts.FewOwn.{own_few, times_low}
 use Rattle.str_model.proofs.OwnFacts.PlacesInOrder.{nth_exists}
-use Rattle.str_model.proofs.Principle.Everywhere.{IsSeen, Stage, at_place, during, everywhere, stage_of}
+use Rattle.str_model.proofs.Principle.Everywhere.{IsSeen, Stage, at_place, during, everywhere, place_exists, stage_of}
 use Rattle.str_model.proofs.Principle.LaterMoments.{at_each_moment, took}
 use Rattle.str_model.proofs.Principle.SingleChanges.{Act, Where}
 use Rattle.str_model.proofs.ViewFacts.MomentKept.{moment-act, moment_opening}
@@ -56,9 +56,6 @@ use Rattle.str_scene.specs.declared.names.Op.TheVariants.{Abort, Add, Del, Get, 
 pub record NodesKept (scene : Scene) (s : Stage) : Type 0 where
   pub count : length s.nodes ≡ scene.nodes
   pub facts : (n : ℕ) (v : View) → slice_get s.nodes n ≡ Some v → MomentFacts (at_place scene n) v
-
-place_exists : (scene : Scene) (n : ℕ) → n < scene.nodes → has_node (at_place scene n) (record { 0 = n + 1 }) ≡ true
-place_exists scene n l = grind (arith, nat_tests)
 
 set_length : {X : Type 0} (xs : List X) (i : ℕ) (y : X) → length (slice_set xs i y) ≡ length xs
 set_length [] i y = refl

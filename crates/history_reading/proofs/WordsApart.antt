@@ -8,7 +8,7 @@ use Rattle.history_reading.specs.HistoryLines.{AnyGet, AnyValue, Bytes, IsFormGe
 use Rattle.history_reading.specs.Parts.{IsAfterWord}
 use Rattle.scene_text.proofs.Spelling.Arguments.{key_text-without}
 use Rattle.scene_text.proofs.Spelling.Numerals.{numeral-injective, numeral-without, numeral_first, signed_numeral-injective, signed_numeral-without}
-use Rattle.scene_text.proofs.Spelling.TextsApart.{line_text-injective}
+use Rattle.scene_text.proofs.Spelling.TextsApart.{bytes_text-injective, line_text-injective}
 use Rattle.scene_text.specs.LineReading.{is_without}
 use Rattle.scene_text.specs.LineTexts.{AreBytes, bytes_text, key_text, line_text}
 use Rattle.scene_text.specs.Numerals.{numeral, signed_numeral}
@@ -75,14 +75,6 @@ key_text-injective k l a b e =
     let named : k.0 ≡ l.0 = cc in
     let part : k.1 ≡ l.1 = cc in
     λ i. (named i, part i)
-
-pub bytes_text-injective : (xs ys : List ℕ) → AreBytes xs → AreBytes ys → bytes_text xs ≡ bytes_text ys → xs ≡ ys
-bytes_text-injective xs ys a b e =
-    let p : PartId = record { 0 = 1 } in
-    let name : List ℕ = 97 ∷ [] in
-    let texts : line_text (LPuts name p xs) ≡ line_text (LPuts name p ys) = λ i. (((112 ∷ 117 ∷ 116 ∷ 115 ∷ 32 ∷ []) ++ key_text name p) ++ (32 ∷ [])) ++ e i in
-    let same : LPuts name p xs ≡ LPuts name p ys = line_text-injective (LPuts name p xs) (LPuts name p ys) (refl, a) (refl, b) texts in
-    cc
 
 pub key_text-free : (c : ℕ) (k : List ℕ × PartId) → is_name k.0 ≡ true → is_without c k.0 ≡ true → is_without c (64 ∷ []) ≡ true → is_without c (numeral k.1.0) ≡ true → is_without c (key_text k.0 k.1) ≡ true
 key_text-free c k named f g h = key_text-without c k.0 k.1 f g h

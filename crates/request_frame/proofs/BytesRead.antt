@@ -13,7 +13,7 @@ use Rattle.request_frame.specs.FrameOrder.{frame_follows}
 use Rattle.request_frame.specs.Frames.{Frame}
 use Rattle.request_frame.specs.Frames.Frame.{Version}
 use Rattle.request_frame.specs.Reading.{IsBadBytes, IsFaultOf, Reached, TakesBytes, fault_at}
-use Rattle.scene_text.proofs.Taking.Finished.{scene_finishes}
+use Rattle.str_scene.proofs.Allowing.{scene_finishes}
 use Rattle.scene_text.proofs.Taking.HeadLines.{mk}
 use Rattle.scene_text.specs.LineTexts as texts
 use Rattle.scene_text.specs.LineTexts.{line_text}

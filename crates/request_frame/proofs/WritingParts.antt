@@ -6,7 +6,7 @@ use Rattle.std.proofs.lemmas.List.Folds.{flat_map-map}
 use Rattle.std.proofs.lemmas.Option.{slice_get-get_or}
 use Rattle.std.specs.List.{list_all}
 use Rattle.scene_text.proofs.Spelling.TextParts.{flat_map-flat_map}
-use Rattle.scene_text.proofs.Spelling.TextsApart.{line_text-injective}
+use Rattle.scene_text.proofs.Spelling.TextsApart.{bytes_text-injective}
 use Rattle.scene_text.specs.LineReading.{SpellsBytes, SpellsNoBytes}
 use Rattle.scene_text.specs.LineTexts.{AreBytes, bytes_text, key_text}
 use Rattle.scene_text.specs.declared.lines.Line.{Line}
@@ -120,15 +120,6 @@ key_parted keys key items text l e f w =
     let k = get_or keys.names key.0 no_key in
     is_without-here 64 k.0 (decimal k.1.0) (ap (is_without 64) (sym (key_text_is keys key items text l e f)) ∙ w)
 
--- a byte string of the table, by its text
-strings_same : (xs ys : List ℕ) → AreBytes xs → AreBytes ys → bytes_text xs ≡ bytes_text ys → xs ≡ ys
-strings_same xs ys a b e =
-    let name : List ℕ = 97 ∷ [] in
-    let part : PartId = record { 0 = 1 } in
-    let lines : LPuts name part xs ≡ LPuts name part ys =
-    line_text-injective (LPuts name part xs) (LPuts name part ys) (refl, a) (refl, b) (ap (λ zs. codes "puts " ++ key_text name part ++ codes " " ++ zs) e) in
-    cc
-
 pub text_read : (keys : KeyTable) (text : TextId) (items out bytes : List ℕ) → IsSpelled keys → items ≡ [] → out ≡ items ++ text_spelled (slice_get keys.texts text.0) → SpellsBytes out (Some bytes) → bytes ≡ text_at keys text
 text_read keys text items out bytes s e f k = by_text (slice_get keys.texts text.0) refl
   where
@@ -138,7 +129,7 @@ text_read keys text items out bytes s e f k = by_text (slice_get keys.texts text
     by_text : (o : Option (List ℕ)) → slice_get keys.texts text.0 ≡ o → bytes ≡ text_at keys text
     by_text None g = let empty : [] ≡ bytes_text k.bytes = sym (out_is None g) ∙ k.text_is in absurd (cc)
     by_text (Some t) g =
-        k.kept_is.1 ∙ (strings_same k.bytes t k.are_bytes (s.texts text.0 t g).bytes (sym k.text_is ∙ out_is (Some t) g) ∙ ap or_none (sym g))
+        k.kept_is.1 ∙ (bytes_text-injective k.bytes t k.are_bytes (s.texts text.0 t g).bytes (sym k.text_is ∙ out_is (Some t) g) ∙ ap or_none (sym g))
 
 -- one that is there is short
 pub text_not_long : (keys : KeyTable) (text : TextId) (items out : List ℕ) → IsSpelled keys → items ≡ [] → out ≡ items ++ text_spelled (slice_get keys.texts text.0) → SpellsBytes out None → ⊥
@@ -147,7 +138,7 @@ text_not_long keys text items out s e f k = by_text (slice_get keys.texts text.0
     by_text : (o : Option (List ℕ)) → slice_get keys.texts text.0 ≡ o → ⊥
     by_text None g = let empty : [] ≡ bytes_text k.bytes = sym (f ∙ (λ i. e i ++ text_spelled (g i))) ∙ k.text_is in absurd (cc)
     by_text (Some t) g =
-        let same : k.bytes ≡ t = strings_same k.bytes t k.are_bytes (s.texts text.0 t g).bytes (sym k.text_is ∙ (f ∙ (λ i. e i ++ text_spelled (g i)))) in
+        let same : k.bytes ≡ t = bytes_text-injective k.bytes t k.are_bytes (s.texts text.0 t g).bytes (sym k.text_is ∙ (f ∙ (λ i. e i ++ text_spelled (g i)))) in
         k.kept_is (subst (λ xs. length xs ≤ 64) (sym same) (s.texts text.0 t g).short)
 
 -- and one that is none is empty

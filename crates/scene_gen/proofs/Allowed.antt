@@ -17,6 +17,7 @@ use Rattle.str_base.specs.declared.limits.TheConstants.{KEYS, NODE_SESSIONS, SCH
 use Rattle.str_base.specs.Versions.{same_node}
 use Rattle.str_base.specs.declared.names.NodeId.{NodeId}
 use Rattle.str_base.specs.declared.names.PartId.{PartId}
+use Rattle.str_scene.proofs.Allowing.{up_to_holds}
 use Rattle.str_scene.specs.declared.faults.SceneFault.{SceneFault}
 use Rattle.str_scene.specs.declared.faults.SceneFault.TheVariants.{Memory}
 use Rattle.str_scene.specs.declared.names.Event.{Event}
@@ -50,15 +51,6 @@ never_refused rule (Err f) none h = not_refused rule f none h
 pub all_pass : (a b c : Bool) → a ≡ true → b ≡ true → c ≡ true → first_fault a b c ≡ None
 all_pass a b c e f g = rw (e, f, g) refl
 
--- a number from 1 to the last
-pub is_up : (last n : ℕ) → Exists n last → is_up_to last n ≡ true
-is_up last n h =
-    let low : 1 ≤ n = h.0 in
-    let high : n ≤ last = h.1 in
-    let first : nat_le 1 n ≡ true = grind (arith, nat_tests) in
-    let second : nat_le n last ≡ true = grind (arith, nat_tests) in
-    and_from (nat_le 1 n) (nat_le n last) first second
-
 pub is_at_most : (n m : ℕ) → n ≤ m → nat_le n m ≡ true
 is_at_most n m l = grind (arith, nat_tests)
 
@@ -69,7 +61,7 @@ is_below n m l = grind (arith, nat_tests)
 
 pub key_allowed : (key : List ℕ × PartId) (d : Scene) → IsKey 6 key → TakesScripts d → length (with_pair key d.keys.names) ≤ KEYS → key_fault key d ≡ None
 key_allowed key d is takes room =
-    let part : is_up_to (length d.parts) key.1.0 ≡ true = is_up (length d.parts) key.1.0 (rw takes.parts is.part) in
+    let part : is_up_to (length d.parts) key.1.0 ≡ true = up_to_holds (length d.parts) key.1.0 (rw takes.parts is.part) in
     all_pass (may_have_tx d) (is_name key.0 && is_up_to (length d.parts) key.1.0) (nat_le (length (with_pair key d.keys.names)) KEYS)
     takes.place (and_from (is_name key.0) (is_up_to (length d.parts) key.1.0) is.name part) (is_at_most (length (with_pair key d.keys.names)) KEYS room)
 
@@ -140,7 +132,7 @@ session_allowed node d takes is small =
     let count : sessions_at node (d.sessions ++ one ∷ []) ≡ sessions_at node d.sessions + 1 = at ∙ ap (λ b. sessions_at node d.sessions + cond b 1 0) self in
     let few = small.at_one_node node in
     all_pass (may_have_session d) (is_up_to d.nodes node.0) (nat_lt (length d.sessions) SESSIONS && nat_lt (sessions_at node d.sessions) NODE_SESSIONS)
-    takes.place (is_up d.nodes node.0 (rw takes.nodes is))
+    takes.place (up_to_holds d.nodes node.0 (rw takes.nodes is))
     (and_from (nat_lt (length d.sessions) SESSIONS) (nat_lt (sessions_at node d.sessions) NODE_SESSIONS)
     (is_below (length d.sessions) SESSIONS (omega (arith, small.sessions, long)))
     (is_below (sessions_at node d.sessions) NODE_SESSIONS (omega (arith, few, count))))
@@ -148,7 +140,7 @@ session_allowed node d takes is small =
 -- ---- entries
 
 entry_in_range : (d : Scene) (e : Event) → IsEvent d e → is_entry (length d.sessions) e ≡ true
-entry_in_range d (Client s t) h = is_up (length d.sessions) s.0 h.0
+entry_in_range d (Client s t) h = up_to_holds (length d.sessions) s.0 h.0
 entry_in_range d (Deliver i) h = is_at_most 1 i h.0
 
 pub entry_allowed : (e : Event) (d : Scene) → may_have_entry d ≡ true → IsEvent d e → length d.schedule < SCHEDULE_ENTRIES → entry_fault e d ≡ None
@@ -162,19 +154,3 @@ nodes_allowed d e = rw e refl
 
 pub drain_allowed : (d : Scene) → may_have_entry d ≡ true → drain_fault d ≡ None
 drain_allowed d h = all_pass (may_have_entry d) true true h refl refl
-
-counts_itself : (o : Option ℕ) (n : ℕ) → o ≡ Some n → counts_to o n ≡ true
-counts_itself o n e = rw e ((Decides-eqb n n).1 refl)
-
-has_members : {X : Type 0} (xs : List X) → 1 ≤ length xs → not (is_none_yet xs) ≡ true
-has_members [] l = absurd (omega arith)
-has_members (x ∷ xs) l = refl
-
--- a scene
-pub finish_allowed : (d : Scene) → IsScene d → finish_fault d ≡ None
-finish_allowed d is =
-    let given = and_from (not (d.nodes == 0)) (not (is_none_yet d.parts)) (not_zero d.nodes is.nodes.0) (has_members d.parts is.parts.0) in
-    let keys = counts_itself (counted 0 (flat_map op_key (all_ops d))) (length d.keys.names) is.table.key_order in
-    let texts = counts_itself (counted 0 (flat_map text_of (all_ops d))) (length d.keys.texts) is.table.text_order in
-    all_pass ((not (d.nodes == 0) && not (is_none_yet d.parts)) && (keys_in_order d && texts_in_order d)) true true
-    (and_from (not (d.nodes == 0) && not (is_none_yet d.parts)) (keys_in_order d && texts_in_order d) given (and_from (keys_in_order d) (texts_in_order d) keys texts)) refl refl

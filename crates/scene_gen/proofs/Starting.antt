@@ -3,7 +3,7 @@ use Rattle.std.proofs.Common.{List, None, [], ap, arith, flat_map, inl, inr, len
 use Rattle.std.proofs.lemmas.List.{length-map}
 use Rattle.std.specs.Prelude.{not}
 use Rattle.rand_pcg.specs.Lcg.{Lcg}
-use Rattle.scene_gen.proofs.Allowed.{finish_allowed}
+use Rattle.str_scene.proofs.Allowing.{pair_few, scene_finishes}
 use Rattle.scene_gen.proofs.Drafts.{head, over, sessions_added}
 use Rattle.scene_gen.proofs.DrawnScripts.{IsDrawnSession, sessions_drawn, sessions_length}
 use Rattle.scene_gen.proofs.MadeLimits.{made_holds}
@@ -25,16 +25,9 @@ use Rattle.str_scene.specs.Scenes.{Scene}
 
 -- ---- there are few keys
 
-one_few : (k : List ℕ × PartId) (table : List (List ℕ × PartId)) → length (with_pair k table) ≤ length table + 1
-one_few k table = by (interned k table)
-  where
-    by : Interned k table → length (with_pair k table) ≤ length table + 1
-    by (inl e) = rw e.1 (omega arith)
-    by (inr e) = rw e.1 (omega (arith, length-append table (k ∷ [])))
-
 pairs_few : (ks table : List (List ℕ × PartId)) → length (with_pairs ks table) ≤ length table + length ks
 pairs_few [] table = omega arith
-pairs_few (k ∷ ks) table = omega (arith, one_few k table, pairs_few ks (with_pair k table))
+pairs_few (k ∷ ks) table = omega (arith, pair_few k table, pairs_few ks (with_pair k table))
 
 scripts_few : (txs : List (List MadeOp)) → Each IsDrawn txs → length (flat_map (map key_of) txs) ≤ 3 * length txs
 scripts_few [] h = omega arith
@@ -113,4 +106,4 @@ drain_place es d e h is = ap may_have_entry is ∙ h
 -- ---- the end
 
 pub finish_fits : (seed : ℕ) (d : Scene) → d ≡ made seed → finish_fault d ≡ None
-finish_fits seed d e = rw e (finish_allowed (made seed) (made_holds seed))
+finish_fits seed d e = rw e (scene_finishes (made seed) (made_holds seed))

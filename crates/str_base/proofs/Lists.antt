@@ -1,5 +1,5 @@
 -- Lists read at one place, also after a write, a push or an append, and lists that a test runs over.
-use Rattle.std.proofs.Common.{Bool, List, None, Some, [], ap, arith, drop, false, filter, find, inl, inr, length, refl, replicate, slice_get, slice_set, sum_by, suc, sym, take, true, zero, ℕ, ◌++◌, ◌+◌, ◌<◌, ◌∙◌, ◌∷◌, ◌≡◌, ◌≢◌, ◌≤◌, ◌⊎◌, if◌then◌else◌, suc-add, zero-add}
+use Rattle.std.proofs.Common.{Bool, List, None, Some, [], ap, arith, drop, false, filter, find, inl, inr, length, refl, replicate, slice_get, slice_set, subst, sum_by, suc, sym, take, true, zero, ℕ, ◌++◌, ◌+◌, ◌<◌, ◌∙◌, ◌∷◌, ◌≡◌, ◌≢◌, ◌≤◌, ◌⊎◌, if◌then◌else◌, suc-add, zero-add}
 use Rattle.std.proofs.lemmas.Bool.{and_from, and_parts, or_parts}
 use Rattle.std.proofs.lemmas.List.Sums.{sum_by-set}
 use Rattle.std.proofs.lemmas.Option.{get_or_from_slice_get, slice_get_within}
@@ -158,3 +158,11 @@ length-filter-le {A = A} p (x ∷ xs) = by_test (p x) (length-filter-le p xs)
     by_test : (b : Bool) → length (filter p xs) ≤ length xs → length (if b then x ∷ filter p xs else filter p xs) ≤ suc (length xs)
     by_test true rec = omega arith
     by_test false rec = omega arith
+
+-- ---- two members
+
+-- the first or the second of two
+pub of_two : {X : Type 0} (a b : X) (P : X → Type 0) → P a → P b → (i : ℕ) (x : X) → slice_get (a ∷ b ∷ []) i ≡ Some x → P x
+of_two a b P p q zero x e = let f : a ≡ x = cc e in subst P f p
+of_two a b P p q (suc zero) x e = let f : b ≡ x = cc e in subst P f q
+of_two a b P p q (suc (suc i)) x e = absurd (cc e)

@@ -11,3 +11,5 @@ mod TableLemmas
 mod Weaker
 pub mod Mapped
 pub mod Without
+pub mod Allowing
+pub mod SamePlaces

@@ -9,3 +9,4 @@ pub mod DraftLimits
 pub mod Refusals
 pub mod Numbers
 pub mod Lists
+pub mod Places

@@ -54,15 +54,6 @@ pub asked_done : {E : Type 0} (words : List (List ℕ)) (task : Task) (left left
 asked_done words task left left' held held' (Err e) q d = tt
 asked_done words task left left' held held' (Ok u) q d = (task, q, d)
 
--- the status Ok comes where all was done
-pub ok_of : {A : Type 0} (done : Result (Unit {0}) Failure) → OnOk done A → status_of done ≡ StatusOk → A
-ok_of (Ok u) d e = d
-ok_of (Err Usage) d e = absurd (cc e)
-ok_of (Err (Refusal said)) d e = absurd (cc e)
-ok_of (Err Read) d e = absurd (cc e)
-ok_of (Err Write) d e = absurd (cc e)
-ok_of (Err Memory) d e = absurd (cc e)
-
 -- Usage comes where the words ask for nothing
 pub usage_of : (words : List (List ℕ)) (left left' : Option (List ℕ)) (read read' : ℕ) (held held' : Option (List ℕ)) (write write' : ℕ) (done : Result (Unit {0}) Failure)
     → IfErr done (CallFails words left left' read read' held held' write write') → status_of done ≡ StatusUsage → AskNothing words

@@ -7,11 +7,12 @@ use Rattle.std.proofs.lemmas.Option.{none-some, same_Some}
 use Rattle.std.specs.Int.{w64}
 use Rattle.std.specs.Option.{option_zip}
 use Rattle.std.specs.Prelude.{FitsSigned}
+use Rattle.scene_text.proofs.Spelling.TextsApart.{bytes_text-injective}
 use Rattle.scene_text.proofs.Spelling.NumbersRead.{number_fits}
 use Rattle.history_reading.proofs.LinesWritten.{key_written}
 use Rattle.history_reading.proofs.Spelled.PlacesFound.{at_map, from_map}
 use Rattle.history_reading.proofs.TypedAnswers.{key_named, text_bytes, text_stands}
-use Rattle.history_reading.proofs.WordsApart.{bytes_text-injective, first_get, get_parts, get_text-space, key_text-injective}
+use Rattle.history_reading.proofs.WordsApart.{first_get, get_parts, get_text-space, key_text-injective}
 use Rattle.history_reading.specs.HistoryLines.{AnyGet, Bytes, IsFormGet, NoValue, Number, any_get, any_gets, any_value, get_text, gets_text, value_text}
 use Rattle.history_reading.specs.HistoryRanges.{IsGot, IsValue}
 use Rattle.history_reading.specs.Parts.{AreGots, IsAfterWord, Known, SpellsGet, SpellsGets, SpellsKnownKey, SpellsNoGet, SpellsNoGets, SpellsNoValue, SpellsValue, kept_gets, with_get}

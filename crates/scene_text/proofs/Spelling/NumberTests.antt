@@ -1,5 +1,6 @@
 -- What the tests of a line's numbers tell.
 use Rattle.std.proofs.Common.{Bool, List, Some, [], ap, arith, false, length, nat_le, negsuc, pos, refl, slice_get, suc, sym, true, zero, ℕ, ℤ, ◌&&◌, ◌∙◌, ◌∷◌, ◌≡◌, ◌≤◌, ◌||◌}
+use Rattle.str_scene.proofs.Allowing.{up_to_holds}
 use Rattle.str_scene.proofs.Checked.{up_to}
 use Rattle.std.proofs.lemmas.Bool.{or_right, not-true, and_from, and_parts}
 use Rattle.str_base.proofs.SameNames.{same_node-is, is-same_node}
@@ -10,10 +11,6 @@ use Rattle.scene_text.specs.Taking.{are_distinct, is_number, is_row, is_up_to}
 use Rattle.str_base.specs.Versions.{same_node}
 use Rattle.str_base.specs.declared.names.NodeId.{NodeId}
 use Rattle.str_scene.specs.SceneLimits.{Exists, IsNumber, IsRow}
-
--- a number from 1 to the last
-pub up_to_holds : (last n : ℕ) → Exists n last → is_up_to last n ≡ true
-up_to_holds last n h = and_from (nat_le 1 n) (nat_le n last) (grind (arith, nat_tests)) (grind (arith, nat_tests))
 
 -- a number of 64 bits with a sign
 pub number_tells : (n : ℤ) → is_number n ≡ true → IsNumber n

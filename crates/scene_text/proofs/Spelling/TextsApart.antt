@@ -206,3 +206,12 @@ line_text-no_feed (LClient s t) f =
     is_without-append 10 (numeral s.0 ++ codes " ") (numeral t) (is_without-append 10 (numeral s.0) (codes " ") (numeral-without 10 s.0 refl) refl) (numeral-without 10 t refl)
 line_text-no_feed (LDeliver i) f = numeral-without 10 i refl
 line_text-no_feed _ f = refl
+
+-- strings of one text are one
+pub bytes_text-injective : (xs ys : List ℕ) → AreBytes xs → AreBytes ys → bytes_text xs ≡ bytes_text ys → xs ≡ ys
+bytes_text-injective xs ys a b e =
+    let name : List ℕ = 97 ∷ [] in
+    let part : PartId = record { 0 = 1 } in
+    let lines : LPuts name part xs ≡ LPuts name part ys =
+    line_text-injective (LPuts name part xs) (LPuts name part ys) (refl, a) (refl, b) (ap (λ zs. codes "puts " ++ key_text name part ++ codes " " ++ zs) e) in
+    cc

@@ -1,6 +1,7 @@
 -- What the calls by which a scene is built say of the lines that are taken.
 use Rattle.std.proofs.Common.{Bool, Err, IfErr, List, None, Ok, OnOk, Result, Option, Some, [], ap, arith, false, inl, inr, length, map, nat_le, nat_lt, not, refl, subst, sym, true, ℕ, ◌&&◌, ◌++◌, ◌+◌, ◌<◌, ◌==◌, ◌||◌, ◌^◌, ◌∙◌, ◌∷◌, ◌≡◌, ◌≤◌}
 use Rattle.str_base.proofs.Tests.{not_zero}
+use Rattle.str_scene.proofs.Allowing.{some_yet}
 use Rattle.str_scene.proofs.Checked.{no_fault}
 use Rattle.str_base.specs.declared.limits.TheConstants.{NODES, NODE_SESSIONS, PARTITIONS, REPLICAS, SCHEDULE_ENTRIES, SESSIONS, TRANSACTIONS}
 use Rattle.std.proofs.lemmas.Bool.{and_from, lt-ltb}
@@ -82,10 +83,6 @@ judged_refused s l next a b c f order may (inl some) range room = judged_err s l
 judged_refused s l next a b c f order may (inr none) range room = subst (IsRefusedFor s l) (sym none.1) tt
 
 -- lists with and without members
-pub some_yet : {X : Type 0} (xs : List X) → 1 ≤ length xs → not (is_none_yet xs) ≡ true
-some_yet [] some = absurd (omega arith)
-some_yet (x ∷ xs) some = refl
-
 none_yet : {X : Type 0} (xs : List X) → xs ≡ [] → is_none_yet xs ≡ true
 none_yet [] e = refl
 none_yet (x ∷ xs) e = absurd (cc)

@@ -6,7 +6,7 @@ use Rattle.scene_text.proofs.Taking.HeadLines.{extends_self, mk}
 use Rattle.scene_text.proofs.Taking.StatesKept.{At, Kept, Stands, lines_at}
 use Rattle.scene_text.proofs.Taking.SessionLines.{taken-append}
 use Rattle.scene_text.proofs.Taking.LinesTaken.{goes_on_from, start_stands, steps, taken}
-use Rattle.scene_text.proofs.Spelling.NumberTests.{up_to_holds}
+use Rattle.str_scene.proofs.Allowing.{up_to_holds}
 use Rattle.scene_text.proofs.Taking.WholeDrafts.{Whole}
 use Rattle.scene_text.proofs.Taking.LinesComplete.{complete}
 use Rattle.scene_text.specs.LineOrder.{Place, section_follows}

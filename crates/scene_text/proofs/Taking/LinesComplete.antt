@@ -3,13 +3,14 @@ use Rattle.std.proofs.Common.{Bool, List, Some, [], ap, append-nil, append_assoc
 use Rattle.std.proofs.lemmas.Bool.{and_from, lt-ltb, le-leb}
 use Rattle.std.proofs.lemmas.Bool.Decides.{Decides-eqb}
 use Rattle.std.specs.Prelude.{flat_map}
+use Rattle.str_scene.proofs.Allowing.{up_to_holds}
 use Rattle.scene_text.proofs.Taking.HeadLines.{mk}
 use Rattle.scene_text.proofs.Taking.StatesKept.{GoodEvent}
 use Rattle.scene_text.proofs.Taking.TransactionLines.{TableGood, body, upto}
 use Rattle.scene_text.proofs.Taking.SessionLines.{sessions_taken, taken_on}
 use Rattle.scene_text.proofs.Taking.TransactionEnds.{session_ops}
 use Rattle.scene_text.proofs.Taking.LinesTaken.{taken}
-use Rattle.scene_text.proofs.Spelling.NumberTests.{row_holds, up_to_holds}
+use Rattle.scene_text.proofs.Spelling.NumberTests.{row_holds}
 use Rattle.scene_text.proofs.Taking.WholeDrafts.{Whole}
 use Rattle.scene_text.specs.LineOrder.Place.{AfterEnd, AfterNodes, AfterPart, AfterVersion, InSchedule}
 use Rattle.scene_text.specs.SceneLines.{drain_line, entry_line, lines_of, one_session_lines, row_lines}

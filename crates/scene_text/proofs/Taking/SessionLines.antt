@@ -7,13 +7,13 @@ use Rattle.std.proofs.lemmas.Grind.{flat_map-append}
 use Rattle.std.proofs.lemmas.List.Sums.{sum_by-append}
 use Rattle.std.proofs.lemmas.Option.{same_Some}
 use Rattle.std.specs.Prelude.{flat_map}
+use Rattle.str_scene.proofs.Allowing.{up_to_holds}
 use Rattle.scene_text.proofs.Taking.TableNumbers.{parts}
 use Rattle.scene_text.proofs.Taking.HeadLines.{mk}
 use Rattle.scene_text.proofs.Taking.StatesKept.{GoodScript, GoodSession, count_at, tx_count}
 use Rattle.scene_text.proofs.Taking.TransactionLines.{TableGood, body, ops_taken}
 use Rattle.scene_text.proofs.Taking.TransactionEnds.{count_at-add_tx, script_ops, session_ops}
 use Rattle.scene_text.proofs.Taking.LinesTaken.{taken}
-use Rattle.scene_text.proofs.Spelling.NumberTests.{up_to_holds}
 use Rattle.scene_text.specs.LineOrder.{Place, section_follows, tx_follows}
 use Rattle.scene_text.specs.LineOrder.Place.{AfterOp, AfterSession, AfterTx}
 use Rattle.scene_text.specs.SceneLines.{one_session_lines, script_lines}

@@ -1,5 +1,6 @@
 -- The table of a scene has room for the names of all its operations.
 use Rattle.std.proofs.Common.{Bool, Err, IfErr, List, None, Ok, Option, Result, Some, [], ap, arith, cond, false, inl, inr, length, length-append, nat_le, nat_lt, refl, subst, suc, sym, true, ℕ, ◌&&◌, ◌*◌, ◌++◌, ◌+◌, ◌<◌, ◌==◌, ◌∙◌, ◌∷◌, ◌≡◌, ◌≤◌}
+use Rattle.str_scene.proofs.Allowing.{one_more, pair_few}
 use Rattle.str_scene.proofs.Checked.{no_fault}
 use Rattle.std.proofs.lemmas.Bool.{and_parts}
 use Rattle.std.proofs.lemmas.Bool.Decides.{nat_tests}
@@ -72,15 +73,6 @@ table_few : (f : Op → List ℕ) → ((op : Op) → length (f op) ≤ 1) → (d
     counted 0 (flat_map f (all_ops d ++ ops)) ≡ Some n → n ≤ 16368 + length ops
 table_few f h d ops n k few e =
     omega (arith, counted_few 0 (flat_map f (all_ops d ++ ops)) n e, named_few f h (all_ops d ++ ops), length-append (all_ops d) ops, ops_few d.version d.nodes d.keys d.sessions k.sessions)
-
-one_more : {X : Type 0} (t : Bool) (b : X) (bs more : List X) → length more ≤ length bs + 1 → length (cond t (b ∷ bs) (b ∷ more)) ≤ suc (length bs) + 1
-one_more true b bs more h = omega arith
-one_more false b bs more h = omega arith
-
--- one key more at most
-pair_few : (a : List ℕ × PartId) (bs : List (List ℕ × PartId)) → length (with_pair a bs) ≤ length bs + 1
-pair_few a [] = omega arith
-pair_few a (b ∷ bs) = one_more (same_pair a b) b bs (with_pair a bs) (pair_few a bs)
 
 string_few : (a : List ℕ) (bs : List (List ℕ)) → length (with_string a bs) ≤ length bs + 1
 string_few a [] = omega arith

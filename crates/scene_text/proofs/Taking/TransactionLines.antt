@@ -4,11 +4,12 @@ use Rattle.std.proofs.lemmas.Bool.{and_from, lt-ltb, le-leb}
 use Rattle.std.proofs.lemmas.Bool.Decides.{Decides-eqb}
 use Rattle.std.proofs.lemmas.Option.{same_Some, slice_get-get_or}
 use Rattle.std.specs.Prelude.{flat_map}
+use Rattle.str_scene.proofs.Allowing.{up_to_holds}
 use Rattle.scene_text.proofs.Taking.TableNumbers.{Found, found}
 use Rattle.scene_text.proofs.Taking.TableGrows.{Distinct, string_comes}
 use Rattle.scene_text.proofs.Taking.HeadLines.{mk}
 use Rattle.scene_text.proofs.Taking.LinesTaken.{taken}
-use Rattle.scene_text.proofs.Spelling.NumberTests.{number_holds, up_to_holds}
+use Rattle.scene_text.proofs.Spelling.NumberTests.{number_holds}
 use Rattle.scene_text.specs.LineOrder.{Place, op_follows, puts_follows}
 use Rattle.scene_text.specs.LineOrder.Place.{AfterOp}
 use Rattle.scene_text.specs.SceneLines.{key_at, op_line, text_at}

@@ -21,7 +21,7 @@ use Rattle.str_base.specs.declared.names.TxId.{TxId}
 use Rattle.str_base.specs.declared.names.Ts.{Ts}
 use Rattle.str_base.specs.declared.names.Write.{Write}
 use Rattle.str_model.proofs.Changes.PairWords.{any_has}
-use Rattle.str_model.proofs.Principle.Everywhere.{IsSeen, Stage, at_place, during, everywhere, stage_of}
+use Rattle.str_model.proofs.Principle.Everywhere.{IsSeen, Stage, at_place, during, everywhere, place_exists, stage_of}
 use Rattle.str_model.proofs.Principle.SingleChanges.{Act, Where}
 use Rattle.str_model.proofs.ViewFacts.MomentKept.{moment-act, moment_opening}
 use Rattle.str_model.specs.NodeFacts.{MomentFacts}
@@ -56,9 +56,6 @@ pub record Posted (scene : Scene) (s : Stage) : Type 0 where
   pub facts : (n : ℕ) (v : View) → slice_get s.nodes n ≡ Some v → MomentFacts (at_place scene n) v
   pub count : length s.nodes ≡ scene.nodes
   pub each : (m : Message) → In m s.sent → IsPosted scene m
-
-pub place_exists : (scene : Scene) (n : ℕ) → n < scene.nodes → has_node (at_place scene n) (record { 0 = n + 1 }) ≡ true
-place_exists scene n less = and_from (nat_lt 0 (n + 1)) (nat_le (n + 1) scene.nodes) (lt-ltb 0 (n + 1) (omega arith)) (le-leb (n + 1) scene.nodes (omega (arith, less)))
 
 pub posted_keeps : (scene : Scene) → IsScene scene → (s : Stage) (i : ℕ) (v : View) (input : Input) (w : Where) (d e : Doing) → slice_get s.nodes i ≡ Some v → IsSeen s input → Posted scene s
     → Act (at_place scene i) input w d e → Posted scene (during s i d) → Posted scene (during s i e)

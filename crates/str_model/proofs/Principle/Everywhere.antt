@@ -1,6 +1,6 @@
 -- The principle for laws over runs: what holds at the opening, and is kept by each single change of a step, holds after
 -- every list of events.
-use Rattle.std.proofs.Common.{List, None, Option, Some, [], add-one, append-nil, inl, inr, refl, slice_get, slice_set, sub-one, subst, subst₂, suc, sym, zero, ℕ, ◌++◌, ◌+◌, ◌-◌, ◌∙◌, ◌∷◌, ◌≡◌}
+use Rattle.std.proofs.Common.{List, None, Option, Some, [], add-one, append-nil, inl, inr, refl, slice_get, slice_set, sub-one, subst, subst₂, suc, sym, zero, ℕ, ◌++◌, ◌+◌, ◌-◌, ◌∙◌, ◌∷◌, ◌≡◌, ◌<◌, true, nat_lt, nat_le, arith}
 use Rattle.str_scene.specs.declared.names.Event.{Event}
 use Rattle.str_scene.specs.declared.names.Event.TheVariants.{Client as ClientEvent, Deliver as DeliverEvent}
 use Rattle.str_base.specs.declared.names.NodeId.{NodeId}
@@ -8,6 +8,8 @@ use Rattle.str_model.specs.declared.messages.Answer.{Answer}
 use Rattle.str_model.specs.declared.messages.Input.{Input}
 use Rattle.str_model.specs.declared.messages.Input.TheVariants.{Client, Deliver}
 use Rattle.str_model.specs.declared.messages.Message.{Message}
+use Rattle.std.proofs.lemmas.Bool.{and_from, le-leb, lt-ltb}
+use Rattle.str_model.specs.Strange.{has_node}
 use Rattle.str_model.specs.Runs.{World, give, happens, opening, opening_view, run, run_from}
 use Rattle.str_model.specs.Runs
 use Rattle.str_scene.specs.SceneLimits.{IsScene}
@@ -41,6 +43,10 @@ IsSeen s (Deliver m) = Sent s m
 
 abbrev pub at_place : Scene → ℕ → Here
 at_place scene i = record { scene = scene; node = record { 0 = i + 1 } }
+
+-- each place below the number of nodes is a node's
+pub place_exists : (scene : Scene) (n : ℕ) → n < scene.nodes → has_node (at_place scene n) (record { 0 = n + 1 }) ≡ true
+place_exists scene n less = and_from (nat_lt 0 (n + 1)) (nat_le (n + 1) scene.nodes) (lt-ltb 0 (n + 1) (omega arith)) (le-leb (n + 1) scene.nodes (omega (arith, less)))
 
 pub during_start : (s : Stage) (i : ℕ) (v : View) → slice_get s.nodes i ≡ Some v → during s i (starts v) ≡ s
 during_start s i v e = λ j. record { nodes = set_got s.nodes i v e j; sent = append-nil s.sent j; answers = append-nil s.answers j }

@@ -1,5 +1,6 @@
 use Rattle.std.proofs.Common.{subst, sym, ◌∙◌, ◌≡◌, ◌⊎◌}
-use Rattle.strun.proofs.Calls.{completes, ok_of, partial_of, quiet_of, read_of, refused_of, refuses, unknown_of, usage_of, write_of}
+use Rattle.strun.proofs.Calls.{completes, partial_of, quiet_of, read_of, refused_of, refuses, unknown_of, usage_of, write_of}
+use Rattle.run_io.proofs.RunCalls.{done_of}
 use Rattle.strun.proofs.tops.top.Goals as goal
 use Rattle.top_status.specs.Failures.{refusal_of}
 use Rattle.top_status.specs.Statuses.{IsQuiet, IsStopped}
@@ -7,7 +8,7 @@ use Rattle.top_status.specs.declared.status.Status.{Status}
 use Rattle.top_status.specs.declared.status.Status.TheVariants.{NoMemory, Usage}
 
 pub returns-clause-done : goal.returns-clause-done
-returns-clause-done g c = λ e. ok_of c.do_words-done.result c.do_words-done.ensures.done (sym c.report.ensures.status ∙ e)
+returns-clause-done g c = λ e. done_of c.do_words-done.result c.do_words-done.ensures.done (sym c.report.ensures.status ∙ e)
 
 pub returns-clause-usage : goal.returns-clause-usage
 returns-clause-usage g c = λ e. usage_of _ _ _ _ _ _ _ _ _ c.do_words-done.result c.do_words-done.ensures.failed (sym c.report.ensures.status ∙ e)

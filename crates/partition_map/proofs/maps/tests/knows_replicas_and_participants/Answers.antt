@@ -1,15 +1,10 @@
 use Rattle.std.proofs.Common.{List, Some, [], ap, arith, length, refl, slice_get, subst, suc, zero, ℕ, ◌<◌, ◌∙◌, ◌∷◌, ◌≡◌}
+use Rattle.str_base.proofs.Lists.{of_two}
 use Rattle.str_base.specs.declared.names.NodeId.{NodeId}
 use Rattle.str_base.specs.declared.names.PartId.{PartId}
 use Rattle.str_base.specs.declared.names.Write.{Write}
 use Rattle.partition_map.specs.Maps.{Exists, IsMap, IsRow, PartitionMap}
 use Rattle.partition_map.proofs.maps.tests.knows_replicas_and_participants.Goals as goal
-
--- the first or the second of two
-of_two : {X : Type 0} (a b : X) (P : X → Type 0) → P a → P b → (i : ℕ) (x : X) → slice_get (a ∷ b ∷ []) i ≡ Some x → P x
-of_two a b P p q zero x e = let f : a ≡ x = cc e in subst P f p
-of_two a b P p q (suc zero) x e = let f : b ≡ x = cc e in subst P f q
-of_two a b P p q (suc (suc i)) x e = absurd (cc e)
 
 -- a node by its number
 abbrev node : ℕ → NodeId
@@ -63,20 +58,16 @@ pub new-requires : goal.new-requires
 new-requires g c =
     rw (c.in_ok-rows.ensures.items, c.in_ok-keys.ensures.items, c.pair.ensures, c.pair-2.ensures) the_map
 
--- the keys of two writes are of the map
-two_keys : (v w : Write) (keys : ℕ) → v.key.0 < keys → w.key.0 < keys → (i : ℕ) (x : Write) → slice_get (v ∷ w ∷ []) i ≡ Some x → x.key.0 < keys
-two_keys v w keys p q i x e = of_two v w (λ x. x.key.0 < keys) p q i x e
-
 pub participants-got-requires-clause-keys : goal.participants-got-requires-clause-keys
 participants-got-requires-clause-keys g c =
     let three : length c.in_ok-map.map.keys ≡ 3 = ap (λ (m : PartitionMap). length m.keys) c.in_ok-map.ensures ∙ ap (λ (ks : List PartId). length ks) c.in_ok-keys.ensures.items in
     λ i w e.
-    let k : w.key.0 < 3 = two_keys c.write.result c.write-2.result 3 (omega arith) (omega arith) i w (rw c.writes.ensures at e) in
+    let k : w.key.0 < 3 = of_two c.write.result c.write-2.result (λ (x : Write). x.key.0 < 3) (omega arith) (omega arith) i w (rw c.writes.ensures at e) in
     omega (arith, three, k)
 
 pub participants-got-requires-2-clause-keys : goal.participants-got-requires-2-clause-keys
 participants-got-requires-2-clause-keys g c =
     let three : length c.in_ok-map.map.keys ≡ 3 = ap (λ (m : PartitionMap). length m.keys) c.in_ok-map.ensures ∙ ap (λ (ks : List PartId). length ks) c.in_ok-keys.ensures.items in
     λ i w e.
-    let k : w.key.0 < 3 = two_keys c.write-3.result c.write-4.result 3 (omega arith) (omega arith) i w (rw c.writes-2.ensures at e) in
+    let k : w.key.0 < 3 = of_two c.write-3.result c.write-4.result (λ (x : Write). x.key.0 < 3) (omega arith) (omega arith) i w (rw c.writes-2.ensures at e) in
     omega (arith, three, k)
