@@ -10,7 +10,7 @@ use Rattle.answer_board.specs.Changes.{changed, puts, marked}
 use Rattle.answer_board.specs.History.{front_of, Rises}
 use Rattle.answer_board.specs.Views.{FrontView}
 use Rattle.answer_board.specs.Places.{Listed, MayAllFollow, MayFollow, extended}
-use Rattle.answer_board.specs.Rule.{Keeps, Enters, Ready, ShowsAll, ShowsNone, Stands}
+use Rattle.answer_board.specs.Rule.{Keeps, Enters, Ready, ShowsAll, Stands}
 use Rattle.answer_board.proofs.Answering.{follow_snoc, put_follows}
 use Rattle.answer_board.proofs.Rising.{prefix_self, prefix_trans, front_snoc}
 use Rattle.answer_board.proofs.Keeping.{turns}
@@ -44,28 +44,38 @@ ready_turns seat v x y p r e =
     let r' : Ready x (puts p) y.front = subst (λ (f : FrontView). Ready x (puts p) f) (sym two.1) r in
     turns seat v x y r'.book r'.past (ap (λ (l : Listed). l.items) two.0 ∙ sym r'.list) r'.rises
 
--- what a publication that went well has shown
-pub shown_ok : {A E : Type 0} (r : Result A E) (x y : Shelf) (p q : List Change) (v w : Option FrontView) (E1 E2 : E → Type 0) → MayAllFollow x.entries.places x.entries.items (puts p)
+-- what a publication that went well has shown, and what it has left
+pub shown_all : {A E : Type 0} (r : Result A E) (x y : Shelf) (p q : List Change) (E1 : E → Type 0) → MayAllFollow x.entries.places x.entries.items (puts p)
     → MatchResult r (λ _. ((y.entries, y.front) ≡ fold changed (x.entries, x.front) p) × (q ≡ [])) E1
-    → MatchResult r (λ _. Enters v x y w) E2
-    → OnOk r (ShowsAll x (puts p) (marked x.front p) y q w)
-shown_ok (Ok u) x y p q v w E1 E2 m a b =
+    → OnOk r (ShowsAll x p y)
+shown_all (Ok u) x y p q E1 m a =
     let two = published x y p m a.0 in record {
       places = ap (λ (l : Listed). l.places) two.0;
       list = ap (λ (l : Listed). l.items) two.0;
       front = two.1;
-      none = a.1;
-      knows = b.knows;
     }
-shown_ok (Err e) x y p q v w E1 E2 m a b = tt
+shown_all (Err e) x y p q E1 m a = tt
 
--- what one that was refused has left
-pub shown_err : {A E : Type 0} (r : Result A E) (x y : Shelf) (p q : List Change) (v w : Option FrontView) (O1 O2 : A → Type 0)
-    → MatchResult r O1 (λ _. (y ≡ x) × (q ≡ p))
-    → MatchResult r O2 (λ _. w ≡ v)
-    → OnErr r (ShowsNone x p v y q w)
-shown_err (Ok u) x y p q v w O1 O2 a b = tt
-shown_err (Err e) x y p q v w O1 O2 a b = record { same = a.0; left_ = a.1; knows = b }
+-- the parts of what one is told where all went well, and where it was refused
+pub ok_second : {A E : Type 0} (P Q : Type 0) (r : Result A E) (E1 : E → Type 0) → MatchResult r (λ _. P × Q) E1 → OnOk r Q
+ok_second P Q (Ok u) E1 a = a.1
+ok_second P Q (Err e) E1 a = tt
+
+pub ok_knows : {A E : Type 0} (r : Result A E) (x y : Shelf) (v w : Option FrontView) (E1 : E → Type 0) → MatchResult r (λ _. Enters v x y w) E1 → OnOk r (w ≡ Some y.front)
+ok_knows (Ok u) x y v w E1 b = b.knows
+ok_knows (Err e) x y v w E1 b = tt
+
+pub err_first : {A E : Type 0} (P Q : Type 0) (r : Result A E) (O1 : A → Type 0) → MatchResult r O1 (λ _. P × Q) → OnErr r P
+err_first P Q (Ok u) O1 a = tt
+err_first P Q (Err e) O1 a = a.0
+
+pub err_second : {A E : Type 0} (P Q : Type 0) (r : Result A E) (O1 : A → Type 0) → MatchResult r O1 (λ _. P × Q) → OnErr r Q
+err_second P Q (Ok u) O1 a = tt
+err_second P Q (Err e) O1 a = a.1
+
+pub err_only : {A E : Type 0} (P : Type 0) (r : Result A E) (O1 : A → Type 0) → MatchResult r O1 (λ _. P) → OnErr r P
+err_only P (Ok u) O1 a = tt
+err_only P (Err e) O1 a = a
 
 pub ready_first : (x : Shelf) (p : List Change) → p ≡ [] → x.front.log ≡ [] → x.entries.items ≡ [] → Ready x (puts p) (marked x.front p)
 ready_first x p none log empty =
@@ -144,12 +154,13 @@ held_stands (Ok u) x es fs k f e may ok err s = stands_same x (es ++ e ∷ []) f
 held_stands (Err o) x es fs k f e may ok err s = stands_same x es fs k f err s
 
 -- all was shown, or nothing
-pub shown_stands : {A E : Type 0} (r : Result A E) (x y : Shelf) (es : List Entry) (q p : List Change) (k w : Option FrontView) (g m : FrontView)
-    → OnOk r (ShowsAll x es m y q w)
-    → OnErr r (ShowsNone x p k y q w)
-    → puts p ≡ es → m ≡ g → Ready x es g → Stands x es k g → Stands y (puts q) w g
-shown_stands (Ok u) x y es q p k w g m ok err same is ready s = stands_shown y (puts q) w g (ap (λ (cs : List Change). puts cs) ok.none) ok.knows (ok.front ∙ is) (ok.list ∙ sym ready.list)
-shown_stands (Err o) x y es q p k w g m ok err same is ready s =
-    let a : Stands y es k g = subst (λ (z : Shelf). Stands z es k g) (sym err.same) s in
-    let b : Stands y es w g = subst (λ (u : Option FrontView). Stands y es u g) (sym err.knows) a in
-    stands_same y es (puts q) w g (ap (λ (cs : List Change). puts cs) err.left_ ∙ same) b
+pub shown_stands : {A E : Type 0} (r : Result A E) (x y : Shelf) (es : List Entry) (q p : List Change) (k w : Option FrontView) (g : FrontView)
+    → OnOk r (ShowsAll x p y) → OnOk r (q ≡ []) → OnOk r (w ≡ Some y.front)
+    → OnErr r (y ≡ x) → OnErr r (q ≡ p) → OnErr r (w ≡ k)
+    → puts p ≡ es → marked x.front p ≡ g → Ready x es g → Stands x es k g → Stands y (puts q) w g
+shown_stands (Ok u) x y es q p k w g all none seen a b c same is ready s =
+    stands_shown y (puts q) w g (ap (λ (cs : List Change). puts cs) none) seen (all.front ∙ is) (all.list ∙ (ap (λ (fs : List Entry). x.entries.items ++ fs) same ∙ sym ready.list))
+shown_stands (Err o) x y es q p k w g a b c here kept told same is ready s =
+    let a : Stands y es k g = subst (λ (z : Shelf). Stands z es k g) (sym here) s in
+    let b : Stands y es w g = subst (λ (u : Option FrontView). Stands y es u g) (sym told) a in
+    stands_same y es (puts q) w g (ap (λ (cs : List Change). puts cs) kept ∙ same) b

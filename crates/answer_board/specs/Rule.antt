@@ -5,6 +5,7 @@ use Rattle.str_model.specs.declared.messages.Answer.{Answer}
 use Rattle.str_scene.specs.declared.names.TxPlace.{TxPlace}
 use Rattle.answer_board.specs.History.{front_of, Rises}
 use Rattle.answer_board.specs.Entries.{answer_at}
+use Rattle.answer_board.specs.Changes.{marked, puts}
 use Rattle.answer_board.specs.Places.{MayAllFollow}
 use Rattle.answer_board.specs.Views.{FrontView}
 use Rattle.answer_board.specs.declared.shelf.Change.{Change}
@@ -54,16 +55,12 @@ pub record Stands (shown : Shelf) (held : List Entry) (known : Option FrontView)
   pub next : IsPrefix (front_of front.log) (shown.entries.items ++ held)
   pub follow : MayAllFollow shown.entries.places shown.entries.items held
 
--- all that was held is shown, and the history next
-pub record ShowsAll (shown : Shelf) (held : List Entry) (next : FrontView) (after : Shelf) (left : List Change) (known : Option FrontView) : Type 0 where
-  pub places : after.entries.places ≡ shown.entries.places
-  pub list : after.entries.items ≡ shown.entries.items ++ held
-  pub front : after.front ≡ next
-  pub none : left ≡ []
-  pub knows : known ≡ Some after.front
+-- the history that the pending changes lead to shows all that they put
+abbrev pub IsReady : Shelf → List Change → Type 0
+IsReady shown pending = Ready shown (puts pending) (marked shown.front pending)
 
--- nothing has changed
-pub record ShowsNone (shown : Shelf) (pending : List Change) (known : Option FrontView) (after : Shelf) (left : List Change) (known_ : Option FrontView) : Type 0 where
-  pub same : after ≡ shown
-  pub left_ : left ≡ pending
-  pub knows : known_ ≡ known
+-- all that was pending is shown
+pub record ShowsAll (shown : Shelf) (pending : List Change) (after : Shelf) : Type 0 where
+  pub places : after.entries.places ≡ shown.entries.places
+  pub list : after.entries.items ≡ shown.entries.items ++ puts pending
+  pub front : after.front ≡ marked shown.front pending

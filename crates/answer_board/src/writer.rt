@@ -1,9 +1,9 @@
 //! The writer of a board, and notes of what it has shown.
-ghost use Rattle.std.specs.Prelude.{◌≡◌, ◌<◌, ◌++◌, ◌∷◌, ◌^◌, [], drop, IfOk, OnErr, OnOk};
+ghost use Rattle.std.specs.Prelude.{◌≡◌, ◌<◌, ◌++◌, ◌∷◌, ◌^◌, [], Some, drop, IfOk, OnErr, OnOk};
 ghost use Rattle.answer_board.specs.Changes.{marked, puts};
 ghost use Rattle.answer_board.specs.History.{head_of};
 ghost use Rattle.answer_board.specs.Places.{MayFollow, places_of};
-ghost use Rattle.answer_board.specs.Rule.{Ready, ShowsAll, ShowsNone, Stands};
+ghost use Rattle.answer_board.specs.Rule.{IsReady, Ready, ShowsAll, Stands};
 ghost use Rattle.left_right.specs.Sides.{view as known};
 
 use crate::entries::Entry;
@@ -106,9 +106,13 @@ fn prepare(desk: &mut Desk, head: &Head, front: &mut Front) -> Result<(), AllocE
 
 /// Shows all that is pending.
 fn show<R: Wait>(desk: Desk, rt: &R) -> (Desk, Result<(), AllocError>)
-    requires { Ready desk.desk.shown.value (puts (drop desk.behind desk.log.items)) (marked desk.desk.shown.value.front (drop desk.behind desk.log.items)) }
-    ensures ok { OnOk result.1 (ShowsAll desk.desk.shown.value (puts (drop desk.behind desk.log.items)) (marked desk.desk.shown.value.front (drop desk.behind desk.log.items)) result.0.desk.shown.value (drop result.0.behind result.0.log.items) (known result.0.desk.place)) }
-    ensures err { OnErr result.1 (ShowsNone desk.desk.shown.value (drop desk.behind desk.log.items) (known desk.desk.place) result.0.desk.shown.value (drop result.0.behind result.0.log.items) (known result.0.desk.place)) }
+    requires { IsReady desk.desk.shown.value (drop desk.behind desk.log.items) }
+    ensures shown { OnOk result.1 (ShowsAll desk.desk.shown.value (drop desk.behind desk.log.items) result.0.desk.shown.value) }
+    ensures none { OnOk result.1 (drop result.0.behind result.0.log.items ≡ []) }
+    ensures seen { OnOk result.1 (known result.0.desk.place ≡ Some result.0.desk.shown.value.front) }
+    ensures same { OnErr result.1 (result.0.desk.shown.value ≡ desk.desk.shown.value) }
+    ensures kept { OnErr result.1 (drop result.0.behind result.0.log.items ≡ drop desk.behind desk.log.items) }
+    ensures told { OnErr result.1 (known result.0.desk.place ≡ known desk.desk.place) }
 {
     desk.publish_as::<Sees, R>(rt)
 }

@@ -49,7 +49,6 @@ impl CachePartition {
         ensures value { result ≡ self.now.node }
         ensures kept { IsCache self.now }
     {
-        let _ = &self.chains;
         self.node
     }
 

@@ -1,6 +1,7 @@
 -- Logs of nodes as plain lists, and their entries with the messages and answers that are theirs.
-use Rattle.std.specs.Prelude.{List, None, Option, Some, [], drop, flat_map, take, ℕ, ◌∷◌, ◌≡◌}
+use Rattle.std.specs.Prelude.{Bool, List, None, Option, Some, [], drop, flat_map, length, take, ℕ, ◌∷◌, ◌≡◌}
 use Rattle.lamport_log.specs.declared.logs.LogEntry.{LogEntry}
+use Rattle.lamport_log.specs.declared.logs.LogInput.{LogInput}
 use Rattle.str_base.specs.declared.names.NodeId.{NodeId}
 use Rattle.str_model.specs.declared.messages.Answer.{Answer}
 use Rattle.str_model.specs.declared.messages.Message.{Message}
@@ -13,6 +14,10 @@ pub record Log : Type 0 where
   pub messages : List Message
   pub released : List Answer
   pub space : ℕ
+
+-- the entry of a step with these messages and answers
+abbrev pub step_entry : ℕ → LogInput → Bool → List Message → List Answer → LogEntry
+step_entry stamp input idle sent released = record { stamp = stamp; input = input; idle = idle; sent = length sent; answers = length released }
 
 -- the logs differ in their space alone
 pub record IsSameLog (old new : Log) : Type 0 where

@@ -1,6 +1,6 @@
 //! The log of a node.
 ghost use Rattle.std.specs.Prelude.{◌≡◌, ◌<◌, ◌≤◌, ◌+◌, ◌^◌, ◌++◌, ◌∷◌, [], OnOk, length, vec_capacity, vec_len};
-ghost use Rattle.lamport_log.specs.Logs.{IsSameLog};
+ghost use Rattle.lamport_log.specs.Logs.{IsSameLog, step_entry};
 
 use crate::logs::{LogEntry, LogInput};
 use std::alloc::{AllocError, Global};
@@ -94,7 +94,7 @@ impl NodeLog {
         requires answers { length answers.now ≤ self.old.space }
         requires few { length answers.now < 2 ^ 32 }
         ensures node { self.new.node ≡ self.old.node }
-        ensures entries { self.new.entries ≡ self.old.entries ++ record { stamp = stamp; input = input; idle = idle; sent = length messages.now; answers = length answers.now } ∷ [] }
+        ensures entries { self.new.entries ≡ self.old.entries ++ step_entry stamp input idle messages.now answers.now ∷ [] }
         ensures messages { self.new.messages ≡ self.old.messages ++ messages.now }
         ensures released { self.new.released ≡ self.old.released ++ answers.now }
     {

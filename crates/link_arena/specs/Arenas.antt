@@ -99,6 +99,10 @@ entered named next s ss = if named then put_before next s ss else ss
 abbrev pub moved : Bool → Option ℕ → ℕ → List ℕ → List ℕ
 moved named next s ss = if named then put_before next s (taken s ss) else ss
 
+-- in the list of its key the slot has moved before the one that is named, or to the end; the lists of all other keys are as they were
+abbrev pub MovesInKey : ArenaView → ArenaView → ℕ → Option ℕ → Type 0
+MovesInKey old new s next = (v : Version) → at old s ≡ Some v → (k : KeyId) → key_list new k ≡ moved (key_names k v) next s (key_list old k)
+
 -- a version with another timestamp and kind
 abbrev pub dated : Ts → Kind → Option Version → Option Version
 dated ts kind None = None

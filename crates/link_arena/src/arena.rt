@@ -2,7 +2,7 @@
 ghost use Rattle.std.specs.Prelude.{◌≡◌, ◌≤◌, ◌<◌, ◌+◌, ◌==◌, ◌^◌, ℕ, [], IsSome, None, OnErr, OnOk, Some, length, if◌then◌else◌};
 ghost use Rattle.std.specs.List.{last_or};
 ghost use Rattle.str_base.specs.Versions.{of_tx};
-ghost use Rattle.link_arena.specs.Arenas.{AreLists, at, dated, entered, key_list, moved, next_of, number_of, prev_of, tx_list};
+ghost use Rattle.link_arena.specs.Arenas.{AreLists, MovesInKey, at, dated, entered, key_list, moved, next_of, number_of, prev_of, tx_list};
 ghost use Rattle.link_arena.specs.HeadLists.{key_names};
 ghost use Rattle.str_base.specs.declared.names.KeyId.{KeyId};
 ghost use Rattle.str_base.specs.declared.names.TxId.{TxId};
@@ -185,7 +185,7 @@ impl Arena {
         requires known { IsSome (at self.old slot.0) }
         requires place { (v : Version) → at self.old slot.0 ≡ Some v → IsPlace (number_of before) (taken slot.0 (key_list self.old v.key)) }
         ensures at { (u : ℕ) → at self.new u ≡ at self.old u }
-        ensures key_list { (v : Version) → at self.old slot.0 ≡ Some v → (k : KeyId) → key_list self.new k ≡ moved (key_names k v) (number_of before) slot.0 (key_list self.old k) }
+        ensures key_list { MovesInKey self.old self.new slot.0 (number_of before) }
         ensures tx_list { (t : TxId) → tx_list self.new t ≡ tx_list self.old t }
         ensures lists { AreLists self.new }
         ensures spare { self.new.spare ≡ self.old.spare }

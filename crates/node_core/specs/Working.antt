@@ -1,14 +1,19 @@
 -- What contracts see of a node, of its work in a step, and of what a step leaves.
-use Rattle.std.specs.Prelude.{Bool, List, MatchOption, None, Option, Some, [], false, length, slice_get, true, ℕ, ◌++◌, ◌+◌, ◌≡◌, ◌≤◌}
+use Rattle.std.specs.Prelude.{Bool, List, MatchOption, None, Option, Some, [], false, if◌then◌else◌, length, option_map, slice_get, true, ℕ, ◌++◌, ◌+◌, ◌-◌, ◌<◌, ◌≡◌, ◌≤◌}
 use Rattle.node_parts.specs.declared.held.Held.{Held}
 use Rattle.node_parts.specs.Holding.{HasRoom, StandsAt}
 use Rattle.node_parts.specs.NodeScripts.{scripts_of}
 use Rattle.node_parts.specs.Owning.{OwnState}
 use Rattle.node_parts.specs.Sending.{OutState}
 use Rattle.str_base.specs.declared.names.NodeId.{NodeId}
+use Rattle.str_base.specs.declared.names.PartId.{PartId}
+use Rattle.str_base.specs.declared.names.TxId.{TxId}
+use Rattle.str_model.specs.Acts.{abort_came, acked}
 use Rattle.str_model.specs.declared.messages.Answer.{Answer}
 use Rattle.str_model.specs.declared.messages.Message.{Message}
 use Rattle.str_model.specs.NodeFacts.{MomentFacts, NodeFacts}
+use Rattle.str_model.specs.Returns.{own_named, with_ack}
+use Rattle.str_model.specs.Steps.{decides, drop_held}
 use Rattle.str_model.specs.Strange.{has_node}
 use Rattle.str_model.specs.Views.{Doing, Own, View, is_decided}
 use Rattle.version_chain.specs.ChainLists.{IsOrdered}
@@ -125,6 +130,24 @@ OwnIs P i w = (x : Own) × (slice_get w.doing.view.own i ≡ Some x) × P x
 -- an own transaction at the place, which is undecided
 abbrev pub IsOpen : ℕ → WorkState → Type 0
 IsOpen i w = OwnIs (λ x. is_decided x.phase ≡ false) i w
+
+-- the place of the own transaction with this name; none where the name is not of this node or there is none yet
+abbrev pub IsPlaceOf : TxId → WorkState → Option ℕ → Type 0
+IsPlaceOf tx w result =
+    MatchOption result (own_named w.here tx w.doing ≡ None) (λ i. (i ≡ tx.seq - 1) × (i < length w.doing.view.own) × (own_named w.here tx w.doing ≡ slice_get w.doing.view.own i))
+
+-- the own transaction at the place keeps the answer of a participant, where it awaits one
+abbrev pub KeepsAck : ℕ → PartId → NodeId → ℕ → Bool → WorkState → WorkState → Type 0
+KeepsAck i part node ts result old new =
+    (x : Own) → slice_get old.doing.view.own i ≡ Some x → Ruled (option_map (λ ps. acked i ps x old.doing) (with_ack x.parts part node ts)) result old new
+
+-- the work with the abort of a transaction in a partition
+abbrev pub with_abort : TxId → PartId → WorkState → Doing
+with_abort tx part w = abort_came tx part (drop_held tx part w.doing.view.waiters) w.doing
+
+-- what was done where a decision of the pair is the first one, and nothing where it isn't
+abbrev pub if_decides : TxId → PartId → WorkState → Doing → Option Doing
+if_decides tx part w d = if decides w.here tx part w.doing.view then Some d else None
 
 -- nothing was sent, released or added yet
 pub record IsFresh (w : WorkState) : Type 0 where

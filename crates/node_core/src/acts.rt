@@ -1,7 +1,7 @@
 //! The single changes of a node's view: each is done to its parts.
 ghost use Rattle.node_parts.specs.Owning.{IsFree, turned};
 ghost use Rattle.node_parts.specs.Phases.{phase_of};
-ghost use Rattle.node_core.specs.Working.{Did, Fits, HasFacts, IsOpen, OwnIs, Ruled};
+ghost use Rattle.node_core.specs.Working.{Did, Fits, HasFacts, IsOpen, KeepsAck, OwnIs, Ruled, if_decides, with_abort};
 ghost use Rattle.cascade_abort.specs.Fates.{turn_of as look_of};
 ghost use Rattle.dependency_set.specs.Snapshots.{Snap as ASnap};
 ghost use Rattle.std.specs.Prelude.{◌≡◌, ◌<◌, ◌≤◌, ◌+◌, ◌-◌, ◌∷◌, [], ℕ, None, Option, Some, false, if◌then◌else◌, length, option_map, remove, slice_get, true};
@@ -52,7 +52,6 @@ impl Work {
         requires { key.0 < length self.old.doing.view.marks }
         ensures { Did (marked key rs.0 self.old.doing) self.old self.new }
     {
-        let _ = &self.site;
         self.held.marks.raise(key, rs);
     }
 
@@ -62,7 +61,6 @@ impl Work {
         requires new { (is_decided (phase_of phase) ≡ false) × (lc_of (phase_of phase) ≡ None) }
         ensures { Did (at_own i (λ x. put i (in_phase (phase_of phase) x)) self.old.doing) self.old self.new }
     {
-        let _ = &self.site;
         self.own.set_phase(i, phase);
     }
 
@@ -72,7 +70,6 @@ impl Work {
         ensures turn { (x : Own) → slice_get self.old.doing.view.own i ≡ Some x → result ≡ (turn_of (script_at self.old.here.scene x.place) (run_of x)).turn }
         ensures done { Did (at_own i (λ x. put i (turned (turn_of (script_at self.old.here.scene x.place) (run_of x)) x)) self.old.doing) self.old self.new }
     {
-        let _ = &self.held;
         let ops = self.site.script(self.own.at(i).place());
         self.own.operate(i, ops)
     }
@@ -89,7 +86,6 @@ impl Work {
         requires { OwnIs (λ x. IsFree x × (length x.reads < 16) × (snap.rs ≡ x.snap.rs)) i self.old }
         ensures { Did (at_own i (λ x. put i (noted key value by snap x)) self.old.doing) self.old self.new }
     {
-        let _ = &self.site;
         self.own.keep_read(i, key, value, by, snap);
     }
 
@@ -99,7 +95,6 @@ impl Work {
         ensures turn { (x : Own) → slice_get self.old.doing.view.own i ≡ Some x → let t = dep_turn self.old.doing.view.own x.snap in look_of result (left_by t x.snap) ≡ t }
         ensures done { Did (at_own i (λ x. put i (record x { snap = left_by (dep_turn self.old.doing.view.own x.snap) x.snap })) self.old.doing) self.old self.new }
     {
-        let _ = &self.site;
         self.own.look(i)
     }
 
@@ -163,7 +158,6 @@ impl Work {
         requires fits { Fits self.old (at_own i (closed self.old.here i) self.old.doing) }
         ensures { Did (at_own i (closed self.old.here i) self.old.doing) self.old self.new }
     {
-        let _ = &self.site;
         let answer = self.own.commit(i, None);
         self.out.release(answer);
     }
@@ -199,7 +193,6 @@ impl Work {
         requires fits { Fits self.old (at_own i (asked self.old.here i lc.0 part) self.old.doing) }
         ensures { Did (at_own i (asked self.old.here i lc.0 part) self.old.doing) self.old self.new }
     {
-        let _ = &self.held;
         let x = self.own.at(i);
         send_asks(
             &self.site,
@@ -216,9 +209,8 @@ impl Work {
     /// The answer of a participant is kept. False exactly where the partition is not asked, or the participant is none or has answered.
     pub(crate) fn keep_ack(&mut self, i: usize, part: PartId, node: NodeId, ts: Ts) -> bool
         requires { IsOpen i self.old }
-        ensures { (x : Own) → slice_get self.old.doing.view.own i ≡ Some x → Ruled (option_map (λ ps. acked i ps x self.old.doing) (with_ack x.parts part node ts.0)) result self.old self.new }
+        ensures { KeepsAck i part node ts.0 result self.old self.new }
     {
-        let _ = &self.site;
         self.own.ack(i, part, node, ts)
     }
 
@@ -228,7 +220,6 @@ impl Work {
         requires fits { Fits self.old (at_own i (requested self.old.here i key master) self.old.doing) }
         ensures { Did (at_own i (requested self.old.here i key master) self.old.doing) self.old self.new }
     {
-        let _ = &self.held;
         let x = self.own.at(i);
         let (tx, rs) = (x.tx(), x.snap().rs());
         send(
@@ -306,7 +297,6 @@ impl Work {
         ensures value { slice_get self.old.doing.view.waiters j ≡ Some result }
         ensures done { Did (with_waiters (remove self.old.doing.view.waiters j) self.old.doing) self.old self.new }
     {
-        let _ = &self.site;
         self.held.parked.take(j)
     }
 
@@ -315,7 +305,6 @@ impl Work {
         requires { Fits self.old (replied self.old.here tx key value by fc.0 self.old.doing) }
         ensures { Did (replied self.old.here tx key value by fc.0 self.old.doing) self.old self.new }
     {
-        let _ = &self.held;
         let body = Body::ReadReply {
             tx,
             key,
@@ -331,7 +320,7 @@ impl Work {
         requires facts { HasFacts self.old }
         requires can { CanCommit self.old part marks.now }
         requires fits { decides self.old.here tx part self.old.doing.view ≡ true → Fits self.old (commit_came tx part fc.0 marks.now self.old.doing) }
-        ensures { Ruled (if decides self.old.here tx part self.old.doing.view then Some (commit_came tx part fc.0 marks.now self.old.doing) else None) result self.old self.new }
+        ensures { Ruled (if_decides tx part self.old (commit_came tx part fc.0 marks.now self.old.doing)) result self.old self.new }
     {
         let node = self.held.node();
         if tx.node == node || !self.site.map().hosts(node, part) {
@@ -357,8 +346,8 @@ impl Work {
     pub(crate) fn take_abort(&mut self, tx: TxId, part: PartId) -> bool
         requires facts { HasFacts self.old }
         requires part { has_part self.old.here part ≡ true }
-        requires fits { decides self.old.here tx part self.old.doing.view ≡ true → Fits self.old (abort_came tx part (drop_held tx part self.old.doing.view.waiters) self.old.doing) }
-        ensures { Ruled (if decides self.old.here tx part self.old.doing.view then Some (abort_came tx part (drop_held tx part self.old.doing.view.waiters) self.old.doing) else None) result self.old self.new }
+        requires fits { decides self.old.here tx part self.old.doing.view ≡ true → Fits self.old (with_abort tx part self.old) }
+        ensures { Ruled (if_decides tx part self.old (with_abort tx part self.old)) result self.old self.new }
     {
         let node = self.held.node();
         if tx.node == node || !self.site.map().hosts(node, part) {

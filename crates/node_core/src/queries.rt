@@ -57,7 +57,6 @@ impl Work {
         requires { i < length self.now.doing.view.own }
         ensures { (x : Own) → slice_get self.now.doing.view.own i ≡ Some x → read_as result ≡ reply_turn self.now.here x.snap value by fc.0 }
     {
-        let _ = &self.held;
         take_reply(self.site.id(), self.own.at(i).snap(), value, by, fc)
     }
 
@@ -89,7 +88,6 @@ impl Work {
         requires open_ { IsOpen i self.now }
         ensures { (x : Own) → slice_get self.now.doing.view.own i ≡ Some x → gate_said result ≡ gate_of self.now.here self.now.doing.view lc.0 x }
     {
-        let _ = &self.held;
         let x = self.own.at(i);
         let wrote = wrote(&self.site, &self.own, i);
         gate(x.snap(), lc, x.parts(), wrote.as_slice())
@@ -149,7 +147,6 @@ impl Work {
         requires hosted { hosts_key self.now.here key ≡ true }
         ensures { serve_of result ≡ serve_turn self.now.doing.view.versions key rs.0 }
     {
-        let _ = &self.site;
         let _ = self.held.node();
         serve(&self.held.store, key, rs)
     }
@@ -159,7 +156,6 @@ impl Work {
         requires { has_key self.now.here key ≡ true }
         ensures { result ≡ hosts_key self.now.here key }
     {
-        let _ = &self.held;
         let map = self.site.map();
         map.hosts(self.site.id(), map.part_of(key))
     }
@@ -168,7 +164,6 @@ impl Work {
     pub(crate) fn has_read(&self, tx: TxId, key: KeyId) -> bool
         ensures { result ≡ list_any (waits_read tx key) self.now.doing.view.waiters }
     {
-        let _ = &self.site;
         self.held.parked.has_read(tx, key)
     }
 
@@ -177,7 +172,6 @@ impl Work {
         requires { has_part self.now.here part ≡ true }
         ensures { result ≡ is_master self.now.here.scene node part }
     {
-        let _ = &self.held;
         self.site.map().master(part) == node
     }
 }

@@ -1,6 +1,6 @@
 //! The work of a step.
 ghost use Rattle.node_core.specs.Sizes.{AreSmallWaiters};
-ghost use Rattle.node_core.specs.Working.{HasFacts, IsFresh, IsNode};
+ghost use Rattle.node_core.specs.Working.{HasFacts, IsFresh, IsNode, IsPlaceOf};
 ghost use Rattle.std.specs.Prelude.{◌≡◌, ◌<◌, ◌≤◌, ◌+◌, ◌-◌, ◌++◌, [], IfOk, MatchOption, None, OnOk, Some, length, not, slice_get, true};
 ghost use Rattle.node_parts.specs.Owning.{open_from};
 ghost use Rattle.node_parts.specs.Phases.{phase_of};
@@ -67,7 +67,6 @@ impl Work {
         ensures node { IfOk result (λ w. IsNode w.here w.doing.view) }
         ensures out { IfOk result (λ w. (w.earlier ≡ []) × (w.answered ≡ [])) }
     {
-        let _ = &self.held;
         Work::at(alloc, self.site.beside(id)?)
     }
 
@@ -119,7 +118,6 @@ impl Work {
         ensures earlier { (self.new.earlier ≡ out.old.messages) × (self.new.answered ≡ out.old.answers) }
         ensures empty { (out.new.messages ≡ []) × (out.new.answers ≡ []) }
     {
-        let _ = &self.site;
         self.out.begin(out);
     }
 
@@ -150,7 +148,6 @@ impl Work {
         ensures exists { has_node self.now.here self.now.here.node ≡ true }
         ensures limits { IsScene self.now.here.scene }
     {
-        let _ = &self.held;
         &self.site
     }
 
@@ -158,7 +155,6 @@ impl Work {
     pub(crate) fn is_valid(&self, message: &Message) -> bool
         ensures { result ≡ is_valid self.now.here message.now }
     {
-        let _ = &self.held;
         is_valid(&self.site, message)
     }
 
@@ -166,7 +162,6 @@ impl Work {
     pub(crate) fn own_len(&self) -> usize
         ensures { result ≡ length self.now.doing.view.own }
     {
-        let _ = &self.held;
         self.own.len()
     }
 
@@ -174,7 +169,6 @@ impl Work {
     pub(crate) fn undecided(&self) -> OpenPlaces
         ensures { result ≡ open_from 0 self.now.doing.view.own }
     {
-        let _ = &self.held;
         self.own.undecided()
     }
 
@@ -183,7 +177,6 @@ impl Work {
         requires { i < length self.now.doing.view.own }
         ensures { (x : Own) → slice_get self.now.doing.view.own i ≡ Some x → phase_of result ≡ x.phase }
     {
-        let _ = &self.held;
         self.own.at(i).phase()
     }
 
@@ -192,7 +185,6 @@ impl Work {
         requires { i < length self.now.doing.view.own }
         ensures { (x : Own) → slice_get self.now.doing.view.own i ≡ Some x → result ≡ x.place }
     {
-        let _ = &self.held;
         self.own.at(i).place()
     }
 
@@ -201,7 +193,6 @@ impl Work {
         requires { i < length self.now.doing.view.own }
         ensures { (x : Own) → slice_get self.now.doing.view.own i ≡ Some x → result.0 ≡ x.snap.rs }
     {
-        let _ = &self.held;
         self.own.at(i).snap().rs()
     }
 
@@ -210,7 +201,6 @@ impl Work {
         requires { i < length self.now.doing.view.own }
         ensures { (x : Own) → slice_get self.now.doing.view.own i ≡ Some x → result ≡ not (is_empty x.snap.deps) }
     {
-        let _ = &self.held;
         !self.own.at(i).snap().deps().is_empty()
     }
 
@@ -219,7 +209,6 @@ impl Work {
         requires { i < length self.now.doing.view.own }
         ensures { (x : Own) → slice_get self.now.doing.view.own i ≡ Some x → result ≡ not (is_empty x.writes) }
     {
-        let _ = &self.held;
         self.own.at(i).writes().len() != 0
     }
 
@@ -228,7 +217,6 @@ impl Work {
         requires { i < length self.now.doing.view.own }
         ensures { (x : Own) → slice_get self.now.doing.view.own i ≡ Some x → result ≡ has_asked x.parts part }
     {
-        let _ = &self.held;
         for other in self.own.at(i).parts().as_slice() {
             if other.part == part && other.asked {
                 return true;
@@ -241,15 +229,13 @@ impl Work {
     pub(crate) fn last_of(&self, session: SessionId) -> Option<usize>
         ensures { result ≡ last_index (of_session session) self.now.doing.view.own }
     {
-        let _ = &self.held;
         self.own.last_of(session)
     }
 
     /// The place of the own transaction with a name; none where the name is not of this node or there is none yet.
     pub(crate) fn place_of(&self, tx: TxId) -> Option<usize>
-        ensures { MatchOption result (own_named self.now.here tx self.now.doing ≡ None) (λ i. (i ≡ tx.seq - 1) × (i < length self.now.doing.view.own) × (own_named self.now.here tx self.now.doing ≡ slice_get self.now.doing.view.own i)) }
+        ensures { IsPlaceOf tx self.now result }
     {
-        let _ = &self.held;
         self.own.place_of(tx)
     }
 
@@ -257,7 +243,6 @@ impl Work {
     pub(crate) fn floor(&self) -> Ts
         ensures { result.0 ≡ self.now.doing.view.floor }
     {
-        let _ = &self.site;
         self.held.floor
     }
 
@@ -266,7 +251,6 @@ impl Work {
         ensures count { result ≡ length self.now.doing.view.waiters }
         ensures small { AreSmallWaiters self.now.doing.view.waiters }
     {
-        let _ = &self.site;
         let waiting = self.held.parked.len();
         let mut n = 0;
         while let Some(waiter) = self.held.parked.get(n) {

@@ -1,13 +1,11 @@
 -- Letters are sent one after the other, and a partition is asked at its master or at its slaves.
-use Rattle.std.proofs.Common.{List, [], ap, arith, cond, false, filter, if◌then◌else◌, length, map, not, refl, subst, sym, true, Bool, ◌++◌, ◌+◌, ◌∙◌, ◌∷◌, ◌≡◌, ◌≤◌, ℕ}
+use Rattle.std.proofs.Common.{List, [], ap, arith, false, filter, if◌then◌else◌, length, not, refl, sym, true, Bool, ◌++◌, ◌+◌, ◌∙◌, ◌∷◌, ◌≡◌, ◌≤◌, ℕ}
 use Rattle.std.proofs.lemmas.List.{length-map}
 use Rattle.node_parts.specs.Sending.{Outgoing}
 use Rattle.partition_map.specs.Maps.{first_or, leads, others}
 use Rattle.str_base.proofs.Lists.{length-filter-le}
 use Rattle.str_base.specs.declared.names.NodeId.{NodeId}
 use Rattle.str_base.specs.declared.names.PartId.{PartId}
-use Rattle.str_base.specs.declared.names.Ts.{Ts}
-use Rattle.str_base.specs.declared.names.TxId.{TxId}
 use Rattle.str_base.specs.declared.names.Write.{Write}
 use Rattle.str_base.specs.Versions.{same_node, stamp}
 use Rattle.str_model.specs.Acts.{ask_letters, copies}

@@ -11,7 +11,7 @@ use Rattle.str_base.specs.declared.names.Version.{Version}
 use Rattle.str_base.specs.declared.names.Write.{Write}
 use Rattle.str_base.specs.Versions.{insert_all}
 use Rattle.str_model.specs.Acts.{local_version}
-use Rattle.str_model.specs.Views.{Own, View}
+use Rattle.str_model.specs.Views.{Own, View, name_of}
 use Rattle.str_scene.specs.Scenes.{Here, map_of, part_of}
 use Rattle.version_chain.specs.ChainLists.{Apart, Each, merged}
 
@@ -56,6 +56,11 @@ joined store cache = merged cache.versions store.versions
 -- the versions with what an own transaction wrote, Local at lc
 abbrev pub with_own : Here → ℕ → ℕ → List Write → List Version → List Version
 with_own here i lc writes versions = insert_all (map (local_version here i lc) writes) versions
+
+-- where the stores lie apart and the name is that of an own transaction, they hold what they held with what it wrote
+abbrev pub HoldsWrites : Here → TxId → ℕ → List Write → StoreList → CacheList → StoreList → CacheList → Type 0
+HoldsWrites here tx lc writes store cache store' cache' =
+    (i : ℕ) → tx ≡ name_of here i → LieApart store cache → joined store' cache' ≡ with_own here i lc writes (joined store cache)
 
 -- the Local version that a write of the transaction becomes
 abbrev pub own_version : Here → TxId → Ts → Write → Version

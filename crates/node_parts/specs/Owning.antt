@@ -1,10 +1,11 @@
 -- What contracts see of a node's own transactions.
-use Rattle.std.specs.Prelude.{Bool, List, MatchOption, None, Option, Some, [], false, filter, if◌then◌else◌, length, map, nat_lt, not, slice_get, slice_index, slice_set, suc, true, ℕ, ◌&&◌, ◌++◌, ◌+◌, ◌-◌, ◌<◌, ◌==◌, ◌^◌, ◌∷◌, ◌≡◌, ◌≤◌, ◌⊎◌}
+use Rattle.std.specs.Prelude.{Bool, List, MatchOption, None, Option, Some, [], false, filter, if◌then◌else◌, length, map, nat_lt, not, slice_get, slice_index, slice_set, suc, true, ℕ, ◌&&◌, ◌++◌, ◌+◌, ◌-◌, ◌<◌, ◌==◌, ◌^◌, ◌∷◌, ◌≡◌, ◌⊎◌}
 use Rattle.cascade_abort.specs.declared.fates.DepTurn.{DepTurn}
 use Rattle.cascade_abort.specs.Fates.{turn_of}
 use Rattle.dependency_set.specs.declared.snaps.OwnSnap.{OwnSnap}
 use Rattle.dependency_set.specs.Snapshots.{Snap}
 use Rattle.held_answer.specs.Answers.{HeldAnswer}
+use Rattle.partition_map.specs.declared.rows.Asked.{Asked}
 use Rattle.snapshot_read.specs.Shown.{told_from}
 use Rattle.str_base.specs.declared.names.KeyId.{KeyId}
 use Rattle.str_base.specs.declared.names.NodeId.{NodeId}
@@ -115,6 +116,10 @@ OwnHas P i own = (x : Own) × (slice_get own i ≡ Some x) × P x
 -- the transaction at the place comes to this, and all else stays
 abbrev pub ComesTo : (Own → Own) → ℕ → OwnState → OwnState → Type 0
 ComesTo f i old new = (x : Own) → slice_get old.all i ≡ Some x → new ≡ record old { all = slice_set old.all i (f x) }
+
+-- the transaction has these participants, or stays where there are none; and which of both
+abbrev pub HasParts : Option (List Asked) → Bool → Named → Named → Type 0
+HasParts parts result old new = MatchOption parts ((result ≡ false) × (new ≡ old)) (λ ps. (result ≡ true) × (new ≡ record old { own = record (old.own) { parts = ps } }))
 
 -- the transaction at the place keeps the answer of a participant where it awaits one, else nothing changes; and whether it does
 abbrev pub KeepsAck : PartId → NodeId → ℕ → ℕ → Bool → OwnState → OwnState → Type 0

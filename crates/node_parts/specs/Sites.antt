@@ -1,8 +1,7 @@
 -- What a node knows of its scene.
-use Rattle.std.specs.Prelude.{Bool, None, Option, Some, false, is_some, true, ◌&&◌, ◌≡◌}
+use Rattle.std.specs.Prelude.{Bool, None, Option, Some, false, is_some, true, ◌≡◌}
 use Rattle.partition_map.specs.Maps.{PartitionMap}
 use Rattle.str_base.specs.declared.names.NodeId.{NodeId}
-use Rattle.str_base.specs.declared.names.SessionId.{SessionId}
 use Rattle.str_base.specs.Versions.{same_node}
 use Rattle.str_model.specs.Strange.{has_node}
 use Rattle.str_scene.specs.declared.names.TxPlace.{TxPlace}

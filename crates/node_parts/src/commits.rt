@@ -1,7 +1,7 @@
 //! The commit of what an own transaction wrote, and the places of what it is certified with.
 ghost use Rattle.cache_partition.specs.CacheLists.{StaysHere as CacheStays};
 ghost use Rattle.cascade_abort.specs.Removal.{AllWritten};
-ghost use Rattle.node_parts.specs.Holding.{LieApart, joined, own_version, with_own};
+ghost use Rattle.node_parts.specs.Holding.{HoldsWrites, LieApart, joined, own_version, with_own};
 ghost use Rattle.partition_map.specs.Maps.{HasKey};
 ghost use Rattle.replica_store.specs.StoreLists.{StaysHere as StoreStays};
 ghost use Rattle.snapshot_read.specs.Shown.{StandAt};
@@ -82,7 +82,7 @@ pub fn insert_all(
     requires cached { Each (λ v. of_tx tx v ≡ false) cache.old.versions }
     requires store_room { length writes.now ≤ store.old.spare }
     requires cache_room { length writes.now ≤ cache.old.spare }
-    ensures merged { (i : ℕ) → tx ≡ name_of site.now i → LieApart store.old cache.old → joined store.new cache.new ≡ with_own site.now i lc.0 writes.now (joined store.old cache.old) }
+    ensures merged { HoldsWrites site.now tx lc.0 writes.now store.old cache.old store.new cache.new }
     ensures store_here { StoreStays store.old store.new }
     ensures cache_here { CacheStays cache.old cache.new }
     ensures store_spare { store.old.spare ≤ store.new.spare + length writes.now }

@@ -88,7 +88,6 @@ impl OwnList {
     pub fn len(&self) -> usize
         ensures { result ≡ length self.now.all }
     {
-        let _ = &self.node;
         self.all.len()
     }
 
@@ -113,7 +112,6 @@ impl OwnList {
         ensures tx { result.now.tx ≡ record { node = self.now.node; seq = i + 1 } }
         ensures limit { i < 2 ^ 32 - 1 }
     {
-        let _ = &self.node;
         &self.all[i]
     }
 
@@ -132,7 +130,6 @@ impl OwnList {
     pub fn last_of(&self, session: SessionId) -> Option<usize>
         ensures { result ≡ last_index (of_session session) self.now.all }
     {
-        let _ = &self.node;
         let s = session.0 as usize;
         if s >= self.last.len() || self.last[s] == 0 {
             return None;

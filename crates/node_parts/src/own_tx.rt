@@ -1,6 +1,6 @@
 //! An own transaction.
 ghost use Rattle.cascade_abort.specs.Fates.{Names, left, turn_of as turn_of_look};
-ghost use Rattle.node_parts.specs.Owning.{HasPlace, IsFree, Named, turned};
+ghost use Rattle.node_parts.specs.Owning.{HasParts, HasPlace, IsFree, Named, turned};
 ghost use Rattle.node_parts.specs.Phases.{number_if, phase_of};
 ghost use Rattle.std.specs.Prelude.{◌≡◌, ◌<◌, ◌≤◌, ◌++◌, ◌&&◌, ◌∷◌, [], List, MatchOption, None, Some, false, is_some, length, not, true};
 ghost use Rattle.str_base.specs.Versions.{same_node, same_part, stamp};
@@ -178,7 +178,7 @@ impl OwnTx {
     /// Keeps the answer of a participant. False exactly where the partition is not asked, or the participant is none or has answered; then nothing
     /// changes.
     pub(crate) fn ack(&mut self, part: PartId, node: NodeId, ts: Ts) -> bool
-        ensures { MatchOption (with_ack self.old.own.parts part node ts.0) ((result ≡ false) × (self.new ≡ self.old)) (λ ps. (result ≡ true) × (self.new ≡ record self.old { own = record (self.old.own) { parts = ps } })) }
+        ensures { HasParts (with_ack self.old.own.parts part node ts.0) result self.old self.new }
     {
         match with_ack(&self.parts, part, node, ts) {
             Some(parts) => {

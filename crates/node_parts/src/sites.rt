@@ -62,7 +62,6 @@ impl Site {
         ensures exists { has_node self.now self.now.node ≡ true }
         ensures limits { IsScene self.now.scene }
     {
-        let _ = &self.scene;
         self.id
     }
 
@@ -72,7 +71,6 @@ impl Site {
         ensures exists { has_node self.now self.now.node ≡ true }
         ensures limits { IsScene self.now.scene }
     {
-        let _ = &self.scene;
         &self.map
     }
 
@@ -82,7 +80,6 @@ impl Site {
         ensures exists { has_node self.now self.now.node ≡ true }
         ensures limits { IsScene self.now.scene }
     {
-        let _ = &self.map;
         &self.scene
     }
 

@@ -17,7 +17,7 @@ use Rattle.str_base.specs.Versions.{mark_of, newest, of_pair, same_key, same_nod
 use Rattle.str_model.specs.declared.messages.Arrived.{Arrived}
 use Rattle.str_model.specs.declared.messages.Waiter.{Waiter}
 use Rattle.str_model.specs.Proposals
-use Rattle.str_model.specs.Proposals.{holds_pair, is_pair, parks, refuses, ts_limit}
+use Rattle.str_model.specs.Proposals.{holds_pair, is_pair, parks, prepare_turn, refuses, ts_limit}
 use Rattle.str_model.specs.Turns.{greatest, met}
 use Rattle.str_model.specs.Views.{View}
 use Rattle.str_scene.specs.Scenes.{Here, map_of}
@@ -68,6 +68,10 @@ IsAt here node map = (here.node ≡ node) × (map_of here.scene ≡ map)
 abbrev pub InReplicaViews : NodeId → PartitionMap → Arrived → List Version → List ℕ → List (TxId × PartId) → List Waiter → (Here → View → Type 0) → Type 0
 InReplicaViews node map a vs marks done waiters P =
     (here : Here) (view : View) → IsAt here node map → ShowsReplica view a vs marks → view.done ≡ done → view.waiters ≡ waiters → P here view
+
+-- the turn is what the rules of a node have for the Prepare, in each such view
+abbrev pub IsPrepareTurn : NodeId → PartitionMap → Arrived → List Version → List ℕ → List (TxId × PartId) → List Waiter → Proposals.MasterTurn → Type 0
+IsPrepareTurn node map a vs marks done waiters turn = InReplicaViews node map a vs marks done waiters (λ here view. turn ≡ prepare_turn here view a)
 
 -- ---- the causes
 

@@ -1,7 +1,7 @@
 //! A Prepare is refused, parked, accepted or left alone.
 ghost use Rattle.std.specs.Prelude.{◌≡◌, ◌∷◌, [], ℕ, IfOk, List, false, find, length, true};
 ghost use Rattle.partition_map.specs.Maps.{HasPart, leads, replicas};
-ghost use Rattle.prepare_master.specs.MasterTurns.{HaveMarks, InReplicaViews, IsJudged, ShowsReplica, first_reason, gives, is_fresh, judged, turn_of};
+ghost use Rattle.prepare_master.specs.MasterTurns.{HaveMarks, IsJudged, IsPrepareTurn, ShowsReplica, first_reason, gives, is_fresh, judged, turn_of};
 ghost use Rattle.str_base.specs.Versions.{chain};
 ghost use Rattle.str_model.specs.Proposals.{master_turn, prepare_turn};
 ghost use Rattle.str_model.specs.Views.{View};
@@ -134,7 +134,7 @@ pub fn prepare(
 ) -> MasterTurn
     requires part { HasPart map.now a.now.part }
     requires keys { HaveMarks a.now.writes marks.now }
-    ensures turn { InReplicaViews node map.now a.now store.now.versions marks.now done.now.pairs parked.now.waiters (λ here view. turn_of result ≡ prepare_turn here view a.now) }
+    ensures turn { IsPrepareTurn node map.now a.now store.now.versions marks.now done.now.pairs parked.now.waiters (turn_of result) }
     ensures causes { IsJudged (is_fresh map.now node store.now.versions done.now.pairs parked.now.waiters a.now) a.now store.now.versions marks.now (turn_of result) }
 {
     if is_new(a, node, store, done, parked, map) {

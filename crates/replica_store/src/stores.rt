@@ -82,7 +82,6 @@ impl ReplicaStore {
         ensures value { result ≡ self.now.node }
         ensures kept { IsStore self.now }
     {
-        let _ = &self.chains;
         self.node
     }
 
@@ -168,7 +167,6 @@ impl ReplicaStore {
         ensures noted { NotesCrowds self.now.crowd self.now.versions }
         ensures kept { IsStore self.now }
     {
-        let _ = &self.chains;
         self.crowd.len()
     }
 

@@ -1,5 +1,5 @@
 -- What became of dependencies, as it is told, and the snapshot that a look at them leaves.
-use Rattle.std.proofs.Common.{Bool, List, None, Option, Some, [], ap, arith, eq-eqb, eqb-true, false, find, if◌then◌else◌, map, not, refl, slice_get, slice_set, subst, suc, sym, true, zero, ℕ, ◌++◌, ◌+◌, ◌-◌, ◌==◌, ◌∙◌, ◌∷◌, ◌≡◌}
+use Rattle.std.proofs.Common.{Bool, List, Some, [], ap, eq-eqb, eqb-true, false, find, if◌then◌else◌, refl, slice_get, slice_set, subst, suc, sym, true, zero, ℕ, ◌++◌, ◌-◌, ◌==◌, ◌∙◌, ◌∷◌, ◌≡◌}
 use Rattle.cascade_abort.specs.declared.fates.DepTurn.{DepTurn}
 use Rattle.cascade_abort.specs.declared.fates.DepTurn.TheVariants.{Keep, Late, Lost}
 use Rattle.cascade_abort.specs.declared.fates.Fate.{Fate}

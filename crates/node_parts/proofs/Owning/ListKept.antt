@@ -1,5 +1,5 @@
 -- What the type of a list of own transactions keeps, after each of its changes.
-use Rattle.std.proofs.Common.{Bool, List, None, Option, Some, [], ap, arith, filter, length, length-append, map, not, refl, slice_get, slice_set, subst, sym, true, false, ℕ, ◌++◌, ◌+◌, ◌-◌, ◌<◌, ◌&&◌, ◌==◌, ◌^◌, ◌∙◌, ◌∷◌, ◌≡◌, ◌≤◌}
+use Rattle.std.proofs.Common.{List, None, Option, Some, [], ap, arith, filter, length, length-append, not, slice_get, slice_set, subst, sym, true, false, ℕ, ◌++◌, ◌+◌, ◌-◌, ◌<◌, ◌&&◌, ◌==◌, ◌^◌, ◌∙◌, ◌∷◌, ◌≡◌}
 use Rattle.std.proofs.Math.Bool.{and-false}
 use Rattle.std.proofs.lemmas.List.{length-map, length-set, map-append, map-set}
 use Rattle.dependency_set.specs.declared.snaps.OwnSnap.{OwnSnap}

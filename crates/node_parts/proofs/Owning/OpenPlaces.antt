@@ -1,5 +1,5 @@
 -- The places of those that are undecided, after one change of the list.
-use Rattle.std.proofs.Common.{Bool, List, None, Some, [], ap, arith, eq-eqb, false, filter, if◌then◌else◌, length, not, refl, slice_get, slice_set, subst, suc, sym, true, zero, ℕ, ◌++◌, ◌+◌, ◌<◌, ◌==◌, ◌∙◌, ◌∷◌, ◌≡◌, ◌≤◌}
+use Rattle.std.proofs.Common.{Bool, List, Some, [], ap, arith, eq-eqb, false, filter, if◌then◌else◌, length, not, refl, slice_get, slice_set, suc, sym, true, zero, ℕ, ◌++◌, ◌+◌, ◌<◌, ◌==◌, ◌∙◌, ◌∷◌, ◌≡◌}
 use Rattle.std.proofs.lemmas.Bool.{ne_eqb}
 use Rattle.str_model.specs.Views.{Own, is_decided}
 use Rattle.node_parts.specs.Owning.{open_from}

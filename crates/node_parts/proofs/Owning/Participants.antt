@@ -1,25 +1,19 @@
 -- Participants after an answer, and the transaction that keeps them.
-use Rattle.std.proofs.Common.{Bool, List, MatchOption, None, Option, Some, ap, false, map, slice_get, slice_set, subst, sym, true, ℕ, ◌∙◌, ◌≡◌}
+use Rattle.std.proofs.Common.{Bool, List, MatchOption, None, Option, Some, ap, false, slice_get, slice_set, true, ℕ, ◌∙◌, ◌≡◌}
 use Rattle.partition_map.specs.declared.rows.Asked.{Asked}
 use Rattle.str_base.proofs.Lists.{set_got}
 use Rattle.str_base.specs.declared.names.NodeId.{NodeId}
-use Rattle.str_base.specs.declared.names.PartId.{PartId}
-use Rattle.str_model.specs.Returns.{with_ack}
 use Rattle.str_model.specs.Views.{Own}
-use Rattle.node_parts.specs.Owning.{Named, OwnState}
+use Rattle.node_parts.specs.Owning.{HasParts, Named, OwnState}
 use Rattle.node_parts.proofs.Owning.NamesKept.{owns, owns_set}
 
--- what an answer comes to
-abbrev pub Acked : Option (List Asked) → Bool → Named → Named → Type 0
-Acked o r old new = MatchOption o ((r ≡ false) × (new ≡ old)) (λ ps. (r ≡ true) × (new ≡ record old { own = record (old.own) { parts = ps } }))
-
 -- only the participants change
-pub acked_only : (o : Option (List Asked)) (r : Bool) (old new : Named) → Acked o r old new → (ps : List Asked) × (new ≡ record old { own = record (old.own) { parts = ps } })
+pub acked_only : (o : Option (List Asked)) (r : Bool) (old new : Named) → HasParts o r old new → (ps : List Asked) × (new ≡ record old { own = record (old.own) { parts = ps } })
 acked_only None r old new h = (old.own.parts, h.1)
 acked_only (Some ps) r old new h = (ps, h.1)
 
 -- what it comes to in the list
-pub acked_all : (o : Option (List Asked)) (r : Bool) (old new : Named) (names : List Named) (node : NodeId) (sessions spare i : ℕ) (now : OwnState) (x : Own) → Acked o r old new
+pub acked_all : (o : Option (List Asked)) (r : Bool) (old new : Named) (names : List Named) (node : NodeId) (sessions spare i : ℕ) (now : OwnState) (x : Own) → HasParts o r old new
     → record { node = node; all = owns names; sessions = sessions; spare = spare } ≡ now → slice_get names i ≡ Some old → old.own ≡ x
     → MatchOption o ((r ≡ false) × (record { node = node; all = owns (slice_set names i new); sessions = sessions; spare = spare } ≡ now))
     (λ ps. (r ≡ true) × (record { node = node; all = owns (slice_set names i new); sessions = sessions; spare = spare } ≡ record now { all = slice_set now.all i (record x { parts = ps }) }))

@@ -3,7 +3,7 @@ use Rattle.std.proofs.Common.{refl, ◌≡◌}
 use Rattle.str_model.specs.Views.{Own}
 use Rattle.tx_script.specs.declared.turns.Turn.{Turn}
 use Rattle.tx_script.specs.declared.turns.Turn.TheVariants.{Ask, End, Got as GotIt, Moved, Unmet, Wished}
-use Rattle.tx_script.specs.Turns.{ScriptRun, Turned}
+use Rattle.tx_script.specs.Turns.{Turned}
 use Rattle.node_parts.specs.Owning.{IsFree, turned}
 
 -- it is undecided and not certified, as before

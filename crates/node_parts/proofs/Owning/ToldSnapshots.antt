@@ -1,5 +1,5 @@
 -- What is told of the certified undecided transactions, after one change of the list.
-use Rattle.std.proofs.Common.{Bool, List, None, Some, [], ap, arith, drop, eq-eqb, false, filter, get_or, if◌then◌else◌, length, lt-ltb, map, nat_lt, not, refl, slice_get, slice_set, suc, sym, take, true, zero, ℕ, ◌&&◌, ◌++◌, ◌+◌, ◌<◌, ◌-◌, ◌==◌, ◌∙◌, ◌∷◌, ◌≡◌, ◌≤◌}
+use Rattle.std.proofs.Common.{Bool, List, Some, [], ap, arith, drop, eq-eqb, false, get_or, if◌then◌else◌, length, lt-ltb, map, nat_lt, not, refl, slice_get, slice_set, suc, sym, take, true, zero, ℕ, ◌++◌, ◌+◌, ◌<◌, ◌==◌, ◌∙◌, ◌∷◌, ◌≡◌, ◌≤◌}
 use Rattle.std.proofs.lemmas.Bool.{le-ltb, ne_eqb}
 use Rattle.std.proofs.lemmas.Option.{slice_get_read}
 use Rattle.std.specs.List.{insert, position_or_len}

@@ -1,4 +1,4 @@
-use Rattle.std.proofs.Common.{arith, rules, sym, ◌∙◌, ◌≡◌}
+use Rattle.std.proofs.Common.{arith, sym, ◌∙◌, ◌≡◌}
 use Rattle.node_parts.proofs.Committing.{cached_all, cached_at, cached_elsewhere, cached_end, stored_all, stored_at, stored_end}
 use Rattle.replica_store.proofs.MergedChanges.{decided_merged, none_hosted}
 use Rattle.str_base.specs.Versions.{of_tx, without}

@@ -2,9 +2,7 @@ use Rattle.std.proofs.Common.{ap, arith, drop, map, refl, sym, ◌+◌, ◌∙�
 use Rattle.std.proofs.lemmas.List.{drop_all}
 use Rattle.node_parts.proofs.Committing.{cached_apart, distinct_apart, merged_step, next_version, none_apart, stored_apart}
 use Rattle.node_parts.specs.Holding.{own_version}
-use Rattle.replica_store.proofs.Merging.{ListsApart}
 use Rattle.str_base.specs.Versions.{insert_all}
-use Rattle.version_chain.proofs.Keeping.{AllApart}
 use Rattle.version_chain.specs.ChainLists.{merged}
 use Rattle.node_parts.proofs.commits.insert_all.Goals as goal
 

@@ -1,7 +1,7 @@
 use Rattle.std.proofs.Common.{ap, false, filter, rules, subst, true, ◌∙◌, ◌≡◌}
 use Rattle.node_parts.proofs.Posting.{ask_copies, copies_room, leads_row, prepare_room}
 use Rattle.node_parts.specs.Letters.{Sends}
-use Rattle.partition_map.specs.Maps.{first_or, leads}
+use Rattle.partition_map.specs.Maps.{first_or}
 use Rattle.str_base.specs.declared.names.NodeId.{NodeId}
 use Rattle.str_base.specs.Versions.{same_node, stamp}
 use Rattle.str_model.specs.Acts.{copies}

@@ -1,4 +1,4 @@
-use Rattle.std.proofs.Common.{List, ap, arith, if◌then◌else◌, is_ok, nat_lt, sym, ℕ, ◌∙◌, ◌≡◌, ◌≤◌}
+use Rattle.std.proofs.Common.{List, ap, arith, if◌then◌else◌, is_ok, nat_lt, sym, ℕ, ◌∙◌}
 use Rattle.std.specs.List.{insert, position_or_len}
 use Rattle.dependency_set.specs.declared.snaps.OwnSnap.{OwnSnap}
 use Rattle.node_parts.proofs.Owning.ToldSnapshots.{also_inserts, place_fits}

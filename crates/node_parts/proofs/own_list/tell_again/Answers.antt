@@ -1,4 +1,4 @@
-use Rattle.std.proofs.Common.{List, Vec, Global, ap, arith, length, subst, sym, ◌<◌, ◌∙◌, ◌≡◌}
+use Rattle.std.proofs.Common.{List, Vec, Global, ap, arith, length, subst, sym, ◌<◌, ◌∙◌}
 use Rattle.dependency_set.specs.declared.snaps.OwnSnap.{OwnSnap}
 use Rattle.dependency_set.specs.Snapshots.{Snap}
 use Rattle.node_parts.proofs.Owning.ToldSnapshots.{again, again_next, again_other, again_there, within_next}

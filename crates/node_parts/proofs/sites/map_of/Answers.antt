@@ -1,10 +1,9 @@
-use Rattle.std.proofs.Common.{List, add-one, ap, arith, length, map, refl, rules, slice_get, subst, sym, take, ℕ, ◌++◌, ◌+◌, ◌<◌, ◌∙◌, ◌∷◌, [], ◌≡◌, ◌≤◌}
+use Rattle.std.proofs.Common.{List, add-one, ap, length, map, rules, slice_get, sym, ℕ, ◌++◌, ◌<◌, ◌∙◌, ◌∷◌, [], ◌≡◌, ◌≤◌}
 use Rattle.std.proofs.lemmas.List.{take_all}
 use Rattle.node_parts.proofs.Mapping.{parts_more}
-use Rattle.partition_map.specs.Maps.{IsMap}
 use Rattle.str_base.specs.declared.names.PartId.{PartId}
 use Rattle.str_scene.proofs.Mapped.{is-mapped}
-use Rattle.str_scene.specs.Scenes.{map_of, named_part}
+use Rattle.str_scene.specs.Scenes.{named_part}
 use Rattle.node_parts.proofs.sites.map_of.Goals as goal
 
 pub loop-key-preserved : goal.loop-key-preserved

@@ -1,4 +1,4 @@
-use Rattle.std.proofs.Common.{arith, length, sym, ◌∙◌}
+use Rattle.std.proofs.Common.{sym, ◌∙◌}
 use Rattle.prepare_master.specs.MasterTurns.{gives}
 use Rattle.str_base.specs.Versions.{chain}
 use Rattle.prepare_master.proofs.Walking.{found_after, found_next, found_none, reasons_unsettled}

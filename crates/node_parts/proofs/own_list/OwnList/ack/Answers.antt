@@ -3,10 +3,10 @@ use Rattle.partition_map.specs.declared.rows.Asked.{Asked}
 use Rattle.str_base.proofs.Lists.{slice_get_there}
 use Rattle.str_model.specs.Returns.{with_ack}
 use Rattle.str_model.specs.Views.{Own, is_decided}
-use Rattle.node_parts.specs.Owning.{Named, OwnState, is_told}
+use Rattle.node_parts.specs.Owning.{HasParts, Named, OwnState, is_told}
 use Rattle.node_parts.proofs.Owning.ListKept.{kept_same}
 use Rattle.node_parts.proofs.Owning.NamesKept.{lent}
-use Rattle.node_parts.proofs.Owning.Participants.{Acked, acked_all, acked_only}
+use Rattle.node_parts.proofs.Owning.Participants.{acked_all, acked_only}
 use Rattle.node_parts.proofs.own_list.OwnList.ack.Goals as goal
 
 pub invariant_of-self : goal.invariant_of-self
@@ -30,5 +30,5 @@ returns c x e =
     let s = c.self.view_is in
     let l = lent in'.all.items c.args.i old c.args.self.now.all x (ap (λ (v : OwnState). v.all) s) e c.index_mut-own.ensures.value in
     let q = ap (λ (z : Own). with_ack z.parts c.args.part c.args.node c.args.ts.0) l.own in
-    let k = subst (λ (o : Option (List Asked)). Acked o c.ack.result old new) q c.ack.ensures in
+    let k = subst (λ (o : Option (List Asked)). HasParts o c.ack.result old new) q c.ack.ensures in
     acked_all (with_ack x.parts c.args.part c.args.node c.args.ts.0) c.ack.result old new in'.all.items in'.node _ _ c.args.i c.args.self.now x k s l.stands l.own

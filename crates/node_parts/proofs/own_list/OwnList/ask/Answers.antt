@@ -1,8 +1,8 @@
-use Rattle.std.proofs.Common.{ap, sym, ◌∙◌, ◌≡◌}
+use Rattle.std.proofs.Common.{ap, sym, ◌∙◌}
 use Rattle.str_model.specs.Acts.{with_asked}
 use Rattle.str_model.specs.Views
 use Rattle.str_model.specs.Views.{Own, is_decided, lc_of}
-use Rattle.node_parts.specs.Owning.{Named, OwnState, is_told}
+use Rattle.node_parts.specs.Owning.{Named, OwnState}
 use Rattle.node_parts.proofs.Owning.ListKept.{certain_told, kept_same}
 use Rattle.node_parts.proofs.Owning.NamesKept.{lent, owns_set}
 use Rattle.node_parts.proofs.own_list.OwnList.ask.Goals as goal

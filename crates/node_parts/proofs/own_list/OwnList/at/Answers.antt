@@ -1,4 +1,4 @@
-use Rattle.std.proofs.Common.{ap, arith, length, ◌+◌, ◌<◌, ◌∙◌, ◌≡◌}
+use Rattle.std.proofs.Common.{ap, arith, length, ◌+◌, ◌<◌, ◌∙◌}
 use Rattle.std.proofs.lemmas.List.{length-map}
 use Rattle.node_parts.specs.Owning.{Named, OwnState}
 use Rattle.node_parts.proofs.Owning.NamesKept.{at_place, number_is}

@@ -1,4 +1,4 @@
-use Rattle.std.proofs.Common.{List, ap, arith, filter, not, refl, slice_set, subst, sym, ℕ, ◌+◌, ◌==◌, ◌∙◌, ◌≡◌}
+use Rattle.std.proofs.Common.{List, ap, arith, filter, not, refl, slice_set, subst, sym, ℕ, ◌+◌, ◌==◌, ◌∙◌}
 use Rattle.dependency_set.specs.declared.snaps.OwnSnap.{OwnSnap}
 use Rattle.str_model.specs.Acts.{decided_as}
 use Rattle.str_model.specs.declared.messages.Outcome.TheVariants.{Committed as Commits}

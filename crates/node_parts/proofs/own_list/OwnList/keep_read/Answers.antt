@@ -1,4 +1,4 @@
-use Rattle.std.proofs.Common.{ap, subst, sym, ◌∙◌, ◌≡◌}
+use Rattle.std.proofs.Common.{ap, subst, sym, ◌∙◌}
 use Rattle.str_model.specs.Scripts.{noted}
 use Rattle.node_parts.specs.Owning.{IsFree, Named, OwnState}
 use Rattle.node_parts.proofs.Owning.ListKept.{kept_free}

@@ -1,8 +1,8 @@
-use Rattle.std.proofs.Common.{ap, subst, sym, ◌∙◌, ◌≡◌}
+use Rattle.std.proofs.Common.{ap, subst, sym, ◌∙◌}
 use Rattle.str_model.specs.Views.{Own}
 use Rattle.tx_script.specs.Doing.{run_of}
 use Rattle.tx_script.specs.Turns.{turn_of}
-use Rattle.node_parts.specs.Owning.{IsFree, Named, OwnState, turned}
+use Rattle.node_parts.specs.Owning.{IsFree, OwnState, turned}
 use Rattle.node_parts.proofs.Owning.ListKept.{kept_free}
 use Rattle.node_parts.proofs.Owning.NamesKept.{lent, owns_set}
 use Rattle.node_parts.proofs.Owning.ScriptTurns.{turned_free, turned_place}

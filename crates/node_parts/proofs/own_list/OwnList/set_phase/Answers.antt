@@ -1,6 +1,5 @@
-use Rattle.std.proofs.Common.{ap, subst, sym, ◌∙◌, ◌≡◌}
+use Rattle.std.proofs.Common.{ap, subst, sym, ◌∙◌}
 use Rattle.str_model.specs.Acts.{in_phase}
-use Rattle.str_model.specs.Views.{is_decided, lc_of}
 use Rattle.node_parts.specs.Owning.{IsFree, Named, OwnState}
 use Rattle.node_parts.specs.Phases.{phase_of}
 use Rattle.node_parts.proofs.Owning.ListKept.{kept_free}
