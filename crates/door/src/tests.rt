@@ -39,8 +39,8 @@ const LOST_UPDATE_LINES: &[u8] =
     end commits=1 aborts=1 held=0 unbegun=0 messages=0\n";
 
 /// A transfer between two nodes, and a statement: the text before its schedule.
-const TRANSFER: &str =
-    "str 1\nnodes 2\npart 1 1 2\npart 2 2 1\nsession 1\ntx\nput alice@1 100\ntx\nneed alice@1 30\nadd alice@1 -30\nadd bob@2 30\n\
+static TRANSFER: [u8; 148] =
+    *b"str 1\nnodes 2\npart 1 1 2\npart 2 2 1\nsession 1\ntx\nput alice@1 100\ntx\nneed alice@1 30\nadd alice@1 -30\nadd bob@2 30\n\
     session 2\ntx\nget alice@1\nget bob@2\n";
 
 /// A call: its words, its input, which read and which write are to fail (0: none), and what is to come of it.
@@ -55,16 +55,72 @@ struct Case<'a> {
     err: &'static [u8],
 }
 
-/// A scene without transactions.
-const EMPTY_DOOR: Case<'static> = Case {
-    words: &[],
-    text: EMPTY,
-    failing_read: 0,
-    failing_write: 0,
-    status: Status::Ok,
-    out: EMPTY_LINES,
-    err: b"",
-};
+static CASES: [Case<'static>; 6] = [
+    Case {
+        words: &[],
+        text: EMPTY,
+        failing_read: 0,
+        failing_write: 0,
+        status: Status::Ok,
+        out: EMPTY_LINES,
+        err: b"",
+    },
+    Case {
+        words: &[],
+        text: LOST_UPDATE,
+        failing_read: 0,
+        failing_write: 0,
+        status: Status::Ok,
+        out: LOST_UPDATE_LINES,
+        err: b"",
+    },
+    Case {
+        words: &["x"],
+        text: EMPTY,
+        failing_read: 1,
+        failing_write: 0,
+        status: Status::Usage,
+        out: b"",
+        err: b"door: usage\n",
+    },
+    Case {
+        words: &[],
+        text: b"str 1\nnodes 9\npart 1 1\nschedule\ndrain\nend\n",
+        failing_read: 0,
+        failing_write: 0,
+        status: Status::Refused,
+        out: b"",
+        err: b"door: line 2: range\n",
+    },
+    Case {
+        words: &[],
+        text: EMPTY,
+        failing_read: 2,
+        failing_write: 0,
+        status: Status::ReadFault,
+        out: b"",
+        err: b"door: read fault\n",
+    },
+    Case {
+        words: &[],
+        text: EMPTY,
+        failing_read: 0,
+        failing_write: 2,
+        status: Status::WriteFault,
+        out: b"j d 1 idle\nj d 2",
+        err: b"door: write fault\n",
+    },
+];
+
+// The texts, each behind a call: a proof then has none of them in sight.
+
+fn cases() -> &'static [Case<'static>] {
+    &CASES
+}
+
+fn transfer() -> &'static [u8] {
+    &TRANSFER
+}
 
 /// What a call came to.
 #[derive(Drop)]
@@ -146,46 +202,10 @@ fn check<R: Threads + Wait + Sync + Abort + AllocGlobal>(
 
 #[test]
 fn doors_of_one_node(rt: HostRuntime) -> Result<(), Fail> {
-    let plain = EMPTY_DOOR;
-    check(&rt, &plain)?;
-    let two = Case {
-        text: LOST_UPDATE,
-        out: LOST_UPDATE_LINES,
-        ..plain
-    };
-    check(&rt, &two)?;
-    let worded = Case {
-        words: &["x"],
-        status: Status::Usage,
-        out: b"",
-        err: b"door: usage\n",
-        ..plain
-    };
-    check(&rt, &worded)?;
-    let bad = Case {
-        text: b"str 1\nnodes 9\npart 1 1\nschedule\ndrain\nend\n",
-        status: Status::Refused,
-        out: b"",
-        err: b"door: line 2: range\n",
-        ..plain
-    };
-    check(&rt, &bad)?;
-    let unread = Case {
-        failing_read: 2,
-        status: Status::ReadFault,
-        out: b"",
-        err: b"door: read fault\n",
-        ..plain
-    };
-    check(&rt, &unread)?;
-    let unwritten = Case {
-        failing_write: 2,
-        status: Status::WriteFault,
-        out: b"j d 1 idle\nj d 2",
-        err: b"door: write fault\n",
-        ..plain
-    };
-    check(&rt, &unwritten)
+    for case in cases() {
+        check(&rt, case)?;
+    }
+    Ok(())
 }
 
 /// Whether each of two nodes has begun, and whether it has seen that the other had.
@@ -240,7 +260,7 @@ fn meetings(alloc: Global, flags: &Flags) -> Result<Vec<Meeting<'_>>, AllocError
 
 /// The text of the transfer with the schedule that a journal spells, and without a drain.
 fn with_schedule(alloc: Global, journal: &str) -> Result<Vec<u8>, AllocError> {
-    let mut text = TRANSFER.as_bytes().to_vec(alloc)?;
+    let mut text = transfer().to_vec(alloc)?;
     text.extend_from_slice(b"schedule\n")?;
     for line in journal.lines() {
         if let Some(entry) = line.strip_prefix("j ") {
@@ -278,8 +298,13 @@ fn workers_act_beside_each_other(rt: HostRuntime) -> Result<(), Fail> {
     let alloc = rt.alloc();
     let text = with_schedule(alloc, "")?;
     let case = Case {
+        words: &[],
         text: text.as_slice(),
-        ..EMPTY_DOOR
+        failing_read: 0,
+        failing_write: 0,
+        status: Status::Ok,
+        out: b"",
+        err: b"",
     };
     let clocks = clocks_at(alloc, 7000)?;
     let came = called(&rt, alloc, &case, clocks, meetings(alloc, &flags)?)?;

@@ -1,4 +1,5 @@
 //! Scenes built item by item, and each refusal.
+//! The items stand in tables, each behind a call: a proof then has none of them in sight.
 
 use crate::build::SceneBuild;
 use crate::faults::SceneFault;
@@ -21,6 +22,9 @@ enum Item<'a> {
     Deliver(u64),
     Drain,
 }
+
+/// An item, and its answer.
+type Row = (Item<'static>, Result<u32, SceneFault>);
 
 const FORM: Result<u32, SceneFault> = Err(SceneFault::Form);
 
@@ -83,7 +87,7 @@ fn give(build: &mut SceneBuild, item: Item) -> Result<u32, SceneFault> {
 }
 
 /// Gives items in order. Whether each of them has its answer.
-fn answers(build: &mut SceneBuild, items: &[(Item, Result<u32, SceneFault>)]) -> bool {
+fn answers(build: &mut SceneBuild, items: &[Row]) -> bool {
     for (item, want) in items {
         if give(build, *item) != *want {
             return false;
@@ -102,34 +106,155 @@ fn repeat(build: &mut SceneBuild, item: Item, times: u32) -> bool {
     true
 }
 
-const BEGUN: [(Item, Result<u32, SceneFault>); 3] = [
+/// A beginning of a scene.
+static BEGUN: [Row; 3] = [
     (Item::Nodes(5), Ok(0)),
     (Item::Part(&[1]), Ok(0)),
     (Item::Session(1), Ok(0)),
 ];
 
+/// A whole scene.
+static WHOLE: [Row; 16] = [
+    (Item::Nodes(2), Ok(0)),
+    (Item::Part(&[2, 1]), Ok(0)),
+    (Item::Part(&[1]), Ok(0)),
+    (Item::Session(1), Ok(0)),
+    (Item::Key(b"a", 1), Ok(0)),
+    (Item::Text(b"hi"), Ok(0)),
+    (Item::Tx(Op::Puts(KeyId(0), TextId(0))), Ok(0)),
+    (Item::Session(2), Ok(0)),
+    (Item::Key(b"a", 1), Ok(0)),
+    (Item::Tx(Op::Add(KeyId(0), -1)), Ok(0)),
+    (Item::Key(b"a", 2), Ok(1)),
+    (Item::Tx(Op::Need(KeyId(1), 5)), Ok(0)),
+    (Item::Text(b"hi"), Ok(0)),
+    (Item::Client(2), Ok(0)),
+    (Item::Deliver(1), Ok(0)),
+    (Item::Drain, Ok(0)),
+];
+
+/// Items at wrong places, and others between them.
+static MISPLACED: [Row; 22] = [
+    (Item::Part(&[1]), FORM),
+    (Item::Nodes(1), Ok(0)),
+    (Item::Nodes(9), FORM),
+    (Item::Session(1), FORM),
+    (Item::Client(1), FORM),
+    (Item::Drain, FORM),
+    (Item::Part(&[]), FORM),
+    (Item::Part(&[1]), Ok(0)),
+    (Item::Tx(Op::Abort), FORM),
+    (Item::Key(b"a", 1), FORM),
+    (Item::Text(b"a"), FORM),
+    (Item::Session(1), Ok(0)),
+    (Item::Part(&[1]), FORM),
+    (Item::NoTx, FORM),
+    (Item::Tx(Op::Puts(KeyId(9), TextId(9))), FORM),
+    (Item::Client(1), Ok(0)),
+    (Item::Session(9), FORM),
+    (Item::Tx(Op::Abort), FORM),
+    (Item::Key(b"a", 9), FORM),
+    (Item::Drain, Ok(0)),
+    (Item::Client(1), FORM),
+    (Item::Drain, FORM),
+];
+
+/// Numbers out of range, and others between them.
+static OUTSIDE: [Row; 24] = [
+    (Item::Nodes(0), RANGE),
+    (Item::Nodes(9), RANGE),
+    (Item::Nodes(2), Ok(0)),
+    (Item::Part(&[3]), RANGE),
+    (Item::Part(&[1, 0]), RANGE),
+    (Item::Part(&[1, 1]), RANGE),
+    (Item::Part(&[1, 2]), Ok(0)),
+    (Item::Session(0), RANGE),
+    (Item::Session(3), RANGE),
+    (Item::Session(2), Ok(0)),
+    (Item::Key(b"a", 0), RANGE),
+    (Item::Key(b"a", 2), RANGE),
+    (Item::Key(b"1", 1), RANGE),
+    (Item::Key(b"a23456789_1234567", 1), RANGE),
+    (Item::Text(&[0; 65]), RANGE),
+    (Item::Tx(Op::Get(KeyId(0))), RANGE),
+    (Item::Key(b"a23456789_123456", 1), Ok(0)),
+    (Item::Tx(Op::Del(KeyId(1))), RANGE),
+    (Item::Tx(Op::Puts(KeyId(0), TextId(0))), RANGE),
+    (Item::Text(&[0; 64]), Ok(0)),
+    (Item::Tx(Op::Puts(KeyId(0), TextId(0))), Ok(0)),
+    (Item::Client(0), RANGE),
+    (Item::Client(2), RANGE),
+    (Item::Deliver(0), RANGE),
+];
+
+/// What a table of keys and one of byte strings take that are full.
+static FULL: [Row; 4] = [
+    (Item::Key(b"zzz", 1), COUNT),
+    (Item::Text(b"zzz"), COUNT),
+    (Item::Key(b"aab", 1), Ok(1)),
+    (Item::Text(b"aab"), Ok(1)),
+];
+
+/// What follows the beginning, and whether a scene ends with it.
+static ENDS: [(&[Row], bool); 5] = [
+    (&[], true),
+    (
+        &[
+            (Item::Key(b"a", 1), Ok(0)),
+            (Item::Key(b"b", 1), Ok(1)),
+            (Item::Tx(Op::Get(KeyId(0))), Ok(0)),
+            (Item::Tx(Op::Get(KeyId(1))), Ok(0)),
+        ],
+        true,
+    ),
+    (
+        &[
+            (Item::Key(b"a", 1), Ok(0)),
+            (Item::Key(b"b", 1), Ok(1)),
+            (Item::Tx(Op::Get(KeyId(1))), Ok(0)),
+            (Item::Tx(Op::Get(KeyId(0))), Ok(0)),
+        ],
+        false,
+    ),
+    (
+        &[
+            (Item::Key(b"a", 1), Ok(0)),
+            (Item::Key(b"b", 1), Ok(1)),
+            (Item::Tx(Op::Get(KeyId(0))), Ok(0)),
+        ],
+        false,
+    ),
+    (&[(Item::Text(b"a"), Ok(0))], false),
+];
+
+fn begun() -> &'static [Row] {
+    &BEGUN
+}
+
+fn whole() -> &'static [Row] {
+    &WHOLE
+}
+
+fn misplaced() -> &'static [Row] {
+    &MISPLACED
+}
+
+fn outside() -> &'static [Row] {
+    &OUTSIDE
+}
+
+fn full() -> &'static [Row] {
+    &FULL
+}
+
+fn ends() -> &'static [(&'static [Row], bool)] {
+    &ENDS
+}
+
 #[test]
 fn a_whole_scene(rt: HostRuntime) -> Result<(), Fail> {
     let mut build = SceneBuild::new(rt.alloc(), 2);
-    let items = [
-        (Item::Nodes(2), Ok(0)),
-        (Item::Part(&[2, 1]), Ok(0)),
-        (Item::Part(&[1]), Ok(0)),
-        (Item::Session(1), Ok(0)),
-        (Item::Key(b"a", 1), Ok(0)),
-        (Item::Text(b"hi"), Ok(0)),
-        (Item::Tx(Op::Puts(KeyId(0), TextId(0))), Ok(0)),
-        (Item::Session(2), Ok(0)),
-        (Item::Key(b"a", 1), Ok(0)),
-        (Item::Tx(Op::Add(KeyId(0), -1)), Ok(0)),
-        (Item::Key(b"a", 2), Ok(1)),
-        (Item::Tx(Op::Need(KeyId(1), 5)), Ok(0)),
-        (Item::Text(b"hi"), Ok(0)),
-        (Item::Client(2), Ok(0)),
-        (Item::Deliver(1), Ok(0)),
-        (Item::Drain, Ok(0)),
-    ];
-    assert!(rt; answers(&mut build, &items));
+    assert!(rt; answers(&mut build, whole()));
     assert_eq!(rt; build.parts(), 2);
     assert_eq!(rt; build.sessions(), 2);
     assert_eq!(rt; build.transactions(), 3);
@@ -144,31 +269,7 @@ fn a_whole_scene(rt: HostRuntime) -> Result<(), Fail> {
 #[test]
 fn items_at_wrong_places(rt: HostRuntime) -> Result<(), Fail> {
     let mut build = SceneBuild::new(rt.alloc(), 1);
-    let items = [
-        (Item::Part(&[1]), FORM),
-        (Item::Nodes(1), Ok(0)),
-        (Item::Nodes(9), FORM),
-        (Item::Session(1), FORM),
-        (Item::Client(1), FORM),
-        (Item::Drain, FORM),
-        (Item::Part(&[]), FORM),
-        (Item::Part(&[1]), Ok(0)),
-        (Item::Tx(Op::Abort), FORM),
-        (Item::Key(b"a", 1), FORM),
-        (Item::Text(b"a"), FORM),
-        (Item::Session(1), Ok(0)),
-        (Item::Part(&[1]), FORM),
-        (Item::NoTx, FORM),
-        (Item::Tx(Op::Puts(KeyId(9), TextId(9))), FORM),
-        (Item::Client(1), Ok(0)),
-        (Item::Session(9), FORM),
-        (Item::Tx(Op::Abort), FORM),
-        (Item::Key(b"a", 9), FORM),
-        (Item::Drain, Ok(0)),
-        (Item::Client(1), FORM),
-        (Item::Drain, FORM),
-    ];
-    assert!(rt; answers(&mut build, &items));
+    assert!(rt; answers(&mut build, misplaced()));
     assert!(rt; build.finish().is_ok());
     Ok(())
 }
@@ -176,33 +277,7 @@ fn items_at_wrong_places(rt: HostRuntime) -> Result<(), Fail> {
 #[test]
 fn numbers_out_of_range(rt: HostRuntime) -> Result<(), Fail> {
     let mut build = SceneBuild::new(rt.alloc(), 2);
-    let items = [
-        (Item::Nodes(0), RANGE),
-        (Item::Nodes(9), RANGE),
-        (Item::Nodes(2), Ok(0)),
-        (Item::Part(&[3]), RANGE),
-        (Item::Part(&[1, 0]), RANGE),
-        (Item::Part(&[1, 1]), RANGE),
-        (Item::Part(&[1, 2]), Ok(0)),
-        (Item::Session(0), RANGE),
-        (Item::Session(3), RANGE),
-        (Item::Session(2), Ok(0)),
-        (Item::Key(b"a", 0), RANGE),
-        (Item::Key(b"a", 2), RANGE),
-        (Item::Key(b"1", 1), RANGE),
-        (Item::Key(b"a23456789_1234567", 1), RANGE),
-        (Item::Text(&[0; 65]), RANGE),
-        (Item::Tx(Op::Get(KeyId(0))), RANGE),
-        (Item::Key(b"a23456789_123456", 1), Ok(0)),
-        (Item::Tx(Op::Del(KeyId(1))), RANGE),
-        (Item::Tx(Op::Puts(KeyId(0), TextId(0))), RANGE),
-        (Item::Text(&[0; 64]), Ok(0)),
-        (Item::Tx(Op::Puts(KeyId(0), TextId(0))), Ok(0)),
-        (Item::Client(0), RANGE),
-        (Item::Client(2), RANGE),
-        (Item::Deliver(0), RANGE),
-    ];
-    assert!(rt; answers(&mut build, &items));
+    assert!(rt; answers(&mut build, outside()));
     assert!(rt; build.finish().is_ok());
     Ok(())
 }
@@ -224,7 +299,7 @@ fn too_many_partitions_and_sessions(rt: HostRuntime) -> Result<(), Fail> {
 #[test]
 fn too_many_transactions_and_entries(rt: HostRuntime) -> Result<(), Fail> {
     let mut build = SceneBuild::new(rt.alloc(), 1);
-    assert!(rt; answers(&mut build, &BEGUN));
+    assert!(rt; answers(&mut build, begun()));
     assert!(rt; repeat(&mut build, Item::Tx(Op::Abort), 1024));
     assert!(rt; answers(&mut build, &[(Item::Tx(Op::Abort), COUNT)]));
     assert!(rt; repeat(&mut build, Item::Client(1), 65_536));
@@ -245,39 +320,27 @@ fn many_keys(build: &mut SceneBuild, first: u8, letters: &[u8]) {
 #[test]
 fn too_many_keys_and_texts(rt: HostRuntime) -> Result<(), Fail> {
     let mut build = SceneBuild::new(rt.alloc(), 1);
-    assert!(rt; answers(&mut build, &BEGUN));
+    assert!(rt; answers(&mut build, begun()));
     let letters = b"abcdefghijklmnopqrstuvwxyz";
     for first in letters {
         many_keys(&mut build, *first, letters);
     }
     assert_eq!(rt; build.keys().len(), 16_384);
     assert_eq!(rt; build.keys().texts(), 16_384);
-    let items = [
-        (Item::Key(b"zzz", 1), COUNT),
-        (Item::Text(b"zzz"), COUNT),
-        (Item::Key(b"aab", 1), Ok(1)),
-        (Item::Text(b"aab"), Ok(1)),
-    ];
-    assert!(rt; answers(&mut build, &items));
+    assert!(rt; answers(&mut build, full()));
     Ok(())
 }
 
 /// Whether the items are taken and a scene ends with them.
-fn is_ended(rt: &HostRuntime, items: &[(Item, Result<u32, SceneFault>)]) -> bool {
+fn is_ended(rt: &HostRuntime, items: &[Row]) -> bool {
     let mut build = SceneBuild::new(rt.alloc(), 1);
-    answers(&mut build, &BEGUN) && answers(&mut build, items) && build.finish().is_ok()
+    answers(&mut build, begun()) && answers(&mut build, items) && build.finish().is_ok()
 }
 
 #[test]
 fn ends_of_no_scene(rt: HostRuntime) -> Result<(), Fail> {
-    let one = (Item::Key(b"a", 1), Ok(0));
-    let other = (Item::Key(b"b", 1), Ok(1));
-    let first = (Item::Tx(Op::Get(KeyId(0))), Ok(0));
-    let second = (Item::Tx(Op::Get(KeyId(1))), Ok(0));
-    assert!(rt; is_ended(&rt, &[]));
-    assert!(rt; is_ended(&rt, &[one, other, first, second]));
-    assert!(rt; !is_ended(&rt, &[one, other, second, first]));
-    assert!(rt; !is_ended(&rt, &[one, other, first]));
-    assert!(rt; !is_ended(&rt, &[(Item::Text(b"a"), Ok(0))]));
+    for (items, ended) in ends() {
+        assert_eq!(rt; is_ended(&rt, items), *ended);
+    }
     Ok(())
 }

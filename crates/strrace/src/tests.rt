@@ -29,8 +29,8 @@ const LOST_UPDATE_LINES: &[u8] =
     1.2 s2/1 abort rs=10 conflict 1.1 a@1 at=1\nend commits=1 aborts=1 held=0 unbegun=0 messages=0\n";
 
 /// A transfer between two nodes, and a statement: the text before its schedule.
-const TRANSFER: &str =
-    "str 1\nnodes 2\npart 1 1 2\npart 2 2 1\nsession 1\ntx\nput alice@1 100\ntx\nneed alice@1 30\nadd alice@1 -30\nadd bob@2 30\n\
+static TRANSFER: [u8; 148] =
+    *b"str 1\nnodes 2\npart 1 1 2\npart 2 2 1\nsession 1\ntx\nput alice@1 100\ntx\nneed alice@1 30\nadd alice@1 -30\nadd bob@2 30\n\
     session 2\ntx\nget alice@1\nget bob@2\n";
 
 /// A call: its words, its input, which read and which write are to fail (0: none), and what is to come of it.
@@ -45,16 +45,89 @@ struct Case<'a> {
     err: &'static [u8],
 }
 
-/// One round of a scene without transactions.
-const EMPTY_RACE: Case<'static> = Case {
-    words: &["1"],
-    text: EMPTY,
-    failing_read: 0,
-    failing_write: 0,
-    status: Status::Ok,
-    out: EMPTY_END,
-    err: b"",
-};
+/// Races of one node.
+static CASES: [Case<'static>; 6] = [
+    Case {
+        words: &["1"],
+        text: EMPTY,
+        failing_read: 0,
+        failing_write: 0,
+        status: Status::Ok,
+        out: EMPTY_END,
+        err: b"",
+    },
+    Case {
+        words: &["256"],
+        text: EMPTY,
+        failing_read: 0,
+        failing_write: 0,
+        status: Status::Ok,
+        out: EMPTY_END,
+        err: b"",
+    },
+    Case {
+        words: &["4"],
+        text: LOST_UPDATE,
+        failing_read: 0,
+        failing_write: 0,
+        status: Status::Ok,
+        out: LOST_UPDATE_LINES,
+        err: b"",
+    },
+    Case {
+        words: &["1"],
+        text: b"str 1\nnodes 9\npart 1 1\nschedule\ndrain\nend\n",
+        failing_read: 0,
+        failing_write: 0,
+        status: Status::Refused,
+        out: b"",
+        err: b"strrace: line 2: range\n",
+    },
+    Case {
+        words: &["1"],
+        text: EMPTY,
+        failing_read: 2,
+        failing_write: 0,
+        status: Status::ReadFault,
+        out: b"",
+        err: b"strrace: read fault\n",
+    },
+    Case {
+        words: &["1"],
+        text: EMPTY,
+        failing_read: 0,
+        failing_write: 2,
+        status: Status::WriteFault,
+        out: b"end commits=0 ab",
+        err: b"strrace: write fault\n",
+    },
+];
+
+/// Words that are no number of rounds.
+static NO_WORDS: [&[&str]; 8] = [
+    &[],
+    &[""],
+    &["0"],
+    &["257"],
+    &["01"],
+    &["+1"],
+    &["1", "1"],
+    &["run"],
+];
+
+// The texts, each behind a call: a proof then has none of them in sight.
+
+fn cases() -> &'static [Case<'static>] {
+    &CASES
+}
+
+fn no_words() -> &'static [&'static [&'static str]] {
+    &NO_WORDS
+}
+
+fn transfer() -> &'static [u8] {
+    &TRANSFER
+}
 
 /// What a call came to.
 #[derive(Drop)]
@@ -131,69 +204,36 @@ fn check<R: Threads + Sync + Abort + AllocGlobal>(rt: &R, case: &Case<'_>) -> Re
     Ok(())
 }
 
+/// A call with these words and this input, of which nothing fails; what it writes is not looked at.
+fn plain<'a>(words: &'a [&'a str], text: &'a [u8]) -> Case<'a> {
+    Case {
+        words,
+        text,
+        failing_read: 0,
+        failing_write: 0,
+        status: Status::Ok,
+        out: b"",
+        err: b"",
+    }
+}
+
 #[test]
 fn races_of_one_node(rt: HostRuntime) -> Result<(), Fail> {
-    let plain = EMPTY_RACE;
-    check(&rt, &plain)?;
-    check(
-        &rt,
-        &Case {
-            words: &["256"],
-            ..plain
-        },
-    )?;
-    let four = Case {
-        words: &["4"],
-        text: LOST_UPDATE,
-        out: LOST_UPDATE_LINES,
-        ..plain
-    };
-    check(&rt, &four)?;
-    let bad = Case {
-        text: b"str 1\nnodes 9\npart 1 1\nschedule\ndrain\nend\n",
-        status: Status::Refused,
-        out: b"",
-        err: b"strrace: line 2: range\n",
-        ..plain
-    };
-    check(&rt, &bad)?;
-    let unread = Case {
-        failing_read: 2,
-        status: Status::ReadFault,
-        out: b"",
-        err: b"strrace: read fault\n",
-        ..plain
-    };
-    check(&rt, &unread)?;
-    let unwritten = Case {
-        failing_write: 2,
-        status: Status::WriteFault,
-        out: b"end commits=0 ab",
-        err: b"strrace: write fault\n",
-        ..plain
-    };
-    check(&rt, &unwritten)
+    for case in cases() {
+        check(&rt, case)?;
+    }
+    Ok(())
 }
 
 #[test]
 fn words_that_are_none(rt: HostRuntime) -> Result<(), Fail> {
-    const LISTS: [&[&str]; 8] = [
-        &[],
-        &[""],
-        &["0"],
-        &["257"],
-        &["01"],
-        &["+1"],
-        &["1", "1"],
-        &["run"],
-    ];
-    for words in LISTS {
+    // Nothing is read: the first read would fail.
+    for words in no_words() {
         let case = Case {
-            words,
+            failing_read: 1,
             status: Status::Usage,
-            out: b"",
             err: b"strrace: usage\n",
-            ..EMPTY_RACE
+            ..plain(words, b"")
         };
         check(&rt, &case)?;
     }
@@ -252,7 +292,7 @@ fn meetings(alloc: Global, flags: &Flags) -> Result<Vec<Meeting<'_>>, AllocError
 
 /// The text of the transfer with the schedule that a journal spells, and without a drain.
 fn with_schedule(alloc: Global, journal: &str) -> Result<Vec<u8>, AllocError> {
-    let mut text = TRANSFER.as_bytes().to_vec(alloc)?;
+    let mut text = transfer().to_vec(alloc)?;
     text.extend_from_slice(b"schedule\n")?;
     for line in journal.lines() {
         if let Some(entry) = line.strip_prefix("j ") {
@@ -283,11 +323,7 @@ fn nodes_run_beside_each_other(rt: HostRuntime) -> Result<(), Fail> {
     };
     let alloc = rt.alloc();
     let text = with_schedule(alloc, "")?;
-    let case = Case {
-        words: &["16"],
-        text: text.as_slice(),
-        ..EMPTY_RACE
-    };
+    let case = plain(&["16"], text.as_slice());
     let clocks = clocks_at(alloc, 1000)?;
     let came = raced(&rt, alloc, &case, clocks, meetings(alloc, &flags)?)?;
     assert_eq!(rt; came.status, Status::Ok);

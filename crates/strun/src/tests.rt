@@ -1,4 +1,5 @@
 //! Whole calls of the program over a source and sinks in memory.
+//! The texts stand in tables, each behind a call: a proof then has none of them in sight.
 
 use crate::tops::top;
 use std::alloc::{AllocError, Global};
@@ -6,6 +7,9 @@ use std::process::Abort;
 use std::test::Fail;
 use str_outer::{MemSink, MemSource};
 use top_status::Status;
+
+/// The words of a call.
+pub(crate) type Words = &'static [&'static str];
 
 const EMPTY: &[u8] = b"str 1\nnodes 1\npart 1 1\nschedule\ndrain\nend\n";
 
@@ -28,7 +32,7 @@ const EARLY_LINES: &[u8] =
 const ONE_PUT: &[u8] =
     b"str 1\nnodes 1\npart 1 1\nsession 1\ntx\nput a@1 5\nschedule\nc 1 10\ndrain\nend\n";
 
-pub(crate) const ONE_PUT_FRAMES: &[u8] =
+const ONE_PUT_FRAMES: &[u8] =
     b"STRF\x01\x01\x00\x01\x01\x02\x00\x01\x01\x03\x00\x01\x01\x04\x00\x0c\x02\x01\x01a\x00\x00\x00\x00\x00\x00\x00\x05\x05\x00\x09\x01\x00\x00\x00\x00\x00\x00\x00\x0a\x07\x00\x00\x08\x00\x00";
 
 const ONE_PUT_LINES: &[u8] =
@@ -64,8 +68,9 @@ const NO_PAST: &[u8] =
     b"str 1\nnodes 1\npart 1 1\nsession 1\ntx\nadd a@1 1\nsession 1\ntx\nadd a@1 1\nschedule\nc 1 10\nc 2 10\ndrain\nend\n\
     1.1 s1/1 commit rs=10 fc=11\n1.2 s2/1 commit rs=10 fc=12\nend commits=2 aborts=0 held=0 unbegun=0 messages=0\n";
 
-/// The last line of the run of the scene that is made of 7.
-const SEVEN_END: &[u8] = b"end commits=287 aborts=13 held=0 unbegun=0 messages=1451\n";
+const HOLDS: &[u8] = b"si yes answers=2\n";
+
+const HOLDS_NOT: &[u8] = b"si no answer=2 clause=I3\n";
 
 /// A session that writes one key three times at the only node.
 const THREE_PUTS: &[u8] =
@@ -75,50 +80,168 @@ const THREE_PUTS_LINES: &[u8] =
     b"1.1 s1/1 commit rs=10 fc=11\n1.2 s1/2 commit rs=11 fc=12\n1.3 s1/3 commit rs=12 fc=13\n\
     end commits=3 aborts=0 held=0 unbegun=0 messages=0\nkept versions=1\n";
 
-/// Scenes, each with the line of the versions that its pruned run keeps.
-const KEPT: [(&[u8], &[u8]); 5] = [
-    // A node that was never heard.
+/// Calls by their words and inputs, with what each writes.
+static ANSWERED: [(Words, &[u8], &[u8]); 15] = [
+    (&["run"], EMPTY, EMPTY_END),
+    (&["run"], OVERLAP, OVERLAP_LINES),
+    (&["run"], EARLY, EARLY_LINES),
+    (&["run", "--journal"], EARLY, EARLY_JOURNAL),
+    (&["run", "--frames"], ONE_PUT_FRAMES, ONE_PUT_LINES),
     (
-        b"str 1\nnodes 2\npart 1 1\nsession 1\ntx\nput a@1 1\ntx\nput a@1 2\ntx\nput a@1 3\nschedule\nc 1 10\ndrain\nend\n",
-        b"kept versions=3\n",
+        &["run", "--frames", "--journal"],
+        ONE_PUT_FRAMES,
+        ONE_PUT_JOURNAL,
     ),
-    // A message that is idle tells its receiver nothing.
-    (
-        b"str 1\nnodes 2\npart 1 1\nsession 1\ntx\nput a@1 1\ntx\nput a@1 1\ntx\nget a@1\nsession 2\ntx\nput a@1 1\n\
-        schedule\nc 2 1\nc 2 0\nc 1 0\nc 1 0\nc 1 0\nc 1 0\nc 1 0\nc 1 0\nc 2 0\nd 1\nd 2\nd 3\nc 1 0\nend\n",
-        b"kept versions=2\n",
-    ),
-    // A message that comes late lowers nothing that was heard.
-    (
-        b"str 1\nnodes 2\npart 1 1 2\npart 2 1\nsession 1\ntx\nput a@1 1\ntx\nput a@1 1\nsession 2\ntx\nput b@2 1\n\
-        put a@1 1\ntx\nneed b@2 1\nschedule\nc 1 0\nc 2 0\nc 1 0\nc 1 0\nd 1\nc 2 0\nc 2 0\nd 2\nc 1 0\nc 1 0\nc 1 0\n\
-        d 4\nc 2 0\nc 2 2\nc 2 0\nd 6\nd 5\nend\n",
-        b"kept versions=3\n",
-    ),
-    // A message carries the low mark at the end of the step that sent it.
-    (
-        b"str 1\nnodes 2\npart 1 1\nsession 1\ntx\nput a@1 1\nsession 1\ntx\nput a@1 3\nsession 2\ntx\nput a@1 1\n\
-        schedule\nc 3 1\nc 1 0\nc 1 0\nc 3 0\nc 1 0\nc 3 0\nd 1\nc 2 2\nd 2\nd 3\nend\n",
-        b"kept versions=1\n",
-    ),
-    // A repeated read of a decided transaction is answered from what is left.
-    (
-        b"str 1\nnodes 2\npart 1 1\nsession 1\ntx\nput a@1 6\nsession 1\ntx\nput a@1 1\nsession 2\ntx\nadd a@1 1\n\
-        schedule\nc 1 0\nc 3 1\nc 1 0\nc 3 0\nc 1 0\nd 1\nd 2\nc 3 0\nd 3\nd 4\nc 2 2\nd 5\nd 1\nend\n",
-        b"kept versions=1\n",
-    ),
+    (&["run", "--prune"], THREE_PUTS, THREE_PUTS_LINES),
+    (&["pack"], ONE_PUT, ONE_PUT_FRAMES),
+    (&["show"], ONE_PUT_FRAMES, ONE_PUT),
+    (&["bank"], BANK, BANK_LINES),
+    (&["audit"], PAST, HOLDS),
+    (&["audit"], NO_PAST, HOLDS_NOT),
+    (&["at", "11"], PAST, b"a@1=1\nat 11 keys=1\n"),
+    (&["at", "10"], PAST, b"at 10 keys=0\n"),
+    (&["at", "11"], NO_PAST, HOLDS_NOT),
 ];
+
+/// Calls of which a write fails: which one, and how many bytes of the answer were written before it.
+static UNWRITTEN: [(Words, &[u8], &[u8], u64, usize); 5] = [
+    (&["pack"], ONE_PUT, ONE_PUT_FRAMES, 2, 16),
+    (&["run", "--journal"], EARLY, EARLY_JOURNAL, 3, 32),
+    (&["run", "--prune"], THREE_PUTS, THREE_PUTS_LINES, 10, 135),
+    (&["bank"], BANK, BANK_LINES, 12, 164),
+    (&["audit"], PAST, HOLDS, 2, 16),
+];
+
+/// Inputs that are refused, each with its line.
+static REFUSED: [(Words, &[u8], &[u8]); 20] = [
+    (&["run"], b"", b"strun: line 1: cut\n"),
+    (&["run"], b"str 3\n", b"strun: line 1: form\n"),
+    (&["run"], b"str 1\nnodes 01\n", b"strun: line 2: form\n"),
+    (&["run"], b"str 1\nnodes 9\n", b"strun: line 2: range\n"),
+    (&["run"], b"str 1\nnodes 2\n", b"strun: line 3: cut\n"),
+    (
+        &["run"],
+        b"str 1\nnodes 1\npart 1 1 1\nsession 1\ntx\nput a@1 5\nschedule\nc 1 10\ndrain\nend\n",
+        b"strun: line 3: range\n",
+    ),
+    (
+        &["run"],
+        b"str 1\nnodes 1\npart 1 1\nsched",
+        b"strun: line 4: cut\n",
+    ),
+    (
+        &["run"],
+        b"str 1\nnodes 1\npart 1 1\nschedule\nend\nend\n",
+        b"strun: line 6: form\n",
+    ),
+    (
+        &["run"],
+        b"str 1\nnodes 1\npart 1 1\nsession 1\ntx\nputs a@1 x6869\nschedule\nend\n",
+        b"strun: line 6: form\n",
+    ),
+    (
+        &["run"],
+        b"str 1\nnodes 1\npart 1 1\nsession 1\ntx\nschedule\nc 1 10\ndrain\nend\n",
+        b"strun: line 6: form\n",
+    ),
+    (
+        &["run"],
+        b"str 1\nnodes 1\npart 1 1\nsession 1\ntx\nput a@1 5\nschedule\nc 2 0\ndrain\nend\n",
+        b"strun: line 8: range\n",
+    ),
+    (
+        &["run"],
+        b"str 1\nnodes 1\npart 1 1\nsession 1\ntx\nput a@1 5\nschedule\nd 0\ndrain\nend\n",
+        b"strun: line 8: range\n",
+    ),
+    (
+        &["run"],
+        b"str 1\nnodes 1\npart 1 1\nsession 1\ntx\nput a@1 5\nschedule\nc 1 18446744073709551616\ndrain\nend\n",
+        b"strun: line 8: range\n",
+    ),
+    (
+        &["run"],
+        b"str 1\nnodes 1\npart 1 1\nsession 1\ntx\nput a@1 5\nschedule\nc 1 10\ndrain\nend\nend\n",
+        b"strun: line 11: form\n",
+    ),
+    (
+        &["show"],
+        b"STRF\x01\x01\x00\x01\x01\x02\x00\x01\x01\x03\x00\x01\x01\x04\x00\x0c\x02\x01\x01a\x00\x00\x00\x00\x00\x00\x00\x05\x05\x00\x09\x01\x00\x00\x00\x00\x00\x00\x00\x0a\x07\x00\x00\x08\x00\x00\x00",
+        b"strun: byte 50: form\n",
+    ),
+    (&["pack"], ONE_PUT_FRAMES, b"strun: line 1: form\n"),
+    (&["bank"], NO_BANK, b"strun: transaction 2/2: not a bank\n"),
+    (
+        &["bank"],
+        b"str 1\nnodes 1\npart 1",
+        b"strun: line 3: cut\n",
+    ),
+    (
+        &["at", "11"],
+        b"str 1\nnodes 1\npart 1 1\nsession 1\ntx\nadd a@1 1\nschedule\nend\n1.1 s1/1 com",
+        b"strun: line 9: cut\n",
+    ),
+    (&["audit"], EMPTY, b"strun: line 7: cut\n"),
+];
+
+/// Words that are those of no call.
+static NO_WORDS: [Words; 8] = [
+    &[],
+    &["walk"],
+    &["pack", "--frames"],
+    &["run", "--journal", "--frames"],
+    &["run", "--frames", "--prune"],
+    &["gen", "07"],
+    &["gen", "-1"],
+    &["at", "011"],
+];
+
+/// The last line of the run of the scene that is made of 7.
+static SEVEN_END: [u8; 57] = *b"end commits=287 aborts=13 held=0 unbegun=0 messages=1451\n";
+
+fn answered() -> &'static [(Words, &'static [u8], &'static [u8])] {
+    &ANSWERED
+}
+
+fn unwritten() -> &'static [(Words, &'static [u8], &'static [u8], u64, usize)] {
+    &UNWRITTEN
+}
+
+fn refused() -> &'static [(Words, &'static [u8], &'static [u8])] {
+    &REFUSED
+}
+
+fn no_words() -> &'static [Words] {
+    &NO_WORDS
+}
+
+fn seven_end() -> &'static [u8] {
+    &SEVEN_END
+}
 
 /// A call: its words, its input, which read and which write are to fail (0: none), and what comes of it.
 #[derive(Clone, Copy)]
 pub(crate) struct Call {
-    pub(crate) words: &'static [&'static str],
+    pub(crate) words: Words,
     pub(crate) text: &'static [u8],
     pub(crate) failing_read: u64,
     pub(crate) failing_write: u64,
     pub(crate) status: Status,
     pub(crate) out: &'static [u8],
     pub(crate) err: &'static [u8],
+}
+
+/// A call that is answered, where nothing fails.
+pub(crate) fn answer(words: Words, text: &'static [u8], out: &'static [u8]) -> Call {
+    Call {
+        words,
+        text,
+        failing_read: 0,
+        failing_write: 0,
+        status: Status::Ok,
+        out,
+        err: b"",
+    }
 }
 
 /// A one-element list, or none where the number is 0.
@@ -153,88 +276,22 @@ pub(crate) fn check(rt: &(impl Abort + AllocGlobal), call: &Call) -> Result<(), 
 }
 
 #[test]
-fn whole_calls(rt: HostRuntime) -> Result<(), Fail> {
-    let plain = Call {
-        words: &["run"],
-        text: EMPTY,
-        failing_read: 0,
-        failing_write: 0,
-        status: Status::Ok,
-        out: EMPTY_END,
-        err: b"",
-    };
-    check(&rt, &plain)?;
-    check(
-        &rt,
-        &Call {
-            text: OVERLAP,
-            out: OVERLAP_LINES,
-            ..plain
-        },
-    )?;
-    check(
-        &rt,
-        &Call {
-            text: EARLY,
-            out: EARLY_LINES,
-            ..plain
-        },
-    )?;
-    check(
-        &rt,
-        &Call {
-            words: &["walk"],
-            status: Status::Usage,
-            out: b"",
-            err: b"strun: usage\n",
-            ..plain
-        },
-    )?;
-    check(
-        &rt,
-        &Call {
-            text: b"str 1\nnodes 2\n",
-            status: Status::Refused,
-            out: b"",
-            err: b"strun: line 3: cut\n",
-            ..plain
-        },
-    )?;
-    check(
-        &rt,
-        &Call {
-            failing_read: 2,
-            status: Status::ReadFault,
-            out: b"",
-            err: b"strun: read fault\n",
-            ..plain
-        },
-    )?;
-    check(
-        &rt,
-        &Call {
-            failing_write: 1,
+fn calls_are_answered(rt: HostRuntime) -> Result<(), Fail> {
+    for (words, text, out) in answered() {
+        check(&rt, &answer(words, text, out))?;
+    }
+    Ok(())
+}
+
+#[test]
+fn a_write_fails(rt: HostRuntime) -> Result<(), Fail> {
+    for (words, text, out, failing_write, held) in unwritten() {
+        assert!(rt; *held <= out.len());
+        let call = Call {
+            failing_write: *failing_write,
             status: Status::WriteFault,
-            out: b"",
             err: b"strun: write fault\n",
-            ..plain
-        },
-    )
-}
-
-#[test]
-fn each_read_fails_in_turn(rt: HostRuntime) -> Result<(), Fail> {
-    // Six reads give the text, and the seventh is at its end.
-    for failing_read in 1..=8 {
-        let fails = failing_read < 8;
-        let call = Call {
-            words: &["run"],
-            text: EMPTY,
-            failing_read,
-            failing_write: 0,
-            status: if fails { Status::ReadFault } else { Status::Ok },
-            out: if fails { b"" } else { EMPTY_END },
-            err: if fails { b"strun: read fault\n" } else { b"" },
+            ..answer(words, text, &out[..*held])
         };
         check(&rt, &call)?;
     }
@@ -242,55 +299,12 @@ fn each_read_fails_in_turn(rt: HostRuntime) -> Result<(), Fail> {
 }
 
 #[test]
-fn each_write_fails_in_turn(rt: HostRuntime) -> Result<(), Fail> {
-    // Three writes take 16 bytes, and the fourth takes the rest.
-    for (failing_write, held) in [(1, 0), (2, 16), (3, 32), (4, 48), (5, 51)] {
-        let fails = failing_write < 5;
-        assert!(rt; held <= EMPTY_END.len());
+fn inputs_are_refused(rt: HostRuntime) -> Result<(), Fail> {
+    for (words, text, err) in refused() {
         let call = Call {
-            words: &["run"],
-            text: EMPTY,
-            failing_read: 0,
-            failing_write,
-            status: if fails {
-                Status::WriteFault
-            } else {
-                Status::Ok
-            },
-            out: &EMPTY_END[..held],
-            err: if fails { b"strun: write fault\n" } else { b"" },
-        };
-        check(&rt, &call)?;
-    }
-    Ok(())
-}
-
-#[test]
-fn refused_texts(rt: HostRuntime) -> Result<(), Fail> {
-    let cases: [(&'static [u8], &'static [u8]); 7] = [
-        (b"", b"strun: line 1: cut\n"),
-        (b"str 3\n", b"strun: line 1: form\n"),
-        (b"str 1\nnodes 01\n", b"strun: line 2: form\n"),
-        (b"str 1\nnodes 9\n", b"strun: line 2: range\n"),
-        (b"str 1\nnodes 1\npart 1 1\nsched", b"strun: line 4: cut\n"),
-        (
-            b"str 1\nnodes 1\npart 1 1\nschedule\nend\nend\n",
-            b"strun: line 6: form\n",
-        ),
-        (
-            b"str 1\nnodes 1\npart 1 1\nsession 1\ntx\nputs a@1 x6869\nschedule\nend\n",
-            b"strun: line 6: form\n",
-        ),
-    ];
-    for (text, err) in cases {
-        let call = Call {
-            words: &["run"],
-            text,
-            failing_read: 0,
-            failing_write: 0,
             status: Status::Refused,
-            out: b"",
             err,
+            ..answer(words, text, b"")
         };
         check(&rt, &call)?;
     }
@@ -298,326 +312,28 @@ fn refused_texts(rt: HostRuntime) -> Result<(), Fail> {
 }
 
 #[test]
-fn frames(rt: HostRuntime) -> Result<(), Fail> {
-    let packs = Call {
-        words: &["pack"],
-        text: ONE_PUT,
-        failing_read: 0,
-        failing_write: 0,
-        status: Status::Ok,
-        out: ONE_PUT_FRAMES,
-        err: b"",
-    };
-    check(&rt, &packs)?;
-    check(
-        &rt,
-        &Call {
-            words: &["show"],
-            text: ONE_PUT_FRAMES,
-            out: ONE_PUT,
-            ..packs
-        },
-    )?;
-    check(
-        &rt,
-        &Call {
-            words: &["run", "--frames"],
-            text: ONE_PUT_FRAMES,
-            out: ONE_PUT_LINES,
-            ..packs
-        },
-    )?;
-    check(
-        &rt,
-        &Call {
-            words: &["show"],
-            text: &ONE_PUT_FRAMES[..49],
-            status: Status::Refused,
-            out: b"",
-            err: b"strun: byte 47: cut\n",
-            ..packs
-        },
-    )?;
-    check(
-        &rt,
-        &Call {
-            words: &["pack"],
-            text: ONE_PUT_FRAMES,
-            status: Status::Refused,
-            out: b"",
-            err: b"strun: line 1: form\n",
-            ..packs
-        },
-    )?;
-    check(
-        &rt,
-        &Call {
-            words: &["show"],
-            text: ONE_PUT_FRAMES,
-            failing_read: 2,
-            status: Status::ReadFault,
-            out: b"",
-            err: b"strun: read fault\n",
-            ..packs
-        },
-    )?;
-    check(
-        &rt,
-        &Call {
-            failing_write: 2,
-            status: Status::WriteFault,
-            out: &ONE_PUT_FRAMES[..16],
-            err: b"strun: write fault\n",
-            ..packs
-        },
-    )?;
-    check(
-        &rt,
-        &Call {
-            words: &["pack", "--frames"],
+fn words_of_no_call(rt: HostRuntime) -> Result<(), Fail> {
+    // Nothing is read: the first read would fail.
+    for words in no_words() {
+        let call = Call {
+            failing_read: 1,
             status: Status::Usage,
-            out: b"",
             err: b"strun: usage\n",
-            ..packs
-        },
-    )
-}
-
-#[test]
-fn journals(rt: HostRuntime) -> Result<(), Fail> {
-    let early = Call {
-        words: &["run", "--journal"],
-        text: EARLY,
-        failing_read: 0,
-        failing_write: 0,
-        status: Status::Ok,
-        out: EARLY_JOURNAL,
-        err: b"",
-    };
-    check(&rt, &early)?;
-    check(
-        &rt,
-        &Call {
-            words: &["run", "--frames", "--journal"],
-            text: ONE_PUT_FRAMES,
-            out: ONE_PUT_JOURNAL,
-            ..early
-        },
-    )?;
-    check(
-        &rt,
-        &Call {
-            failing_write: 3,
-            status: Status::WriteFault,
-            out: &EARLY_JOURNAL[..32],
-            err: b"strun: write fault\n",
-            ..early
-        },
-    )?;
-    check(
-        &rt,
-        &Call {
-            words: &["run", "--journal", "--frames"],
-            status: Status::Usage,
-            out: b"",
-            err: b"strun: usage\n",
-            ..early
-        },
-    )
-}
-
-#[test]
-fn made_scenes(rt: HostRuntime) -> Result<(), Fail> {
-    // Nothing is read, so that the first read would fail changes nothing.
-    let seven = Call {
-        words: &["gen", "7", "--run"],
-        text: b"x",
-        failing_read: 1,
-        failing_write: 0,
-        status: Status::Ok,
-        out: SEVEN_END,
-        err: b"",
-    };
-    check(&rt, &seven)?;
-    let unknown = Call {
-        words: &["gen", "07"],
-        status: Status::Usage,
-        out: b"",
-        err: b"strun: usage\n",
-        ..seven
-    };
-    check(&rt, &unknown)?;
-    check(
-        &rt,
-        &Call {
-            words: &["gen", "-1"],
-            ..unknown
-        },
-    )
-}
-
-#[test]
-fn banks(rt: HostRuntime) -> Result<(), Fail> {
-    let bank = Call {
-        words: &["bank"],
-        text: BANK,
-        failing_read: 0,
-        failing_write: 0,
-        status: Status::Ok,
-        out: BANK_LINES,
-        err: b"",
-    };
-    check(&rt, &bank)?;
-    check(
-        &rt,
-        &Call {
-            failing_write: 12,
-            status: Status::WriteFault,
-            out: &BANK_LINES[..164],
-            err: b"strun: write fault\n",
-            ..bank
-        },
-    )?;
-    check(
-        &rt,
-        &Call {
-            text: NO_BANK,
-            status: Status::Refused,
-            out: b"",
-            err: b"strun: transaction 2/2: not a bank\n",
-            ..bank
-        },
-    )?;
-    check(
-        &rt,
-        &Call {
-            text: &NO_BANK[..20],
-            status: Status::Refused,
-            out: b"",
-            err: b"strun: line 3: cut\n",
-            ..bank
-        },
-    )
-}
-
-#[test]
-fn audits(rt: HostRuntime) -> Result<(), Fail> {
-    let audit = Call {
-        words: &["audit"],
-        text: PAST,
-        failing_read: 0,
-        failing_write: 0,
-        status: Status::Ok,
-        out: b"si yes answers=2\n",
-        err: b"",
-    };
-    let at = Call {
-        words: &["at", "11"],
-        out: b"a@1=1\nat 11 keys=1\n",
-        ..audit
-    };
-    let no = b"si no answer=2 clause=I3\n";
-    check(&rt, &audit)?;
-    check(&rt, &at)?;
-    check(
-        &rt,
-        &Call {
-            words: &["at", "10"],
-            out: b"at 10 keys=0\n",
-            ..at
-        },
-    )?;
-    check(
-        &rt,
-        &Call {
-            text: NO_PAST,
-            out: no,
-            ..audit
-        },
-    )?;
-    check(
-        &rt,
-        &Call {
-            text: NO_PAST,
-            out: no,
-            ..at
-        },
-    )?;
-    check(
-        &rt,
-        &Call {
-            failing_write: 2,
-            status: Status::WriteFault,
-            out: b"si yes answers=2",
-            err: b"strun: write fault\n",
-            ..audit
-        },
-    )?;
-    check(
-        &rt,
-        &Call {
-            text: &PAST[..146],
-            status: Status::Refused,
-            out: b"",
-            err: b"strun: line 16: cut\n",
-            ..at
-        },
-    )?;
-    check(
-        &rt,
-        &Call {
-            words: &["at", "011"],
-            status: Status::Usage,
-            out: b"",
-            err: b"strun: usage\n",
-            ..audit
-        },
-    )
-}
-
-#[test]
-fn pruned_runs(rt: HostRuntime) -> Result<(), Fail> {
-    let pruned = Call {
-        words: &["run", "--prune"],
-        text: THREE_PUTS,
-        failing_read: 0,
-        failing_write: 0,
-        status: Status::Ok,
-        out: THREE_PUTS_LINES,
-        err: b"",
-    };
-    check(&rt, &pruned)?;
-    check(
-        &rt,
-        &Call {
-            failing_write: 10,
-            status: Status::WriteFault,
-            out: &THREE_PUTS_LINES[..135],
-            err: b"strun: write fault\n",
-            ..pruned
-        },
-    )?;
-    check(
-        &rt,
-        &Call {
-            words: &["run", "--frames", "--prune"],
-            status: Status::Usage,
-            out: b"",
-            err: b"strun: usage\n",
-            ..pruned
-        },
-    )
-}
-
-#[test]
-fn kept_versions(rt: HostRuntime) -> Result<(), Fail> {
-    for (text, kept) in KEPT {
-        let mut wanted = output_of(rt.alloc(), &["run"], text.to_vec(rt.alloc())?)?;
-        wanted.extend_from_slice(kept)?;
-        let pruned = output_of(rt.alloc(), &["run", "--prune"], text.to_vec(rt.alloc())?)?;
-        assert_eq!(rt; pruned.as_slice(), wanted.as_slice());
+            ..answer(words, b"x", b"")
+        };
+        check(&rt, &call)?;
     }
     Ok(())
+}
+
+#[test]
+fn a_scene_is_made_and_run(rt: HostRuntime) -> Result<(), Fail> {
+    // Nothing is read: the first read would fail.
+    let call = Call {
+        failing_read: 1,
+        ..answer(&["gen", "7", "--run"], b"x", seven_end())
+    };
+    check(&rt, &call)
 }
 
 /// What a call writes of a text, in a few writes.
@@ -634,6 +350,6 @@ pub(crate) fn output_of(alloc: Global, words: &[&str], text: Vec<u8>) -> Result<
 fn a_made_text_is_run(rt: HostRuntime) -> Result<(), Fail> {
     let text = output_of(rt.alloc(), &["gen", "7"], Vec::new(rt.alloc()))?;
     let lines = output_of(rt.alloc(), &["run"], text)?;
-    assert!(rt; lines.as_slice().ends_with(SEVEN_END));
+    assert!(rt; lines.as_slice().ends_with(seven_end()));
     Ok(())
 }
